@@ -1,0 +1,44 @@
+// A set of numbers as bits of words: 64 to a word. A caller sees the set as a test, `bitAt`, and never a bit.
+ghost use mathlib.Core.Path.{_≡_};
+ghost use Prim.Native.Nat.{ℕ, _+_, _*_, _<_, _≤_, _/_};
+ghost use lib.ListN.{length, getD};
+ghost use Rattle.bitset.specs.Bitset.{bitAt, also, nowhere};
+
+pub fn marked(bits: &[u64], h: usize) -> bool
+    requires { ⌜ h / 64 < length (now bits) ⌝ }
+    ensures { λ r. ⌜ r ≡ bitAt (now (bits .entry)) h ⌝ }
+{
+    let i = h / 64;
+    let k = h % 64;
+    (bits[i] >> k) % 2 == 1
+}
+
+// Whether a number of any size is in the set.
+pub fn contains(bits: &[u64], h: u64) -> bool
+    ensures { λ r. ⌜ r ≡ bitAt (now (bits .entry)) h ⌝ }
+{
+    let at = h as usize;
+    if at / 64 >= bits.len() {
+        return false;
+    }
+    marked(bits, at)
+}
+
+pub fn mark(bits: &mut [u64], h: usize)
+    requires { ⌜ h / 64 < length (now bits) ⌝ }
+    ensures { λ _. ⌜ bitAt (now (bits .exit)) ≡ also h (bitAt (now (bits .entry))) ⌝ }
+{
+    let i = h / 64;
+    let k = h % 64;
+    bits[i] = bits[i] | (1 << k);
+}
+
+pub fn clear(bits: &mut [u64])
+    ensures { λ _. ⌜ bitAt (now (bits .exit)) ≡ nowhere ⌝ }
+{
+    let mut k = 0;
+    while k < bits.len() {
+        bits[k] = 0;
+        k += 1;
+    }
+}

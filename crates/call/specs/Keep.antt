@@ -1,0 +1,40 @@
+-- What every call keeps. `u` is the used words.
+use mathlib.Core.Path.{_≡_}
+use mathlib.Core.Bool.{Bool, true}
+use mathlib.Core.List.{List, [], _∷_, _++_}
+use Prim.Native.Nat.{ℕ, _≤_, _<_}
+use lib.ListN.{length, drop, getD}
+use Rattle.words.specs.Words.{fills}
+use Rattle.words.specs.Table.{Row, entries, starts, Sized, Own}
+use Rattle.words.specs.Made.{Grown}
+use Rattle.bitset.specs.Bitset.{nowhere}
+use Rattle.wellformed.specs.Form.{okEntry, okRows, wellFormed, usedWords}
+use Rattle.call.specs.Call.{Outcome}
+
+-- row 1's words on entries, for the used words alone
+pub record Sound (u : List ℕ) : Type 0 where
+  pub low : 1 ≤ length u
+  pub full : fills 0 (drop 1 u) ≡ true
+  pub right : okRows u nowhere (entries u) ≡ true
+
+-- an entry that row 1 accepts behind the used words
+pub record Fitting (u e : List ℕ) : Type 0 where
+  pub sized : Sized e
+  pub ok : okEntry (starts u) u e ≡ true
+
+-- an operation only adds entries, and no second of its kind
+pub record Adds (u : List ℕ) (g : Grown) : Type 0 where
+  pub sound : Sound (g .words)
+  pub more : List ℕ
+  pub is : g .words ≡ u ++ more
+  pub extra : List Row
+  pub rows : entries (g .words) ≡ entries u ++ extra
+  pub own : Own (entries u) → Own (entries (g .words))
+
+-- a call leaves a store; it keeps the words of every entry, and that no two entries are equal
+pub record Keeps (ws : List ℕ) (o : Outcome) : Type 0 where
+  pub well : wellFormed (o .words) ≡ true
+  pub words : (i : ℕ) → 1 ≤ i → i < getD ws 0 0 → getD (o .words) i 0 ≡ getD ws i 0
+  pub extra : List Row
+  pub rows : entries (usedWords (o .words)) ≡ entries (usedWords ws) ++ extra
+  pub own : Own (entries (usedWords ws)) → Own (entries (usedWords (o .words)))

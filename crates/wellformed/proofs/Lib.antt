@@ -1,0 +1,9 @@
+pub mod Bools
+pub mod Zero
+pub mod FloatOk
+pub mod Sizes
+pub mod Parts
+pub mod ByKind
+pub mod Passed
+pub mod Limits
+pub mod Before

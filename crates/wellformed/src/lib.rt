@@ -1,0 +1,383 @@
+// Row 1 of the refusals: whether a list of words is well formed.
+ghost use mathlib.Core.Path.{_≡_};
+ghost use Prim.Native.Nat.{ℕ, _+_, _*_, _<_, _≤_, max, min};
+ghost use lib.ListN.{length, getD, take, drop};
+ghost use Rattle.words.specs.Words.{sizeOf};
+ghost use Rattle.bitset.specs.Bitset.{bitAt};
+ghost use Rattle.wellformed.specs.Entry.{zeroFilled, floatOk, kindIn, okEntry};
+ghost use Rattle.wellformed.specs.Form.{allZero, headsAt, wellFormed};
+ghost use Rattle.wellformed.specs.Scan.{partOf, deepOf, fieldsOf, above, Marks, Scanned, Opened};
+
+// The depth of the deepest part, or that a part is not right.
+pub enum Depth {
+    Of(u64),
+    Bad,
+}
+
+// Whether all words are 0.
+pub fn zeros(a: &[u64]) -> bool
+    ensures { λ r. ⌜ r ≡ allZero (now (a .entry)) ⌝ }
+{
+    let mut i = 0;
+    while i < a.len() {
+        if a[i] != 0 {
+            return false;
+        }
+        i += 1;
+    }
+    true
+}
+
+// Whether what follows a name's bytes in the last word is 0.
+pub fn padding(e: &[u64]) -> bool
+    requires { ⌜ 1 ≤ length (now e) ⌝ }
+    ensures { λ r. ⌜ r ≡ zeroFilled (now (e .entry)) ⌝ }
+{
+    let n = e[0] / 65536;
+    let s = 8 * (n % 8);
+    if s == 0 {
+        return true;
+    }
+    let last = e[e.len() - 1];
+    last >> s == 0
+}
+
+// Whether a float's size and constant are ones that the maker takes.
+pub fn float_ok(size: u64, bits: u64) -> bool
+    ensures { λ r. ⌜ r ≡ floatOk size bits ⌝ }
+{
+    if size == 64 {
+        return true;
+    }
+    if bits != 0 {
+        return false;
+    }
+    if size > 128 {
+        return false;
+    }
+    size % 32 == 0
+}
+
+pub fn larger(a: u64, b: u64) -> u64
+    ensures { λ r. ⌜ r ≡ max a b ⌝ }
+{
+    if a < b { b } else { a }
+}
+
+// The head of the earlier entry at h, or a head of no kind.
+fn head_at(words: &[u64], bits: &[u64], h: u64) -> u64
+    requires { ⌜ Marks (now words) (now bits) ⌝ }
+    ensures { λ r. ⌜ r ≡ headsAt (bitAt (now (bits .entry))) (now (words .entry)) h ⌝ }
+{
+    let at = h as usize;
+    if at >= words.len() {
+        return 255;
+    }
+    if !bitset::marked(bits, at) {
+        return 255;
+    }
+    words[at]
+}
+
+// The depth of the earlier entry at h, if its kind is from low to high.
+fn part(words: &[u64], bits: &[u64], h: u64, low: u64, high: u64) -> Depth
+    requires { ⌜ Marks (now words) (now bits) ⌝ }
+    ensures { λ r. ⌜ r ≡ partOf (headsAt (bitAt (now (bits .entry))) (now (words .entry))) (kindIn low high) h ⌝ }
+{
+    let head = head_at(words, bits, h);
+    let kind = head % 256;
+    if kind < low {
+        return Depth::Bad;
+    }
+    if kind > high {
+        return Depth::Bad;
+    }
+    Depth::Of(head / 256 % 256)
+}
+
+// The depth of the deepest of the types whose handles are `parts`.
+fn elements(words: &[u64], bits: &[u64], parts: &[u64]) -> Depth
+    requires { ⌜ Marks (now words) (now bits) ⌝ }
+    ensures { λ r. ⌜ r ≡ deepOf (headsAt (bitAt (now (bits .entry))) (now (words .entry))) 0 (now (parts .entry)) ⌝ }
+{
+    let mut d: u64 = 0;
+    let mut i = 0;
+    while i < parts.len() {
+        let p = part(words, bits, parts[i], 1, 11);
+        let Depth::Of(x) = p else {
+            return Depth::Bad;
+        };
+        d = larger(d, x);
+        i += 1;
+    }
+    Depth::Of(d)
+}
+
+// The depth of the deepest type of a struct's n fields.
+fn fields(words: &[u64], bits: &[u64], e: &[u64], n: u64) -> Depth
+    requires { ⌜ Marks (now words) (now bits) ⌝ }
+    requires { ⌜ length (now e) ≡ 2 + 3 * n ⌝ }
+    ensures { λ r. ⌜ r ≡ fieldsOf (headsAt (bitAt (now (bits .entry))) (now (words .entry))) 0 n 2 (now (e .entry)) ⌝ }
+{
+    let mut d: u64 = 0;
+    let mut i = 2;
+    let mut j = n;
+    while 0 < j {
+        let name = head_at(words, bits, e[i]);
+        if name % 256 != 0 {
+            return Depth::Bad;
+        }
+        if e[i + 2] > 8589934591 {
+            return Depth::Bad;
+        }
+        let t = part(words, bits, e[i + 1], 1, 11);
+        let Depth::Of(x) = t else {
+            return Depth::Bad;
+        };
+        d = larger(d, x);
+        i += 3;
+        j -= 1;
+    }
+    Depth::Of(d)
+}
+
+// Whether a depth is one more than that of the deepest part.
+fn over(depth: u64, d: Depth) -> bool
+    ensures { λ r. ⌜ r ≡ above depth d ⌝ }
+{
+    match d {
+        Depth::Of(x) => {
+            if depth == 0 {
+                return false;
+            }
+            depth - 1 == x
+        }
+        Depth::Bad => false,
+    }
+}
+
+// Whether an entry is one that a maker could have made, with its parts among the marked handles.
+pub fn entry(words: &[u64], bits: &[u64], e: &[u64]) -> bool
+    requires { ⌜ Marks (now words) (now bits) ⌝ }
+    requires { ⌜ length (now e) ≡ sizeOf (getD (now e) 0 0) ⌝ }
+    ensures { λ r. ⌜ r ≡ okEntry (headsAt (bitAt (now (bits .entry))) (now (words .entry))) (now (e .entry)) ⌝ }
+{
+    let head = e[0];
+    let kind = head % 256;
+    let depth = head / 256 % 256;
+    let n = head / 65536;
+    if n > 255 {
+        return false;
+    }
+    if depth > 32 {
+        return false;
+    }
+    if kind == 0 {
+        if depth != 0 {
+            return false;
+        }
+        return padding(e);
+    }
+    if kind == 7 {
+        return over(depth, elements(words, bits, &e[1..]));
+    }
+    if kind == 8 {
+        if head_at(words, bits, e[1]) % 256 != 0 {
+            return false;
+        }
+        return over(depth, fields(words, bits, e, n));
+    }
+    if n != 0 {
+        return false;
+    }
+    if kind <= 5 {
+        return depth == 1;
+    }
+    if kind == 6 {
+        if float_ok(e[1], e[2]) {
+            return depth == 1;
+        }
+        return false;
+    }
+    if kind == 9 {
+        if head_at(words, bits, e[1]) % 256 != 0 {
+            return false;
+        }
+        return depth == 1;
+    }
+    if kind == 10 {
+        if e[2] > 1 {
+            return false;
+        }
+        return over(depth, part(words, bits, e[1], 8, 9));
+    }
+    if kind == 11 {
+        if e[1] > 4294967295 {
+            return false;
+        }
+        return over(depth, part(words, bits, e[2], 1, 11));
+    }
+    false
+}
+
+// Whether entries fill the words from 1 to used, each with its parts before it. If so, the bits mark where they start.
+fn entries(words: &[u64], used: usize, bits: &mut [u64]) -> bool
+    requires { ⌜ (1 ≤ used) × (used ≤ length (now words)) × (length (now words) ≤ 64 * length (now bits)) ⌝ }
+    ensures { λ r. ⌜ Scanned (now (words .entry)) used (now (bits .exit)) r ⌝ }
+{
+    bitset::clear(bits);
+    let mut at = 1;
+    while at < used {
+        let n = words::size(words[at]);
+        if n > used - at {
+            return false;
+        }
+        if !entry(words, bits, &words[at..at + n]) {
+            return false;
+        }
+        bitset::mark(bits, at);
+        at += n;
+    }
+    true
+}
+
+// The words 1 to 93 of every store.
+const FRESH: [u64; 93] = [
+    262144,
+    1347376164,
+    262144,
+    1414480420,
+    257,
+    258,
+    259,
+    260,
+    261,
+    0,
+    0,
+    261,
+    1,
+    1,
+    261,
+    0,
+    1,
+    264,
+    1,
+    264,
+    3,
+    261,
+    9223372036854775807,
+    9223372036854775808,
+    261,
+    9223372036854775808,
+    9223372036854775807,
+    261,
+    2,
+    2,
+    261,
+    18446744073709551488,
+    127,
+    261,
+    18446744073709518848,
+    32767,
+    261,
+    18446744071562067968,
+    2147483647,
+    261,
+    0,
+    255,
+    261,
+    0,
+    65535,
+    261,
+    0,
+    4294967295,
+    262,
+    0,
+    0,
+    262,
+    32,
+    0,
+    262,
+    64,
+    0,
+    262,
+    96,
+    0,
+    262,
+    128,
+    0,
+    131591,
+    7,
+    7,
+    131591,
+    8,
+    8,
+    131591,
+    7,
+    8,
+    131591,
+    8,
+    7,
+    523,
+    4294967295,
+    6,
+    523,
+    4294967295,
+    5,
+    522,
+    20,
+    1,
+    522,
+    18,
+    0,
+    522,
+    18,
+    1,
+    522,
+    20,
+    0,
+];
+
+// Whether a list of words is well formed. If so, the bits mark where its entries start.
+pub fn verify(words: &[u64], bits: &mut [u64]) -> bool
+    requires { ⌜ min (length (now words)) 1048576 ≤ 64 * length (now bits) ⌝ }
+    ensures { λ r. ⌜ Opened (now (words .entry)) (now (bits .exit)) r ⌝ }
+{
+    if words.len() < 94 {
+        return false;
+    }
+    if words.len() > 1048576 {
+        return false;
+    }
+    if !words::same(&words[1..94], &FRESH) {
+        return false;
+    }
+    let w = words[0];
+    if w < 94 {
+        return false;
+    }
+    if w > words.len() as u64 {
+        return false;
+    }
+    let used = w as usize;
+    if !zeros(&words[used..]) {
+        return false;
+    }
+    entries(words, used, bits)
+}
+
+// Row 1. The bits are a local array whose size goes by the list's length, so that a small store does not pay for a large one's.
+pub fn well_formed(words: &[u64]) -> bool
+    ensures { λ r. ⌜ r ≡ wellFormed (now (words .entry)) ⌝ }
+{
+    if words.len() <= 4096 {
+        let mut bits = [0u64; 64];
+        return verify(words, &mut bits);
+    }
+    if words.len() <= 65536 {
+        let mut bits = [0u64; 1024];
+        return verify(words, &mut bits);
+    }
+    let mut bits = [0u64; 16384];
+    verify(words, &mut bits)
+}

@@ -1,0 +1,11 @@
+pub mod Sizes
+pub mod Alike
+pub mod Walk
+pub mod Copy
+pub mod Join
+pub mod Grow
+pub mod Two
+pub mod Extend
+pub mod Room
+pub mod Placed
+pub mod Kept

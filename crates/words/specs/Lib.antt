@@ -1,0 +1,4 @@
+pub mod Kinds
+pub mod Words
+pub mod Table
+pub mod Made
