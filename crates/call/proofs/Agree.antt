@@ -11,10 +11,9 @@ use lib.Dec.{eqb, leb}
 use Rattle.words.specs.Words.{sizeOf}
 use Rattle.words.specs.Table.{Row, rows, entries, isAt, In}
 use Rattle.bitset.specs.Bitset.{nowhere, also}
-use Rattle.wellformed.specs.Values.{kindOf, depthOf, partOf, onDepth, deep, fields, fieldsOf}
-use Rattle.wellformed.specs.declared.Depth.{Depth}
-use Rattle.wellformed.specs.declared.Depth.the-variants.{Of, Bad}
-use Rattle.wellformed.specs.Form.{okHead, okEntry, okRows}
+use Rattle.wellformed.specs.Entry.{noHead, okEntry}
+use Rattle.wellformed.specs.Form.{headsAt, okRows}
+use Rattle.wellformed.proofs.Bools.{or-turn, or-false, and-assoc}
 
 module _ (ws vs : List ℕ) where
   -- the two agree at h
@@ -22,45 +21,13 @@ module _ (ws vs : List ℕ) where
   Same h = getD ws h 0 ≡ getD vs h 0
 
   module _ (start : ℕ → Bool) (same : (h : ℕ) → start h ≡ true → Same h) where
-    part-same : (low high h : ℕ) → partOf start ws low high h ≡ partOf start vs low high h
-    unfolding partOf
-    part-same low high h = go (start h) refl
+    pub heads-same : headsAt start ws ≡ headsAt start vs
+    unfolding headsAt
+    heads-same = fun-ext (λ h. go h (start h) refl)
       where
-        go : (t : Bool) → start h ≡ t → cond (t && leb low (kindOf (getD ws h 0)) && leb (kindOf (getD ws h 0)) high) (Of (depthOf (getD ws h 0))) Bad ≡ cond (t && leb low (kindOf (getD vs h 0)) && leb (kindOf (getD vs h 0)) high) (Of (depthOf (getD vs h 0))) Bad
-        go true e = rw (same h e)
-        go false e = refl
-
-    on-same : (d : Depth) (f g : ℕ → Depth) → ((x : ℕ) → f x ≡ g x) → onDepth d f ≡ onDepth d g
-    on-same (Of x) f g e = e x
-    on-same Bad f g e = refl
-
-    deep-same : (d : ℕ) (hs : List ℕ) → deep start ws d hs ≡ deep start vs d hs
-    unfolding deep
-    deep-same d [] = refl
-    deep-same d (h ∷ hs) =
-        rw (part-same 1 11 h) (on-same (partOf start vs 1 11 h) (λ x. deep start ws (max d x) hs) (λ x. deep start vs (max d x) hs) (λ x. deep-same (max d x) hs))
-
-    cond-same : (t : Bool) (a b c : Depth) → a ≡ b → cond t a c ≡ cond t b c
-    cond-same true a b c e = e
-    cond-same false a b c e = refl
-
-    fields-same : (n d : ℕ) (fs : List ℕ) → fields start ws d n fs ≡ fields start vs d n fs
-    unfolding fields
-    fields-same zero d fs = refl
-    fields-same (suc n) d fs =
-        rw (part-same 0 0 (getD fs 0 0), part-same 1 11 (getD fs 1 0))
-        (on-same (partOf start vs 0 0 (getD fs 0 0)) _ _ (λ a.
-        on-same (partOf start vs 1 11 (getD fs 1 0)) _ _ (λ x.
-        cond-same (leb (getD fs 2 0) 8589934591) _ _ Bad (fields-same n (max d x) (drop 3 fs)))))
-
-    struct-same : (n : ℕ) (e : List ℕ) → fieldsOf start ws n e ≡ fieldsOf start vs n e
-    unfolding fieldsOf
-    struct-same n e = rw (part-same 0 0 (getD e 1 0)) (on-same (partOf start vs 0 0 (getD e 1 0)) _ _ (λ a. fields-same n 0 (drop 2 e)))
-
-    pub entry-same : (e : List ℕ) → okEntry start ws e ≡ okEntry start vs e
-    unfolding okEntry okHead
-    entry-same e =
-        rw (deep-same 0 (drop 1 e), struct-same (getD e 0 0 / 65536) e, part-same 0 0 (getD e 1 0), part-same 8 9 (getD e 1 0), part-same 1 11 (getD e 2 0))
+        go : (h : ℕ) (t : Bool) → start h ≡ t → cond t (getD ws h 0) noHead ≡ cond t (getD vs h 0) noHead
+        go h true e = same h e
+        go h false e = refl
 
   also-same : (at : ℕ) (start : ℕ → Bool) → Same at → ((h : ℕ) → start h ≡ true → Same h) → (h : ℕ) → also at start h ≡ true → Same h
   unfolding also
@@ -74,18 +41,9 @@ module _ (ws vs : List ℕ) where
   unfolding okRows
   rows-same [] start same all = refl
   rows-same (r ∷ rs) start same all =
-      rw (entry-same start same (r .words), rows-same rs (also (r .at) start) (also-same (r .at) start (all r (List·Memᴰ·head refl)) same) (λ q m. all q (List·Memᴰ·tail m)))
+      rw (heads-same start same, rows-same rs (also (r .at) start) (also-same (r .at) start (all r (List·Memᴰ·head refl)) same) (λ q m. all q (List·Memᴰ·tail m)))
 
 -- rows behind rows: their starts are there
-or-turn : (a b c : Bool) → (b || (a || c)) ≡ ((a || b) || c)
-or-turn true true c = refl
-or-turn true false c = refl
-or-turn false b c = refl
-
-and-assoc : (a b c : Bool) → ((a && b) && c) ≡ (a && (b && c))
-and-assoc true b c = refl
-and-assoc false b c = refl
-
 abbrev pub and-starts : List Row → (ℕ → Bool) → ℕ → Bool
 and-starts rs start h = isAt rs h || start h
 
@@ -94,7 +52,7 @@ unfolding okRows isAt also
 rows-behind ws [] ss start = refl
 rows-behind ws (r ∷ rs) ss start =
     let q : and-starts rs (also (r .at) start) ≡ and-starts (r ∷ rs) start = fun-ext (λ h. turn h) in
-    rw (rows-behind ws rs ss (also (r .at) start), q) (sym (and-assoc (okEntry start ws (r .words)) (okRows ws (also (r .at) start) rs) (okRows ws (and-starts (r ∷ rs) start) ss)))
+    rw (rows-behind ws rs ss (also (r .at) start), q) (sym (and-assoc (okEntry (headsAt start ws) (r .words)) (okRows ws (also (r .at) start) rs) (okRows ws (and-starts (r ∷ rs) start) ss)))
   where
     turn : (h : ℕ) → (isAt rs h || also (r .at) start h) ≡ ((eqb (r .at) h || isAt rs h) || start h)
     turn h = or-turn (eqb (r .at) h) (isAt rs h) (start h)
@@ -102,10 +60,6 @@ rows-behind ws (r ∷ rs) ss start =
 pub starts-only : (rs : List Row) → and-starts rs nowhere ≡ isAt rs
 unfolding nowhere
 starts-only rs = fun-ext (λ h. or-false (isAt rs h))
-  where
-    or-false : (b : Bool) → (b || false) ≡ b
-    or-false true = refl
-    or-false false = refl
 
 -- where rows stand
 pub rows-bound : (at k : ℕ) (l : List ℕ) (r : Row) → In r (rows at k l) → (at ≤ r .at) × (r .at < at + length l)

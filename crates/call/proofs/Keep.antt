@@ -13,9 +13,8 @@ use Rattle.words.specs.Table.{Row, rows, entries, In, Own}
 use Rattle.words.specs.Made.{Grown}
 use Rattle.words.proofs.Walk.{take-slice}
 use Rattle.bitset.specs.Bitset.{nowhere}
-use Rattle.wellformed.specs.Values.{allZero}
 use Rattle.wellformed.specs.Fresh.{freshWords}
-use Rattle.wellformed.specs.Form.{okRows, wellFormed, usedWords}
+use Rattle.wellformed.specs.Form.{allZero, okRows, wellFormed, usedWords}
 use Rattle.wellformed.proofs.Before.{Tests, tests, passes}
 use Rattle.call.specs.Call.{Reply, handle, refused, Outcome, _when_, _∣_, stored, settle, call}
 use Rattle.call.specs.Keep.{Sound, Adds, Keeps}

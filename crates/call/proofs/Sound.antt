@@ -14,9 +14,10 @@ use Rattle.words.proofs.Placed.{make-there, make-new}
 use Rattle.words.proofs.Kept.{entries-append, fills-more, make-keeps}
 use Rattle.words.proofs.Extend.{Extends, ext-length}
 use Rattle.bitset.specs.Bitset.{nowhere}
-use Rattle.wellformed.specs.Form.{okEntry, okRows}
+use Rattle.wellformed.specs.Entry.{okEntry}
+use Rattle.wellformed.specs.Form.{headsAt, okRows}
 use Rattle.call.specs.Keep.{Sound, Fitting, Adds}
-use Rattle.call.proofs.Agree.{entry-same, rows-same, rows-behind, and-starts, starts-only, rows-bound, at-row}
+use Rattle.call.proofs.Agree.{heads-same, rows-same, rows-behind, and-starts, starts-only, rows-bound, at-row}
 
 -- a row of the used words stands in them, past word 0
 pub in-used : (u : List ℕ) → 1 ≤ length u → (r : Row) → In r (entries u) → (1 ≤ r .at) × (r .at < length u)
@@ -39,8 +40,8 @@ module _ (u e : List ℕ) (s : Sound u) (f : Fitting u e) where
   right-behind =
       let old : okRows (u ++ e) nowhere (entries u) ≡ true =
       rows-same (u ++ e) u (entries u) nowhere (λ h z. let no : _≡_ {A = ℕ} 0 1 = cc in absurd (omega arith)) (λ r m. still (r .at) (in-used u (s .low) r m .1)) ∙ s .right in
-      let new : okEntry (starts u) (u ++ e) e ≡ true =
-      entry-same (u ++ e) u (starts u) (λ h z. still h (start-used u (s .low) h z .1)) e ∙ f .ok in
+      let new : okEntry (headsAt (starts u) (u ++ e)) e ≡ true =
+      rw (heads-same (u ++ e) u (starts u) (λ h z. still h (start-used u (s .low) h z .1))) (f .ok) in
       rw (entries-append u e (s .low) (s .full) (f .sized), rows-behind (u ++ e) (entries u) (record { at = length u; words = e } ∷ []) nowhere, old, starts-only (entries u), new)
 
   pub make-adds : Adds u (make u e)

@@ -9,7 +9,7 @@ use borrow.Author.Tests.{eqb-true}
 use lib.Dec.{eqb}
 use lib.ListN.{length, take, drop, set, replicate, length-replicate, replicate-append-replicate, drop-of-length-le}
 use lib.Seq.{drop-cons, set-at, append-snoc}
-use Rattle.wellformed.specs.Values.{allZero}
+use Rattle.wellformed.specs.Form.{allZero}
 
 unfoldable pub zeroed : ℕ → List ℕ → List ℕ
 zeroed i d = replicate i 0 ++ drop i d

@@ -1,5 +1,5 @@
 -- Document 01, "Calls turned back": the shape that every call on a store has.
-use mathlib.Core.Bool.{Bool, true, false, not}
+use mathlib.Core.Bool.{Bool, true, false, not, cond}
 use mathlib.Core.List.{List, [], _∷_, _++_}
 use Prim.Native.Nat.{ℕ, zero, suc, _-_}
 use lib.ListN.{length, take, drop, getD, set, replicate}
@@ -9,24 +9,39 @@ use Rattle.words.specs.declared.Interned.{Interned}
 use Rattle.words.specs.declared.Interned.the-variants.{At, Full}
 use Rattle.wellformed.specs.Form.{wellFormed, usedWords}
 use Rattle.call.specs.declared.Made.{Made}
-use Rattle.call.specs.declared.Made.the-variants.{Handle, Refused}
+use Rattle.call.specs.declared.Made.the-variants as Made-variants
+use Rattle.call.specs.declared.Number.{Number}
+use Rattle.call.specs.declared.Number.the-variants as Number-variants
+use Rattle.call.specs.declared.Done.{Done}
+use Rattle.call.specs.declared.Done.the-variants as Done-variants
 
 -- ---- what a call answers, and what it leaves
 
 pub data Reply : Type 0 where
   handle : ℕ → Reply
+  number : ℕ → Reply
+  accepted : Reply
   refused : ℕ → Reply
 
 pub record Outcome : Type 0 where
   pub reply : Reply
   pub words : List ℕ
 
-abbrev pub replyOf : Made → Reply
-replyOf (Handle h) = handle h
-replyOf (Refused n) = refused n
+abbrev pub left : Reply → List ℕ → Outcome
+left r ws = record { reply = r; words = ws }
 
-abbrev pub left : Made → List ℕ → Outcome
-left r ws = record { reply = replyOf r; words = ws }
+-- the reply that each answer of a function stands for
+abbrev pub made : Made → Reply
+made (Made-variants.Handle h) = handle h
+made (Made-variants.Refused n) = refused n
+
+abbrev pub told : Number → Reply
+told (Number-variants.Is n) = number n
+told (Number-variants.Refused n) = refused n
+
+abbrev pub done : Done → Reply
+done Done-variants.Accepted = accepted
+done (Done-variants.Refused n) = refused n
 
 -- ---- rows of refusals: "The lowest number that applies is given, and only then." 0 is no refusal.
 
@@ -42,7 +57,7 @@ abbrev pub _∣_ : ℕ → ℕ → ℕ
 zero ∣ rest = rest
 suc n ∣ rest = suc n
 
--- ---- a call
+-- ---- a call that makes entries
 
 -- the words of a store once the used words have grown: behind them is what was there, and word 0 counts them
 abbrev pub stored : Grown → List ℕ → List ℕ
@@ -50,10 +65,10 @@ stored g ws = set (g .words ++ drop (length (g .words)) ws) 0 (length (g .words)
 
 -- "The answer is the number alone; store and outputs keep every word."
 abbrev pub settle : ℕ → Grown → List ℕ → Outcome
-settle zero g ws = record { reply = handle (g .handle); words = stored g ws }
-settle (suc n) g ws = record { reply = refused (suc n); words = ws }
+settle zero g ws = left (handle (g .handle)) (stored g ws)
+settle (suc n) g ws = left (refused (suc n)) ws
 
--- row 1; the call's own rows, read off the used words; then row 12
+-- row 1; the call's own rows, read off the used words; then row 12, "the entries to append do not fit"
 unfoldable pub call : (List ℕ → ℕ) → (List ℕ → Grown) → List ℕ → Outcome
 call rows op ws =
     settle
@@ -62,8 +77,12 @@ call rows op ws =
     ∣ 12 when ltb (length ws) (length (op (usedWords ws) .words)))
     (op (usedWords ws)) ws
 
--- ---- the end of a call, in the words that its operation left
+-- ---- a call that only reads
 
-unfoldable pub finishIn : ℕ → Interned → List ℕ → Outcome
-finishIn used (At h end) ws = record { reply = handle h; words = set ws 0 end }
-finishIn used Full ws = record { reply = refused 12; words = take used ws ++ replicate (length ws - used) 0 }
+abbrev pub replyAfter : ℕ → Reply → Reply
+replyAfter zero r = r
+replyAfter (suc n) r = refused (suc n)
+
+-- row 1, and the call's own rows
+unfoldable pub ask : (List ℕ → ℕ) → (List ℕ → Reply) → List ℕ → Outcome
+ask rows answer ws = left (replyAfter (1 when not (wellFormed ws) ∣ rows (usedWords ws)) (answer (usedWords ws))) ws

@@ -8,7 +8,8 @@ use Rattle.words.specs.Words.{fills}
 use Rattle.words.specs.Table.{Row, entries, starts, Sized, Own}
 use Rattle.words.specs.Made.{Grown}
 use Rattle.bitset.specs.Bitset.{nowhere}
-use Rattle.wellformed.specs.Form.{okEntry, okRows, wellFormed, usedWords}
+use Rattle.wellformed.specs.Entry.{okEntry}
+use Rattle.wellformed.specs.Form.{headsAt, okRows, wellFormed, usedWords}
 use Rattle.call.specs.Call.{Outcome}
 
 -- row 1's words on entries, for the used words alone
@@ -20,7 +21,7 @@ pub record Sound (u : List ℕ) : Type 0 where
 -- an entry that row 1 accepts behind the used words
 pub record Fitting (u e : List ℕ) : Type 0 where
   pub sized : Sized e
-  pub ok : okEntry (starts u) u e ≡ true
+  pub ok : okEntry (headsAt (starts u) u) e ≡ true
 
 -- an operation only adds entries, and no second of its kind
 pub record Adds (u : List ℕ) (g : Grown) : Type 0 where

@@ -1,0 +1,32 @@
+-- The entry at a handle of the used words u, and the tests that calls make on handles.
+use mathlib.Core.Bool.{Bool, true, false, not}
+use mathlib.Core.List.{List, [], _∷_}
+use Prim.Native.Nat.{ℕ, _+_}
+use lib.ListN.{getD}
+use lib.Dec.{ltb}
+use Rattle.words.specs.Words.{headOf, kindOf}
+use Rattle.words.specs.Table.{starts}
+use Rattle.wellformed.specs.Entry.{kindAt, all, deepest, deepestAllowed}
+
+abbrev pub word : List ℕ → ℕ → ℕ
+word u p = getD u p 0
+
+-- the kind of the entry at h
+abbrev pub kindOn : List ℕ → ℕ → ℕ
+kindOn u h = kindOf (word u h)
+
+-- row 2: "handle starts no entry"
+abbrev pub noEntry : List ℕ → List ℕ → Bool
+noEntry u hs = not (all (starts u) hs)
+
+-- row 3: "entry of a kind the call does not take"
+abbrev pub wrongKind : List ℕ → (ℕ → Bool) → List ℕ → Bool
+wrongKind u p hs = not (all (kindAt (word u) p) hs)
+
+-- row 6: "depth over 32", of an entry around these types
+abbrev pub tooDeep : List ℕ → List ℕ → Bool
+tooDeep u types = ltb deepestAllowed (1 + deepest (word u) types)
+
+-- the head of an entry of kind k around these types
+abbrev pub headAround : List ℕ → ℕ → ℕ → List ℕ → ℕ
+headAround u k n types = headOf k (1 + deepest (word u) types) n

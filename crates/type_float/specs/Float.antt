@@ -1,0 +1,34 @@
+-- A float's size and constant: "A float's size and constant travel as a struct holding the float".
+use Prim.Native.Nat.{ℕ}
+use mathlib.Core.Bool.{Bool, cond, _||_}
+use lib.IntN.{ℤ, pos, natAbs, _+ℤ_, _-ℤ_}
+use lib.Dec.{eqb}
+use lib.Ieee.{Float as F64, binary64, ofBits}
+use Rattle.type_float.specs.declared.Float.{Float}
+use Rattle.type_float.specs.declared.Reading.{Reading}
+use Rattle.type_float.specs.declared.Reading.the-variants.{Constant, Sized}
+
+-- the size that a stored word stands for (an entry keeps "sz + 64")
+abbrev pub sizeOf : ℕ → ℤ
+sizeOf w = pos w -ℤ pos 64
+
+-- the word that is stored for a size
+abbrev pub wordOf : ℤ → ℕ
+wordOf sz = natAbs (sz +ℤ pos 64)
+
+-- the words of the five sizes
+abbrev pub isSizeWord : ℕ → Bool
+isSizeWord w = eqb w 0 || eqb w 32 || eqb w 64 || eqb w 96 || eqb w 128
+
+-- the sizes: 0, ±32, ±64
+abbrev pub isSize : ℤ → Bool
+isSize sz = eqb (natAbs sz) 0 || eqb (natAbs sz) 32 || eqb (natAbs sz) 64
+
+-- "A reading of a float is a constant with its value, or a size alone"; a constant has size 0
+abbrev pub readingOf : Float → Reading
+readingOf f = cond (eqb (natAbs (f .sz)) 0) (Constant (f .con)) (Sized (f .sz))
+
+-- a constant's value, and 0.0 for a size
+abbrev pub valueOf : Reading → F64
+valueOf (Constant x) = x
+valueOf (Sized sz) = ofBits binary64 0
