@@ -1,0 +1,68 @@
+-- The entries that the makers make: document 01's table of kinds, from a maker's arguments. `u` is the used words.
+use mathlib.Core.Path.{_≡_}
+use mathlib.Core.Bool.{true}
+use mathlib.Core.List.{List, [], _∷_}
+use Prim.Native.Nat.{ℕ, zero, suc, _+_, _*_, _/_, _%_, _^_}
+use lib.ListN.{length, getD}
+use Rattle.words.specs.Kinds.{Int, Float, Tuple, Struct, Fref, MemPtr, Mem}
+use Rattle.words.specs.Words.{headOf}
+use Rattle.wellformed.specs.Entry.{every, all, isFlag, isAlias}
+use Rattle.call.specs.Handles.{headAround}
+
+-- "min, max (two's complement)"
+abbrev pub intEntry : ℕ → ℕ → List ℕ
+intEntry min max = headOf Int 1 0 ∷ min ∷ max ∷ []
+
+-- "sz + 64", of a size that is lent as a two's complement word
+abbrev pub storedSize : ℕ → ℕ
+storedSize sz = (sz + 64) % 2 ^ 64
+
+-- "sz + 64, constant's bits"
+abbrev pub floatEntry : ℕ → ℕ → List ℕ
+floatEntry size bits = headOf Float 1 0 ∷ size ∷ bits ∷ []
+
+-- "n type handles"
+abbrev pub tupleEntry : List ℕ → List ℕ → List ℕ
+tupleEntry types u = headAround u Tuple (length types) types ∷ types
+
+-- "name handle"
+abbrev pub frefEntry : ℕ → List ℕ
+frefEntry name = headOf Fref 1 0 ∷ name ∷ []
+
+-- "struct or forward reference handle, nil"
+abbrev pub pointerEntry : ℕ → ℕ → List ℕ → List ℕ
+pointerEntry to nil u = headAround u MemPtr 0 (to ∷ []) ∷ to ∷ nil ∷ []
+
+-- "alias, type handle"
+abbrev pub memoryEntry : ℕ → ℕ → List ℕ → List ℕ
+memoryEntry alias t u = headAround u Mem 0 (t ∷ []) ∷ alias ∷ t ∷ []
+
+-- ---- structs: "A field is lent as name, type, alias, final; an unfinished last one is not read."
+
+abbrev pub fieldCount : List ℕ → ℕ
+fieldCount fs = length fs / 4
+
+abbrev pub fieldNames : List ℕ → List ℕ
+fieldNames fs = every 4 (fieldCount fs) 0 fs
+
+abbrev pub fieldTypes : List ℕ → List ℕ
+fieldTypes fs = every 4 (fieldCount fs) 1 fs
+
+abbrev pub fieldAliases : List ℕ → List ℕ
+fieldAliases fs = every 4 (fieldCount fs) 2 fs
+
+abbrev pub fieldFinals : List ℕ → List ℕ
+fieldFinals fs = every 4 (fieldCount fs) 3 fs
+
+-- "n times: field name, type, 2 × alias + final", of n lent fields from position p on
+unfoldable pub fieldWords : ℕ → ℕ → List ℕ → List ℕ
+fieldWords zero p fs = []
+fieldWords (suc n) p fs = getD fs p 0 ∷ getD fs (p + 1) 0 ∷ (2 * getD fs (p + 2) 0 + getD fs (p + 3) 0) ∷ fieldWords n (p + 4) fs
+
+-- the aliases and flags are ones that the maker takes
+pub record ValuesFit (fs : List ℕ) : Type 0 where
+  pub aliases : all isAlias (fieldAliases fs) ≡ true
+  pub finals : all isFlag (fieldFinals fs) ≡ true
+
+abbrev pub structEntry : ℕ → List ℕ → List ℕ → List ℕ
+structEntry name fs u = headAround u Struct (fieldCount fs) (fieldTypes fs) ∷ name ∷ fieldWords (fieldCount fs) 0 fs
