@@ -46,7 +46,7 @@ done (Done-variants.Refused n) = refused n
 -- ---- rows of refusals: "The lowest number that applies is given, and only then." 0 is no refusal.
 
 -- a row: its number, where its condition holds
-infix 30 _when_
+infix 25 _when_
 abbrev pub _when_ : ℕ → Bool → ℕ
 n when true = n
 n when false = 0

@@ -1,0 +1,148 @@
+-- Document 01, "Modules", types.rs: the makers, each a function from its arguments and the words to the reply and the words. Numbers are
+-- 64-bit words; a signed one is two's complement.
+use mathlib.Core.Bool.{Bool, true, false, not, cond, _&&_, _||_}
+use mathlib.Core.List.{List, [], _∷_, _++_}
+use Prim.Native.Nat.{ℕ, _+_, _-_, _%_}
+use lib.ListN.{length, replicate}
+use lib.Dec.{eqb, leb, ltb}
+use Rattle.words.specs.Kinds.{Int, MemPtr}
+use Rattle.words.specs.Made.{Grown, make}
+use Rattle.wellformed.specs.Fresh.{freshWords}
+use Rattle.wellformed.specs.Entry.{kindIn, isName, isType, isStruct, isFlag, isAlias, floatOk, all}
+use Rattle.call.specs.Call.{Outcome, left, handle, number, accepted, refused, _when_, _∣_, call, ask}
+use Rattle.call.specs.Handles.{word, kindOn, noEntry, wrongKind, tooDeep}
+use Rattle.names.specs.Name.{nameEntry, wrapped}
+use Rattle.makers.specs.Entries.{intEntry, storedSize, floatEntry, tupleEntry, frefEntry, pointerEntry, memoryEntry, fieldCount, fieldNames, fieldTypes, fieldAliases, fieldFinals, structEntry}
+
+-- ---- a fresh store: "One call writes a fresh store into a lent list and zeroes the rest; of row 1 it tests the length only"
+
+abbrev pub freshStore : ℕ → List ℕ
+freshStore n = (94 ∷ freshWords) ++ replicate (n - 94) 0
+
+abbrev pub filled : Bool → List ℕ → Outcome
+filled true ws = left accepted (freshStore (length ws))
+filled false ws = left (refused 1) ws
+
+unfoldable pub freshCall : List ℕ → Outcome
+freshCall ws = filled (leb 94 (length ws) && leb (length ws) 1048576) ws
+
+-- ---- the kind of a type, which stands for the Rust's casts
+
+unfoldable pub kindRows : ℕ → List ℕ → ℕ
+kindRows h u =
+    2 when noEntry u (h ∷ [])
+    ∣ 3 when wrongKind u isType (h ∷ [])
+
+abbrev pub kindCall : ℕ → List ℕ → Outcome
+kindCall h = ask (kindRows h) (λ u. number (kindOn u h))
+
+-- ---- get_bool, get_int, make_int
+
+-- the Ints 0..0 and 1..1 of the fresh store
+abbrev pub getBoolCall : ℕ → List ℕ → Outcome
+getBoolCall value = ask (λ u. 4 when not (isFlag value)) (λ u. handle (cond (eqb value 0) 9 12))
+
+abbrev pub makeIntCall : ℕ → ℕ → List ℕ → Outcome
+makeIntCall min max = call (λ u. 0) (λ u. make u (intEntry min max))
+
+abbrev pub getIntCall : ℕ → List ℕ → Outcome
+getIntCall value = makeIntCall value value
+
+-- ---- get_float, make_float
+
+-- "float size not 0, ±32, ±64; size not 0 with bits not 0"
+abbrev pub makeFloatCall : ℕ → ℕ → List ℕ → Outcome
+makeFloatCall sz bits = call (λ u. 4 when not (floatOk (storedSize sz) bits)) (λ u. make u (floatEntry (storedSize sz) bits))
+
+abbrev pub getFloatCall : ℕ → List ℕ → Outcome
+getFloatCall bits = makeFloatCall 0 bits
+
+-- ---- get_tuple
+
+unfoldable pub tupleRows : List ℕ → List ℕ → ℕ
+tupleRows types u =
+    2 when noEntry u types
+    ∣ 3 when wrongKind u isType types
+    ∣ 5 when ltb 255 (length types)
+    ∣ 6 when tooDeep u types
+
+abbrev pub getTupleCall : List ℕ → List ℕ → Outcome
+getTupleCall types = call (tupleRows types) (λ u. make u (tupleEntry types u))
+
+-- ---- get_str: a name of these bytes
+
+abbrev pub getStrCall : List ℕ → List ℕ → Outcome
+getStrCall name = call (λ u. 5 when ltb 255 (length name)) (λ u. make u (nameEntry name))
+
+-- ---- make_struct_fref
+
+unfoldable pub frefRows : ℕ → List ℕ → ℕ
+frefRows name u =
+    2 when noEntry u (name ∷ [])
+    ∣ 3 when wrongKind u isName (name ∷ [])
+
+abbrev pub makeStructFrefCall : ℕ → List ℕ → Outcome
+makeStructFrefCall name = call (frefRows name) (λ u. make u (frefEntry name))
+
+-- ---- get_mem_ptr, get_mem: an entry around one type, of the kinds p, with a value that is taken or not
+
+unfoldable pub partRows : (ℕ → Bool) → Bool → ℕ → List ℕ → ℕ
+partRows p taken h u =
+    2 when noEntry u (h ∷ [])
+    ∣ 3 when wrongKind u p (h ∷ [])
+    ∣ 4 when not taken
+    ∣ 6 when tooDeep u (h ∷ [])
+
+-- "The pointer maker takes 8 and 9"
+abbrev pub getMemPtrCall : ℕ → ℕ → List ℕ → Outcome
+getMemPtrCall to nil = call (partRows isStruct (isFlag nil) to) (λ u. make u (pointerEntry to nil u))
+
+abbrev pub getMemCall : ℕ → ℕ → List ℕ → Outcome
+getMemCall alias t = call (partRows isType (isAlias alias) t) (λ u. make u (memoryEntry alias t u))
+
+-- ---- get_struct
+
+unfoldable pub structRows : ℕ → List ℕ → List ℕ → ℕ
+structRows name fs u =
+    2 when noEntry u (name ∷ []) || noEntry u (fieldNames fs) || noEntry u (fieldTypes fs)
+    ∣ 3 when wrongKind u isName (name ∷ []) || wrongKind u isName (fieldNames fs) || wrongKind u isType (fieldTypes fs)
+    ∣ 4 when not (eqb (length fs % 4) 0) || not (all isAlias (fieldAliases fs)) || not (all isFlag (fieldFinals fs))
+    ∣ 5 when ltb 255 (fieldCount fs)
+    ∣ 6 when tooDeep u (fieldTypes fs)
+
+abbrev pub getStructCall : ℕ → List ℕ → List ℕ → Outcome
+getStructCall name fs = call (structRows name fs) (λ u. make u (structEntry name fs u))
+
+-- ---- make_ary: "wraps the lent text in brackets (255 bytes in all); fields "#" (final) and "[]" (not final)"
+
+-- "array body a pointer without nil"
+abbrev pub neverNil : List ℕ → ℕ → Bool
+neverNil u body = eqb (kindOn u body) MemPtr && eqb (word u (body + 2)) 0
+
+unfoldable pub aryRows : ℕ → ℕ → ℕ → ℕ → List ℕ → List ℕ → ℕ
+aryRows len lenAlias body bodyAlias text u =
+    2 when noEntry u (len ∷ body ∷ [])
+    -- "an array's length is an Int"
+    ∣ 3 when wrongKind u (kindIn Int Int) (len ∷ []) || wrongKind u isType (body ∷ [])
+    ∣ 4 when not (isAlias lenAlias) || not (isAlias bodyAlias)
+    ∣ 5 when ltb 255 (length (wrapped true text))
+    ∣ 6 when tooDeep u (len ∷ body ∷ [])
+    ∣ 10 when neverNil u body
+
+-- "#" and "[]"
+abbrev pub lengthName : List ℕ
+lengthName = 35 ∷ []
+
+abbrev pub bodyName : List ℕ
+bodyName = 91 ∷ 93 ∷ []
+
+-- "Parts are made first, left to right": the array's name, the names of its fields, the struct
+abbrev pub makeAry : ℕ → ℕ → ℕ → ℕ → List ℕ → List ℕ → Grown
+makeAry len lenAlias body bodyAlias text u =
+    let name = make u (nameEntry (wrapped true text)) in
+    let length = make (name .words) (nameEntry lengthName) in
+    let elements = make (length .words) (nameEntry bodyName) in
+    make (elements .words) (structEntry (name .handle) (length .handle ∷ len ∷ lenAlias ∷ 1 ∷ elements .handle ∷ body ∷ bodyAlias ∷ 0 ∷ []) (elements .words))
+
+abbrev pub makeAryCall : ℕ → ℕ → ℕ → ℕ → List ℕ → List ℕ → Outcome
+makeAryCall len lenAlias body bodyAlias text = call (aryRows len lenAlias body bodyAlias text) (makeAry len lenAlias body bodyAlias text)

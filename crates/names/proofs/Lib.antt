@@ -1,0 +1,5 @@
+pub mod Bytes
+pub mod Number
+pub mod NameEntry
+pub mod Told
+pub mod Examples

@@ -1,0 +1,53 @@
+-- The number that some bytes are: a byte more, and how large it is. Assumes nothing.
+use mathlib.Core.Path.{_≡_, refl, sym, ap, _∙_}
+use mathlib.Core.List.{List, [], _∷_}
+use Prim.Native.Nat.{ℕ, zero, suc, _+_, _-_, _*_, _^_, _≤_, _<_}
+use native.Mathlib.Omega.{arith}
+use native.Mathlib.Nat.{add-zero}
+use lib.ListN.{length, take, drop, getD}
+use lib.Seq.{take-all}
+use lib.Pow.{pow-add, pow-mono}
+use Rattle.names.specs.Name.{number}
+
+none : (k : ℕ) → number (take k []) ≡ 0
+unfolding number
+none k = let h : length {A = ℕ} [] ≤ k = omega arith in rw (take-all k [] h)
+
+step : (t : List ℕ) (k i : ℕ) → number (take (suc k) (drop i t)) ≡ getD t i 0 + 256 * number (take k (drop (suc i) t))
+unfolding number
+step [] k zero = rw (none k)
+step [] k (suc i) = rw (none k)
+step (b ∷ t) k zero = refl
+step (b ∷ t) k (suc i) = step t k i
+
+-- a byte more is eight bits more
+wider : (w b k : ℕ) → w < 2 ^ (8 * k) → b < 256 → b + 256 * w < 2 ^ (8 * suc k)
+wider w b k h small =
+    let n : 8 * suc k ≡ 8 + 8 * k = omega arith in
+    let q : 2 ^ (8 * suc k) ≡ 256 * 2 ^ (8 * k) = ap (λ (m : ℕ). 2 ^ m) n ∙ pow-add 2 8 (8 * k) in
+    omega arith
+
+-- the bytes of a list are below 256, so its number is below the power for its length
+pub number-below : (bs : List ℕ) → ((i : ℕ) → getD bs i 0 < 256) → number bs < 2 ^ (8 * length bs)
+unfolding number
+number-below [] small = omega arith
+number-below (b ∷ bs) small = wider (number bs) b (length bs) (number-below bs (λ i. small (suc i))) (small 0)
+
+-- what a turn of `name_word` knows, which has the bytes from at + j on and takes the one before
+pub room : (j w : ℕ) → 0 < j → j ≤ 8 → w < 2 ^ (8 * (8 - j)) → w < 2 ^ 56
+room j w some most h = let k : 8 * (8 - j) ≤ 56 = omega arith in omega (arith, pow-mono k)
+
+module _ (t : List ℕ) (at j w b : ℕ) (some : 0 < j) (most : j ≤ 8) where
+  pub wider-by-one : w < 2 ^ (8 * (8 - j)) → b < 256 → b + 256 * w < 2 ^ (8 * (8 - (j - 1)))
+  wider-by-one h small = let n : suc (8 - j) ≡ 8 - (j - 1) = omega arith in rw (sym n) (wider w b (8 - j) h small)
+
+  pub one-more : w ≡ number (take (8 - j) (drop (at + j) t)) → b ≡ getD t (at + (j - 1)) 0 → b + 256 * w ≡ number (take (8 - (j - 1)) (drop (at + (j - 1)) t))
+  one-more is it =
+      let n : 8 - (j - 1) ≡ suc (8 - j) = omega arith in
+      let m : suc (at + (j - 1)) ≡ at + j = omega arith in
+      rw (n, step t (8 - j) (at + (j - 1)), m, is, it)
+
+pub all-eight : (t : List ℕ) (at j w : ℕ) → w ≡ number (take (8 - j) (drop (at + j) t)) → j ≤ 0 → w ≡ number (take 8 (drop at t))
+all-eight t at j w is out =
+    let z : j ≡ 0 = omega arith in
+    is ∙ rw (z, add-zero)

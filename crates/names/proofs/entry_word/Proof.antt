@@ -1,0 +1,41 @@
+-- `names::entry_word` meets its contract. An entry has at most 8194 words, so no product is too large.
+use denote.Ref.{now}
+use native.Mathlib.Omega.{arith}
+use Rattle.names.proofs.Bytes.{length-most}
+use Rattle.names.proofs.NameEntry.{name-most, head-word, later-word}
+use borrow.Author.Needs.{needs}
+use Rattle.names.proofs.entry_word.Statement.{statement}
+use Rattle.names.proofs.entry_word.Tie as tie
+
+name-len-requires : tie.Need-name-len-requires
+name-len-requires c κs = search needs
+
+mul-result : tie.Need-mul-result
+mul-result c = record { fits = omega (arith, length-most (now (c .before .before .before .args .text)) (c .before .before .before .args .wrap)) }
+
+returns : tie.Need-returns
+returns c = search head-word
+
+sub-name-word : tie.Need-sub-name-word
+sub-name-word c = search needs
+
+mul-name-word : tie.Need-mul-name-word
+mul-name-word c = record { fits = omega (arith, name-most (c .before .before .args .wrap) (now (c .before .before .args .text)) (c .before .before .pre .0)) }
+
+name-word-requires : tie.Need-name-word-requires
+name-word-requires c κs = omega (arith, name-most (c .before .before .args .wrap) (now (c .before .before .args .text)) (c .before .before .pre .0))
+
+returns-2 : tie.Need-returns-2
+returns-2 c = search later-word
+
+pub entry-word-spec : {M : Type 1} → statement M
+entry-word-spec =
+    tie.close
+    (tie.spec
+    name-len-requires
+    mul-result
+    returns
+    sub-name-word
+    mul-name-word
+    name-word-requires
+    returns-2)

@@ -1,0 +1,4 @@
+pub mod Column
+pub mod Apart
+pub mod Fields
+pub mod Arrays
