@@ -32,7 +32,7 @@ pub fn float(old: &[u64], new: &mut [u64], used: usize, f: Float, bits: u64) -> 
 }
 
 // Fills the first words of `dst` with a head and a list.
-fn headed(dst: &mut [u64], head: u64, list: &[u64])
+pub fn headed(dst: &mut [u64], head: u64, list: &[u64])
     requires { ⌜ 1 + length (now list) ≤ length (now dst) ⌝ }
     ensures { λ _. ⌜ now (dst .exit) ≡ (head ∷ now (list .entry)) ++ drop (1 + length (now (list .entry))) (now (dst .entry)) ⌝ }
 {

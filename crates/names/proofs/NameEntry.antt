@@ -16,6 +16,7 @@ unfolding packed
 length-packed zero bs = refl
 length-packed (suc k) bs = ap suc (length-packed k (drop 8 bs))
 
+-- word i has the bytes from 8 × i on
 packed-word : (k i : ℕ) (bs : List ℕ) → i < k → getD (packed k bs) i 0 ≡ number (take 8 (drop (8 * i) bs))
 unfolding packed
 packed-word zero i bs h = absurd (omega arith)
@@ -28,9 +29,11 @@ pub name-length : (bs : List ℕ) → length (nameEntry bs) ≡ 1 + (length bs +
 unfolding nameEntry
 name-length bs = ap suc (length-packed ((length bs + 7) / 8) bs) ∙ omega arith
 
+-- the longest text that is lent, in brackets, has 65,537 bytes
 pub name-most : (wrap : Bool) (text : List ℕ) → length text ≤ 65535 → length (nameEntry (wrapped wrap text)) ≤ 8194
 name-most wrap text h = omega (arith, name-length (wrapped wrap text), length-most text wrap)
 
+-- what `name_size` and `entry_word` give
 pub size-of-name : (bs : List ℕ) (n : ℕ) → n ≡ length bs → 1 + (n + 7) / 8 ≡ length (nameEntry bs)
 size-of-name bs n is = rw is (sym (name-length bs))
 

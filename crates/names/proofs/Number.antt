@@ -13,6 +13,7 @@ none : (k : ℕ) → number (take k []) ≡ 0
 unfolding number
 none k = let h : length {A = ℕ} [] ≤ k = omega arith in rw (take-all k [] h)
 
+-- the lowest byte and the others; past the end of the text both are 0
 step : (t : List ℕ) (k i : ℕ) → number (take (suc k) (drop i t)) ≡ getD t i 0 + 256 * number (take k (drop (suc i) t))
 unfolding number
 step [] k zero = rw (none k)
@@ -33,10 +34,11 @@ unfolding number
 number-below [] small = omega arith
 number-below (b ∷ bs) small = wider (number bs) b (length bs) (number-below bs (λ i. small (suc i))) (small 0)
 
--- what a turn of `name_word` knows, which has the bytes from at + j on and takes the one before
+-- while a byte of eight is still to come, the word has room for it
 pub room : (j w : ℕ) → 0 < j → j ≤ 8 → w < 2 ^ (8 * (8 - j)) → w < 2 ^ 56
 room j w some most h = let k : 8 * (8 - j) ≤ 56 = omega arith in omega (arith, pow-mono k)
 
+-- what a turn of `name_word` knows, which has the bytes from at + j on and takes the one before
 module _ (t : List ℕ) (at j w b : ℕ) (some : 0 < j) (most : j ≤ 8) where
   pub wider-by-one : w < 2 ^ (8 * (8 - j)) → b < 256 → b + 256 * w < 2 ^ (8 * (8 - (j - 1)))
   wider-by-one h small = let n : suc (8 - j) ≡ 8 - (j - 1) = omega arith in rw (sym n) (wider w b (8 - j) h small)
@@ -47,6 +49,7 @@ module _ (t : List ℕ) (at j w b : ℕ) (some : 0 < j) (most : j ≤ 8) where
       let m : suc (at + (j - 1)) ≡ at + j = omega arith in
       rw (n, step t (8 - j) (at + (j - 1)), m, is, it)
 
+-- and when it has taken all eight
 pub all-eight : (t : List ℕ) (at j w : ℕ) → w ≡ number (take (8 - j) (drop (at + j) t)) → j ≤ 0 → w ≡ number (take 8 (drop at t))
 all-eight t at j w is out =
     let z : j ≡ 0 = omega arith in

@@ -242,7 +242,7 @@ fn entries(words: &[u64], used: usize, bits: &mut [u64]) -> bool
 }
 
 // The words 1 to 93 of every store.
-const FRESH: [u64; 93] = [
+pub const FRESH: [u64; 93] = [
     262144,
     1347376164,
     262144,

@@ -1,9 +1,12 @@
 -- `names::entry_word` meets its contract. An entry has at most 8194 words, so no product is too large.
 use denote.Ref.{now}
+use Prim.Native.Nat.{_≤_}
 use native.Mathlib.Omega.{arith}
+use borrow.Author.Needs.{needs}
+use lib.ListN.{length}
+use Rattle.names.specs.Name.{nameEntry, wrapped}
 use Rattle.names.proofs.Bytes.{length-most}
 use Rattle.names.proofs.NameEntry.{name-most, head-word, later-word}
-use borrow.Author.Needs.{needs}
 use Rattle.names.proofs.entry_word.Statement.{statement}
 use Rattle.names.proofs.entry_word.Tie as tie
 
@@ -16,14 +19,18 @@ mul-result c = record { fits = omega (arith, length-most (now (c .before .before
 returns : tie.Need-returns
 returns c = search head-word
 
+-- no entry of a name has more words
+here : (c : tie.Else1) → length (nameEntry (wrapped (c .before .before .args .wrap) (now (c .before .before .args .text)))) ≤ 8194
+here c = search name-most
+
 sub-name-word : tie.Need-sub-name-word
 sub-name-word c = search needs
 
 mul-name-word : tie.Need-mul-name-word
-mul-name-word c = record { fits = omega (arith, name-most (c .before .before .args .wrap) (now (c .before .before .args .text)) (c .before .before .pre .0)) }
+mul-name-word c = record { fits = omega (arith, here c) }
 
 name-word-requires : tie.Need-name-word-requires
-name-word-requires c κs = omega (arith, name-most (c .before .before .args .wrap) (now (c .before .before .args .text)) (c .before .before .pre .0))
+name-word-requires c κs = omega (arith, here c)
 
 returns-2 : tie.Need-returns-2
 returns-2 c = search later-word

@@ -1,0 +1,84 @@
+use borrow.Author.Needs.{needs}
+use Rattle.types.proofs.memory_in.Statement.{statement}
+use Rattle.types.proofs.memory_in.Tie as tie
+use Rattle.types.proofs.memory_in.Reads as reads
+use Rattle.types.proofs.memory_in.Lts as lts
+use Rattle.call.proofs.begin.Reads as begin-reads
+use Rattle.call.proofs.finish.Reads as finish-reads
+use Rattle.makers.proofs.memory.Reads as memory-reads
+use Rattle.rows.proofs.part_rows.Reads as part-rows-reads
+
+-- src/lib.rt:235:9
+begin-requires : tie.Need-begin-requires
+begin-requires c κs = search needs
+
+-- src/lib.rt:237:9
+same-length : tie.Need-same-length
+same-length c = search needs
+
+-- src/lib.rt:237:9
+same-length-2 : tie.Need-same-length-2
+same-length-2 c = search needs
+
+-- src/lib.rt:237:9
+returns : tie.Need-returns
+returns c = ?
+
+-- src/lib.rt:239:9
+part-rows-requires : tie.Need-part-rows-requires
+part-rows-requires c κs = ?
+
+-- src/lib.rt:241:9
+same-length-3 : tie.Need-same-length-3
+same-length-3 c = search needs
+
+-- src/lib.rt:241:9
+same-length-4 : tie.Need-same-length-4
+same-length-4 c = search needs
+
+-- src/lib.rt:241:9
+returns-2 : tie.Need-returns-2
+returns-2 c = ?
+
+-- src/lib.rt:244:28
+slice-aggregate-memory : tie.Need-slice-aggregate-memory
+slice-aggregate-memory c = search needs
+
+-- src/lib.rt:244:9
+memory-requires : tie.Need-memory-requires
+memory-requires c κs = ?
+
+-- src/lib.rt:245:5
+finish-requires : tie.Need-finish-requires
+finish-requires c κs = ?
+
+-- src/lib.rt:231:1
+same-length-5 : tie.Need-same-length-5
+same-length-5 c = search needs
+
+-- src/lib.rt:231:1
+same-length-6 : tie.Need-same-length-6
+same-length-6 c = search needs
+
+-- src/lib.rt:231:1
+returns-3 : tie.Need-returns-3
+returns-3 c = ?
+
+pub memory-in-spec : {M : Type 1} → statement M
+memory-in-spec =
+    tie.close
+    (tie.spec
+    begin-requires
+    same-length
+    same-length-2
+    returns
+    part-rows-requires
+    same-length-3
+    same-length-4
+    returns-2
+    slice-aggregate-memory
+    memory-requires
+    finish-requires
+    same-length-5
+    same-length-6
+    returns-3)
