@@ -1,68 +1,65 @@
+-- `types::fref_in` meets its contract, by the ways that every call goes.
+use mathlib.Core.Path.{sym, _∙_}
+use native.Mathlib.Omega.{arith}
+use Rattle.call.proofs.Ways.{begun, no-store, turned, ended}
 use borrow.Author.Needs.{needs}
 use Rattle.types.proofs.fref_in.Statement.{statement}
 use Rattle.types.proofs.fref_in.Tie as tie
-use Rattle.types.proofs.fref_in.Reads as reads
-use Rattle.types.proofs.fref_in.Lts as lts
-use Rattle.call.proofs.begin.Reads as begin-reads
-use Rattle.call.proofs.finish.Reads as finish-reads
-use Rattle.makers.proofs.fref.Reads as fref-reads
-use Rattle.rows.proofs.fref_rows.Reads as fref-rows-reads
 
--- src/lib.rt:171:9
 begin-requires : tie.Need-begin-requires
 begin-requires c κs = search needs
 
--- src/lib.rt:173:9
 same-length : tie.Need-same-length
 same-length c = search needs
 
--- src/lib.rt:173:9
 same-length-2 : tie.Need-same-length-2
 same-length-2 c = search needs
 
--- src/lib.rt:173:9
 returns : tie.Need-returns
-returns c = ?
+returns c = no-store _ _ _ _ (c .before .before .before .begin .ensures .is) (c .if1 .taken)
 
--- src/lib.rt:175:9
 fref-rows-requires : tie.Need-fref-rows-requires
-fref-rows-requires c κs = ?
+fref-rows-requires c κs = c .before .before .before .before .before .begin .ensures .ready (c .before .before .if1 .left)
 
--- src/lib.rt:177:9
 same-length-3 : tie.Need-same-length-3
 same-length-3 c = search needs
 
--- src/lib.rt:177:9
 same-length-4 : tie.Need-same-length-4
 same-length-4 c = search needs
 
--- src/lib.rt:177:9
 returns-2 : tie.Need-returns-2
-returns-2 c = ?
+returns-2 c = turned _ _ _ _ (c .before .before .before .before .before .before .before .begin .ensures .is) (c .before .before .before .before .if1 .left) _ (c .before .fref-rows .ensures) (c .if2 .taken)
 
--- src/lib.rt:180:26
 slice-aggregate-fref : tie.Need-slice-aggregate-fref
 slice-aggregate-fref c = search needs
 
--- src/lib.rt:180:9
 fref-requires : tie.Need-fref-requires
-fref-requires c κs = ?
+fref-requires c κs =
+    let n = c .before .before in
+    let i = n .before .before .before .before in
+    let g = begun _ _ (i .before .before .before .begin .ensures .is) (i .if1 .left) in
+    g .segments
 
--- src/lib.rt:181:5
 finish-requires : tie.Need-finish-requires
-finish-requires c κs = ?
+finish-requires c κs =
+    let m = c .before .before .before in
+    let i = m .before .before .before .before .before .before .before in
+    let g = begun _ _ (i .before .before .before .begin .ensures .is) (i .if1 .left) in
+    (omega (arith, g .some, m .fref .kept .1 .0), omega (arith, g .within, m .fref .kept .1 .0))
 
--- src/lib.rt:167:1
 same-length-5 : tie.Need-same-length-5
 same-length-5 c = search needs
 
--- src/lib.rt:167:1
 same-length-6 : tie.Need-same-length-6
 same-length-6 c = search needs
 
--- src/lib.rt:167:1
 returns-3 : tie.Need-returns-3
-returns-3 c = ?
+returns-3 c =
+    let f = c .before .before in
+    let m = f .before .before .before .before in
+    let n = m .before .before .before in
+    let i = n .before .before .before .before in
+    ended _ _ _ _ (i .before .before .before .begin .ensures .is) (i .if1 .left) (sym (n .before .fref-rows .ensures) ∙ n .if2 .left) _ _ (m .fref .kept .1 .0) (m .fref .ensures) _ (f .finish .ensures)
 
 pub fref-in-spec : {M : Type 1} → statement M
 fref-in-spec =

@@ -1,51 +1,51 @@
+-- `types::get_str` meets its contract, by the ways that every call goes.
+use native.Mathlib.Omega.{arith}
+use Rattle.call.proofs.Ways.{begun, no-store, turned, ended}
+use Rattle.types.proofs.Values.{long-name, short-name, plain-name}
 use borrow.Author.Needs.{needs}
 use Rattle.types.proofs.get_str.Statement.{statement}
 use Rattle.types.proofs.get_str.Tie as tie
-use Rattle.types.proofs.get_str.Reads as reads
-use Rattle.types.proofs.get_str.Lts as lts
-use Rattle.call.proofs.begin_plain.Reads as begin-plain-reads
-use Rattle.call.proofs.finish.Reads as finish-reads
-use Rattle.names.proofs.intern_name.Reads as intern-name-reads
 
--- src/lib.rt:90:9
 begin-plain-requires : tie.Need-begin-plain-requires
 begin-plain-requires c κs = search needs
 
--- src/lib.rt:92:9
 same-length : tie.Need-same-length
 same-length c = search needs
 
--- src/lib.rt:92:9
 returns : tie.Need-returns
-returns c = ?
+returns c = no-store _ _ _ _ (c .before .begin-plain .ensures) (c .if1 .taken)
 
--- src/lib.rt:95:9
 same-length-2 : tie.Need-same-length-2
 same-length-2 c = search needs
 
--- src/lib.rt:95:9
 returns-2 : tie.Need-returns-2
-returns-2 c = ?
+returns-2 c = turned _ _ _ _ (c .before .before .begin-plain .ensures) (c .before .if1 .left) 5 (long-name _ (c .if2 .taken)) (search needs)
 
--- src/lib.rt:98:32
 slice-aggregate-intern-name : tie.Need-slice-aggregate-intern-name
 slice-aggregate-intern-name c = search needs
 
--- src/lib.rt:98:9
 intern-name-requires : tie.Need-intern-name-requires
-intern-name-requires c κs = ?
+intern-name-requires c κs =
+    let i = c .before .before .before in
+    (begun _ _ (i .before .begin-plain .ensures) (i .if1 .left) .segments, search needs)
 
--- src/lib.rt:99:5
 finish-requires : tie.Need-finish-requires
-finish-requires c κs = ?
+finish-requires c κs =
+    let m = c .before .before .before in
+    let i = m .before .before .before .before in
+    let g = begun _ _ (i .before .begin-plain .ensures) (i .if1 .left) in
+    (omega (arith, g .some, m .intern-name .kept .1 .0), omega (arith, g .within, m .intern-name .kept .1 .0))
 
--- src/lib.rt:87:1
 same-length-3 : tie.Need-same-length-3
 same-length-3 c = search needs
 
--- src/lib.rt:87:1
 returns-3 : tie.Need-returns-3
-returns-3 c = ?
+returns-3 c =
+    let f = c .before .before in
+    let m = f .before .before .before .before in
+    let n = m .before .before .before in
+    let i = n .before in
+    ended _ _ _ _ (i .before .begin-plain .ensures) (i .if1 .left) (short-name _ (n .if2 .left)) _ _ (m .intern-name .kept .1 .0) (plain-name _ _ _ _ _ _ (m .intern-name .ensures)) _ (f .finish .ensures)
 
 pub get-str-spec : {M : Type 1} → statement M
 get-str-spec =

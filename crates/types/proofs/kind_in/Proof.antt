@@ -1,51 +1,47 @@
+-- `types::kind_in` meets its contract, by the ways that a call that reads goes.
+use mathlib.Core.Path.{sym, ap, _∙_}
+use native.Mathlib.Omega.{arith}
+use Rattle.call.specs.Call.{number}
+use Rattle.call.proofs.Ways.{begun, unread, read-back, answered}
 use borrow.Author.Needs.{needs}
 use Rattle.types.proofs.kind_in.Statement.{statement}
 use Rattle.types.proofs.kind_in.Tie as tie
-use Rattle.types.proofs.kind_in.Reads as reads
-use Rattle.types.proofs.kind_in.Lts as lts
-use Rattle.call.proofs.begin.Reads as begin-reads
-use Rattle.call.proofs.kind_on.Reads as kind-on-reads
-use Rattle.rows.proofs.kind_rows.Reads as kind-rows-reads
 
--- src/lib.rt:108:9
 begin-requires : tie.Need-begin-requires
 begin-requires c κs = search needs
 
--- src/lib.rt:110:9
 same-length : tie.Need-same-length
 same-length c = search needs
 
--- src/lib.rt:110:9
 returns : tie.Need-returns
-returns c = ?
+returns c = unread _ _ _ _ (c .before .before .before .begin .ensures .is) (c .if1 .taken)
 
--- src/lib.rt:112:9
 kind-rows-requires : tie.Need-kind-rows-requires
-kind-rows-requires c κs = ?
+kind-rows-requires c κs = c .before .before .before .before .begin .ensures .ready (c .before .if1 .left)
 
--- src/lib.rt:114:9
 same-length-2 : tie.Need-same-length-2
 same-length-2 c = search needs
 
--- src/lib.rt:114:9
 returns-2 : tie.Need-returns-2
-returns-2 c = ?
+returns-2 c = read-back _ _ _ _ (c .before .before .before .before .before .before .begin .ensures .is) (c .before .before .before .if1 .left) _ (c .before .kind-rows .ensures) (c .if2 .taken)
 
--- src/lib.rt:117:30
 slice-aggregate-kind-on : tie.Need-slice-aggregate-kind-on
 slice-aggregate-kind-on c = search needs
 
--- src/lib.rt:117:16
 kind-on-requires : tie.Need-kind-on-requires
-kind-on-requires c κs = ?
+kind-on-requires c κs =
+    let i = c .before .before .before .before in
+    let g = begun _ _ (i .before .before .before .begin .ensures .is) (i .if1 .left) in
+    (omega arith, omega (arith, g .within))
 
--- src/lib.rt:104:1
 same-length-3 : tie.Need-same-length-3
 same-length-3 c = search needs
 
--- src/lib.rt:104:1
 returns-3 : tie.Need-returns-3
-returns-3 c = ?
+returns-3 c =
+    let n = c .before .before in
+    let i = n .before .before .before in
+    answered _ _ _ _ (i .before .before .before .begin .ensures .is) (i .if1 .left) (sym (n .before .kind-rows .ensures) ∙ n .if2 .left) _ (ap number (c .kind-on .ensures))
 
 pub kind-in-spec : {M : Type 1} → statement M
 kind-in-spec =

@@ -1,66 +1,69 @@
+-- `types::make_float` meets its contract, by the ways that every call goes.
+use native.Mathlib.Omega.{arith}
+use Rattle.call.proofs.Ways.{begun, no-store, turned, ended}
+use Rattle.types.proofs.Values.{no-float, a-float, size-known, size-fits, float-stored}
 use borrow.Author.Needs.{needs}
 use Rattle.types.proofs.make_float.Statement.{statement}
 use Rattle.types.proofs.make_float.Tie as tie
-use Rattle.types.proofs.make_float.Reads as reads
-use Rattle.types.proofs.make_float.Lts as lts
-use Rattle.call.proofs.begin_plain.Reads as begin-plain-reads
-use Rattle.call.proofs.finish.Reads as finish-reads
-use Rattle.makers.proofs.float.Reads as float-reads
-use Rattle.std.proofs.num.wrapping_add_u64.Reads as wrapping-add-u64-reads
-use Rattle.type_float.proofs.float_of.Reads as float-of-reads
-use Rattle.wellformed.proofs.float_ok.Reads as float-ok-reads
 
--- src/lib.rt:67:9
 begin-plain-requires : tie.Need-begin-plain-requires
 begin-plain-requires c κs = search needs
 
--- src/lib.rt:69:9
 same-length : tie.Need-same-length
 same-length c = search needs
 
--- src/lib.rt:69:9
 returns : tie.Need-returns
-returns c = ?
+returns c = no-store _ _ _ _ (c .before .begin-plain .ensures) (c .if1 .taken)
 
--- src/lib.rt:71:9
 wrapping-add-u64-requires : tie.Need-wrapping-add-u64-requires
 wrapping-add-u64-requires c κs = search needs
 
--- src/lib.rt:72:9
 float-ok-requires : tie.Need-float-ok-requires
 float-ok-requires c κs = search needs
 
--- src/lib.rt:73:9
 same-length-2 : tie.Need-same-length-2
 same-length-2 c = search needs
 
--- src/lib.rt:73:9
 returns-2 : tie.Need-returns-2
-returns-2 c = ?
+returns-2 c =
+    let w = c .before .before in
+    let i = w .before in
+    turned _ _ _ _ (i .before .begin-plain .ensures) (i .if1 .left) 4 (no-float _ _ _ (w .wrapping-add-u64 .ensures) _ (c .before .float-ok .ensures) (c .if2 .taken)) (search needs)
 
--- src/lib.rt:75:9
 float-of-requires : tie.Need-float-of-requires
-float-of-requires c κs = ?
+float-of-requires c κs = size-known _ _ _ (c .before .before .wrapping-add-u64 .ensures) _ (c .before .float-ok .ensures) (c .if2 .left)
 
--- src/lib.rt:77:27
 slice-aggregate-float : tie.Need-slice-aggregate-float
 slice-aggregate-float c = search needs
 
--- src/lib.rt:77:9
 float-requires : tie.Need-float-requires
-float-requires c κs = ?
+float-requires c κs =
+    let o = c .before .before in
+    let n = o .before in
+    let w = n .before .before in
+    let i = w .before in
+    (begun _ _ (i .before .begin-plain .ensures) (i .if1 .left) .segments, (size-fits _ _ _ (w .wrapping-add-u64 .ensures) _ (n .before .float-ok .ensures) (n .if2 .left) _ (o .float-of .ensures .0), o .float-of .ensures .1))
 
--- src/lib.rt:78:5
 finish-requires : tie.Need-finish-requires
-finish-requires c κs = ?
+finish-requires c κs =
+    let m = c .before .before .before in
+    let i = m .before .before .before .before .before .before .before in
+    let g = begun _ _ (i .before .begin-plain .ensures) (i .if1 .left) in
+    (omega (arith, g .some, m .float .kept .1 .0), omega (arith, g .within, m .float .kept .1 .0))
 
--- src/lib.rt:64:1
 same-length-3 : tie.Need-same-length-3
 same-length-3 c = search needs
 
--- src/lib.rt:64:1
 returns-3 : tie.Need-returns-3
-returns-3 c = ?
+returns-3 c =
+    let f = c .before .before in
+    let m = f .before .before .before .before in
+    let o = m .before .before .before in
+    let n = o .before in
+    let w = n .before .before in
+    let i = w .before in
+    ended _ _ _ _ (i .before .begin-plain .ensures) (i .if1 .left) (a-float _ _ _ (w .wrapping-add-u64 .ensures) _ (n .before .float-ok .ensures) (n .if2 .left)) _ _ (m .float .kept .1 .0)
+    (float-stored _ _ _ (w .wrapping-add-u64 .ensures) _ (n .before .float-ok .ensures) (n .if2 .left) _ (o .float-of .ensures .0) _ _ _ _ _ (m .float .ensures)) _ (f .finish .ensures)
 
 pub make-float-spec : {M : Type 1} → statement M
 make-float-spec =

@@ -1,43 +1,44 @@
+-- `types::make_int` meets its contract, by the ways that every call goes.
+use mathlib.Core.Path.{refl}
+use native.Mathlib.Omega.{arith}
+use Rattle.call.proofs.Ways.{begun, no-store, ended}
 use borrow.Author.Needs.{needs}
 use Rattle.types.proofs.make_int.Statement.{statement}
 use Rattle.types.proofs.make_int.Tie as tie
-use Rattle.types.proofs.make_int.Reads as reads
-use Rattle.types.proofs.make_int.Lts as lts
-use Rattle.call.proofs.begin_plain.Reads as begin-plain-reads
-use Rattle.call.proofs.finish.Reads as finish-reads
-use Rattle.makers.proofs.int.Reads as int-reads
 
--- src/lib.rt:49:9
 begin-plain-requires : tie.Need-begin-plain-requires
 begin-plain-requires c κs = search needs
 
--- src/lib.rt:51:9
 same-length : tie.Need-same-length
 same-length c = search needs
 
--- src/lib.rt:51:9
 returns : tie.Need-returns
-returns c = ?
+returns c = no-store _ _ _ _ (c .before .begin-plain .ensures) (c .if1 .taken)
 
--- src/lib.rt:54:25
 slice-aggregate-int : tie.Need-slice-aggregate-int
 slice-aggregate-int c = search needs
 
--- src/lib.rt:54:9
 int-requires : tie.Need-int-requires
-int-requires c κs = ?
+int-requires c κs =
+    let i = c .before .before in
+    begun _ _ (i .before .begin-plain .ensures) (i .if1 .left) .segments
 
--- src/lib.rt:55:5
 finish-requires : tie.Need-finish-requires
-finish-requires c κs = ?
+finish-requires c κs =
+    let m = c .before .before .before in
+    let i = m .before .before .before in
+    let g = begun _ _ (i .before .begin-plain .ensures) (i .if1 .left) in
+    (omega (arith, g .some, m .int .kept .1 .0), omega (arith, g .within, m .int .kept .1 .0))
 
--- src/lib.rt:46:1
 same-length-2 : tie.Need-same-length-2
 same-length-2 c = search needs
 
--- src/lib.rt:46:1
 returns-2 : tie.Need-returns-2
-returns-2 c = ?
+returns-2 c =
+    let f = c .before .before in
+    let m = f .before .before .before .before in
+    let i = m .before .before .before in
+    ended _ _ _ _ (i .before .begin-plain .ensures) (i .if1 .left) refl _ _ (m .int .kept .1 .0) (m .int .ensures) _ (f .finish .ensures)
 
 pub make-int-spec : {M : Type 1} → statement M
 make-int-spec =
