@@ -172,7 +172,7 @@ pub fn struct_rows(words: &[u64], used: usize, bits: &[u64], name: u64, fields: 
         return 3;
     }
     if fields.len() % 4 != 0 {
-        return 4;
+        return 4; // an unfinished field
     }
     if !fields_most(fields, 2, 4294967295) {
         return 4;
@@ -181,7 +181,7 @@ pub fn struct_rows(words: &[u64], used: usize, bits: &[u64], name: u64, fields: 
         return 4;
     }
     if fields.len() / 4 > 255 {
-        return 5;
+        return 5; // too many fields
     }
     let none = [0u64; 0];
     if makers::fields_deep(&none, words, used, fields) > 31 {

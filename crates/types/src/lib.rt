@@ -1,293 +1,171 @@
-// The makers of `Types`, as calls: on any words whatever, each leaves the store and gives the answer that its definition says.
+// The makers of `Types`. Each call takes any words whatever as the store and any numbers as its arguments; what it answers and what it leaves
+// is what its definition in makers/specs/Makers.antt says. A handle or a number is a 64-bit word, a signed number a two's complement one.
+//
+// Calls on handles lend row 1 an array of bits whose size goes by the list's length, so that a small store does not pay for a large one's.
 use call::Done;
 use call::Made;
 use call::Number;
 ghost use mathlib.Core.Path.{_≡_};
-ghost use Prim.Native.Nat.{ℕ, _*_, _≤_, min};
-ghost use lib.ListN.{length};
 ghost use Rattle.call.specs.Call.{left, made, told, done};
 ghost use Rattle.makers.specs.Makers.{freshCall, kindCall, getBoolCall, getIntCall, makeIntCall, getFloatCall, makeFloatCall, getTupleCall, getStrCall, makeStructFrefCall, getMemPtrCall, getMemCall, getStructCall, makeAryCall};
 
-// ---- the store
-
-// Writes a fresh store and zeroes the rest.
+// Writes a fresh store into the list and zeroes the rest.
 pub fn fresh(words: &mut [u64]) -> Done
     ensures { λ r. ⌜ left (done r) (now (words .exit)) ≡ freshCall (now (words .entry)) ⌝ }
 {
-    if words.len() < 94 {
-        return Done::Refused(1);
-    }
-    if words.len() > 1048576 {
-        return Done::Refused(1);
-    }
-    call::clear(words);
-    makers::headed(words, 94, &wellformed::FRESH);
-    Done::Accepted
+    maker_calls::fresh(words)
 }
 
-// ---- values
-
-pub fn get_bool(words: &[u64], value: u64) -> Made
-    ensures { λ r. ⌜ left (made r) (now (words .entry)) ≡ getBoolCall value (now (words .entry)) ⌝ }
-{
-    let used = call::begin_plain(words);
-    if used == 0 {
-        return Made::Refused(1);
-    }
-    if value > 1 {
-        return Made::Refused(4);
-    }
-    if value == 0 {
-        return Made::Handle(9);
-    }
-    Made::Handle(12)
-}
-
-pub fn make_int(words: &mut [u64], min: u64, max: u64) -> Made
-    ensures { λ r. ⌜ left (made r) (now (words .exit)) ≡ makeIntCall min max (now (words .entry)) ⌝ }
-{
-    let used = call::begin_plain(words);
-    if used == 0 {
-        return Made::Refused(1);
-    }
-    let none = [0u64; 0];
-    let r = makers::int(&none, words, used, min, max);
-    call::finish(words, used, r)
-}
-
-pub fn get_int(words: &mut [u64], value: u64) -> Made
-    ensures { λ r. ⌜ left (made r) (now (words .exit)) ≡ getIntCall value (now (words .entry)) ⌝ }
-{
-    make_int(words, value, value)
-}
-
-pub fn make_float(words: &mut [u64], sz: u64, bits: u64) -> Made
-    ensures { λ r. ⌜ left (made r) (now (words .exit)) ≡ makeFloatCall sz bits (now (words .entry)) ⌝ }
-{
-    let used = call::begin_plain(words);
-    if used == 0 {
-        return Made::Refused(1);
-    }
-    let size = std::num::wrapping_add_u64(sz, 64);
-    if !wellformed::float_ok(size, bits) {
-        return Made::Refused(4);
-    }
-    let f = type_float::float_of(size, bits);
-    let none = [0u64; 0];
-    let r = makers::float(&none, words, used, f, bits);
-    call::finish(words, used, r)
-}
-
-pub fn get_float(words: &mut [u64], bits: u64) -> Made
-    ensures { λ r. ⌜ left (made r) (now (words .exit)) ≡ getFloatCall bits (now (words .entry)) ⌝ }
-{
-    make_float(words, 0, bits)
-}
-
-pub fn get_str(words: &mut [u64], name: &[u8]) -> Made
-    ensures { λ r. ⌜ left (made r) (now (words .exit)) ≡ getStrCall (now (name .entry)) (now (words .entry)) ⌝ }
-{
-    let used = call::begin_plain(words);
-    if used == 0 {
-        return Made::Refused(1);
-    }
-    if name.len() > 255 {
-        return Made::Refused(5);
-    }
-    let none = [0u64; 0];
-    let r = names::intern_name(&none, words, used, name, false);
-    call::finish(words, used, r)
-}
-
-// ---- calls on handles. Each has a part that takes the bits of row 1, and one that lends it an array whose size goes by the list's length.
-
-fn kind_in(words: &[u64], bits: &mut [u64], h: u64) -> Number
-    requires { ⌜ min (length (now words)) 1048576 ≤ 64 * length (now bits) ⌝ }
-    ensures { λ r. ⌜ left (told r) (now (words .entry)) ≡ kindCall h (now (words .entry)) ⌝ }
-{
-    let used = call::begin(words, bits);
-    if used == 0 {
-        return Number::Refused(1);
-    }
-    let no = rows::kind_rows(words, used, bits, h);
-    if no != 0 {
-        return Number::Refused(no);
-    }
-    let none = [0u64; 0];
-    Number::Is(call::kind_on(&none, words, used, h))
-}
-
+// The kind of a type, which the Rust's casts stand for.
 pub fn kind(words: &[u64], h: u64) -> Number
     ensures { λ r. ⌜ left (told r) (now (words .entry)) ≡ kindCall h (now (words .entry)) ⌝ }
 {
     if words.len() <= 4096 {
         let mut bits = [0u64; 64];
-        return kind_in(words, &mut bits, h);
+        return maker_calls::kind_in(words, &mut bits, h);
     }
     if words.len() <= 65536 {
         let mut bits = [0u64; 1024];
-        return kind_in(words, &mut bits, h);
+        return maker_calls::kind_in(words, &mut bits, h);
     }
     let mut bits = [0u64; 16384];
-    kind_in(words, &mut bits, h)
+    maker_calls::kind_in(words, &mut bits, h)
 }
 
-fn tuple_in(words: &mut [u64], bits: &mut [u64], types: &[u64]) -> Made
-    requires { ⌜ min (length (now words)) 1048576 ≤ 64 * length (now bits) ⌝ }
-    ensures { λ r. ⌜ left (made r) (now (words .exit)) ≡ getTupleCall (now (types .entry)) (now (words .entry)) ⌝ }
+// The Int 0..0 or 1..1, for a flag.
+pub fn get_bool(words: &[u64], value: u64) -> Made
+    ensures { λ r. ⌜ left (made r) (now (words .entry)) ≡ getBoolCall value (now (words .entry)) ⌝ }
 {
-    let used = call::begin(words, bits);
-    if used == 0 {
-        return Made::Refused(1);
-    }
-    let no = rows::tuple_rows(words, used, bits, types);
-    if no != 0 {
-        return Made::Refused(no);
-    }
-    let none = [0u64; 0];
-    let r = makers::tuple(&none, words, used, types);
-    call::finish(words, used, r)
+    maker_calls::get_bool(words, value)
 }
 
+// The Int of one value.
+pub fn get_int(words: &mut [u64], value: u64) -> Made
+    ensures { λ r. ⌜ left (made r) (now (words .exit)) ≡ getIntCall value (now (words .entry)) ⌝ }
+{
+    maker_calls::make_int(words, value, value)
+}
+
+// The Int of a range, high ones included.
+pub fn make_int(words: &mut [u64], min: u64, max: u64) -> Made
+    ensures { λ r. ⌜ left (made r) (now (words .exit)) ≡ makeIntCall min max (now (words .entry)) ⌝ }
+{
+    maker_calls::make_int(words, min, max)
+}
+
+// The Float of a constant, by its bits.
+pub fn get_float(words: &mut [u64], bits: u64) -> Made
+    ensures { λ r. ⌜ left (made r) (now (words .exit)) ≡ getFloatCall bits (now (words .entry)) ⌝ }
+{
+    maker_calls::make_float(words, 0, bits)
+}
+
+// The Float of a size, or of a constant (size 0), by its bits.
+pub fn make_float(words: &mut [u64], sz: u64, bits: u64) -> Made
+    ensures { λ r. ⌜ left (made r) (now (words .exit)) ≡ makeFloatCall sz bits (now (words .entry)) ⌝ }
+{
+    maker_calls::make_float(words, sz, bits)
+}
+
+// A tuple of the types whose handles are lent.
 pub fn get_tuple(words: &mut [u64], types: &[u64]) -> Made
     ensures { λ r. ⌜ left (made r) (now (words .exit)) ≡ getTupleCall (now (types .entry)) (now (words .entry)) ⌝ }
 {
     if words.len() <= 4096 {
         let mut bits = [0u64; 64];
-        return tuple_in(words, &mut bits, types);
+        return maker_calls::tuple_in(words, &mut bits, types);
     }
     if words.len() <= 65536 {
         let mut bits = [0u64; 1024];
-        return tuple_in(words, &mut bits, types);
+        return maker_calls::tuple_in(words, &mut bits, types);
     }
     let mut bits = [0u64; 16384];
-    tuple_in(words, &mut bits, types)
+    maker_calls::tuple_in(words, &mut bits, types)
 }
 
-fn fref_in(words: &mut [u64], bits: &mut [u64], name: u64) -> Made
-    requires { ⌜ min (length (now words)) 1048576 ≤ 64 * length (now bits) ⌝ }
-    ensures { λ r. ⌜ left (made r) (now (words .exit)) ≡ makeStructFrefCall name (now (words .entry)) ⌝ }
+// A name of lent bytes.
+pub fn get_str(words: &mut [u64], name: &[u8]) -> Made
+    ensures { λ r. ⌜ left (made r) (now (words .exit)) ≡ getStrCall (now (name .entry)) (now (words .entry)) ⌝ }
 {
-    let used = call::begin(words, bits);
-    if used == 0 {
-        return Made::Refused(1);
-    }
-    let no = rows::fref_rows(words, used, bits, name);
-    if no != 0 {
-        return Made::Refused(no);
-    }
-    let none = [0u64; 0];
-    let r = makers::fref(&none, words, used, name);
-    call::finish(words, used, r)
+    maker_calls::get_str(words, name)
 }
 
-pub fn make_struct_fref(words: &mut [u64], name: u64) -> Made
-    ensures { λ r. ⌜ left (made r) (now (words .exit)) ≡ makeStructFrefCall name (now (words .entry)) ⌝ }
-{
-    if words.len() <= 4096 {
-        let mut bits = [0u64; 64];
-        return fref_in(words, &mut bits, name);
-    }
-    if words.len() <= 65536 {
-        let mut bits = [0u64; 1024];
-        return fref_in(words, &mut bits, name);
-    }
-    let mut bits = [0u64; 16384];
-    fref_in(words, &mut bits, name)
-}
-
-fn pointer_in(words: &mut [u64], bits: &mut [u64], to: u64, nil: u64) -> Made
-    requires { ⌜ min (length (now words)) 1048576 ≤ 64 * length (now bits) ⌝ }
-    ensures { λ r. ⌜ left (made r) (now (words .exit)) ≡ getMemPtrCall to nil (now (words .entry)) ⌝ }
-{
-    let used = call::begin(words, bits);
-    if used == 0 {
-        return Made::Refused(1);
-    }
-    let no = rows::part_rows(words, used, bits, to, 8, 9, nil <= 1);
-    if no != 0 {
-        return Made::Refused(no);
-    }
-    let none = [0u64; 0];
-    let r = makers::pointer(&none, words, used, to, nil);
-    call::finish(words, used, r)
-}
-
-pub fn get_mem_ptr(words: &mut [u64], to: u64, nil: u64) -> Made
-    ensures { λ r. ⌜ left (made r) (now (words .exit)) ≡ getMemPtrCall to nil (now (words .entry)) ⌝ }
-{
-    if words.len() <= 4096 {
-        let mut bits = [0u64; 64];
-        return pointer_in(words, &mut bits, to, nil);
-    }
-    if words.len() <= 65536 {
-        let mut bits = [0u64; 1024];
-        return pointer_in(words, &mut bits, to, nil);
-    }
-    let mut bits = [0u64; 16384];
-    pointer_in(words, &mut bits, to, nil)
-}
-
-fn memory_in(words: &mut [u64], bits: &mut [u64], alias: u64, t: u64) -> Made
-    requires { ⌜ min (length (now words)) 1048576 ≤ 64 * length (now bits) ⌝ }
-    ensures { λ r. ⌜ left (made r) (now (words .exit)) ≡ getMemCall alias t (now (words .entry)) ⌝ }
-{
-    let used = call::begin(words, bits);
-    if used == 0 {
-        return Made::Refused(1);
-    }
-    let no = rows::part_rows(words, used, bits, t, 1, 11, alias <= 4294967295);
-    if no != 0 {
-        return Made::Refused(no);
-    }
-    let none = [0u64; 0];
-    let r = makers::memory(&none, words, used, alias, t);
-    call::finish(words, used, r)
-}
-
-pub fn get_mem(words: &mut [u64], alias: u64, t: u64) -> Made
-    ensures { λ r. ⌜ left (made r) (now (words .exit)) ≡ getMemCall alias t (now (words .entry)) ⌝ }
-{
-    if words.len() <= 4096 {
-        let mut bits = [0u64; 64];
-        return memory_in(words, &mut bits, alias, t);
-    }
-    if words.len() <= 65536 {
-        let mut bits = [0u64; 1024];
-        return memory_in(words, &mut bits, alias, t);
-    }
-    let mut bits = [0u64; 16384];
-    memory_in(words, &mut bits, alias, t)
-}
-
-fn struct_in(words: &mut [u64], bits: &mut [u64], name: u64, fields: &[u64]) -> Made
-    requires { ⌜ min (length (now words)) 1048576 ≤ 64 * length (now bits) ⌝ }
-    ensures { λ r. ⌜ left (made r) (now (words .exit)) ≡ getStructCall name (now (fields .entry)) (now (words .entry)) ⌝ }
-{
-    let used = call::begin(words, bits);
-    if used == 0 {
-        return Made::Refused(1);
-    }
-    let no = rows::struct_rows(words, used, bits, name, fields);
-    if no != 0 {
-        return Made::Refused(no);
-    }
-    let none = [0u64; 0];
-    let r = makers::structure(&none, words, used, name, fields);
-    call::finish(words, used, r)
-}
-
+// A struct of a name and lent fields, four words a field: name, type, alias, final.
 pub fn get_struct(words: &mut [u64], name: u64, fields: &[u64]) -> Made
     ensures { λ r. ⌜ left (made r) (now (words .exit)) ≡ getStructCall name (now (fields .entry)) (now (words .entry)) ⌝ }
 {
     if words.len() <= 4096 {
         let mut bits = [0u64; 64];
-        return struct_in(words, &mut bits, name, fields);
+        return maker_calls::struct_in(words, &mut bits, name, fields);
     }
     if words.len() <= 65536 {
         let mut bits = [0u64; 1024];
-        return struct_in(words, &mut bits, name, fields);
+        return maker_calls::struct_in(words, &mut bits, name, fields);
     }
     let mut bits = [0u64; 16384];
-    struct_in(words, &mut bits, name, fields)
+    maker_calls::struct_in(words, &mut bits, name, fields)
+}
+
+// An array struct, whose name is the lent text in brackets.
+pub fn make_ary(words: &mut [u64], len: u64, len_alias: u64, body: u64, body_alias: u64, text: &[u8]) -> Made
+    ensures { λ r. ⌜ left (made r) (now (words .exit)) ≡ makeAryCall len «len_alias» body «body_alias» (now (text .entry)) (now (words .entry)) ⌝ }
+{
+    if words.len() <= 4096 {
+        let mut bits = [0u64; 64];
+        return maker_calls::array_in(words, &mut bits, len, len_alias, body, body_alias, text);
+    }
+    if words.len() <= 65536 {
+        let mut bits = [0u64; 1024];
+        return maker_calls::array_in(words, &mut bits, len, len_alias, body, body_alias, text);
+    }
+    let mut bits = [0u64; 16384];
+    maker_calls::array_in(words, &mut bits, len, len_alias, body, body_alias, text)
+}
+
+// The forward reference of a name.
+pub fn make_struct_fref(words: &mut [u64], name: u64) -> Made
+    ensures { λ r. ⌜ left (made r) (now (words .exit)) ≡ makeStructFrefCall name (now (words .entry)) ⌝ }
+{
+    if words.len() <= 4096 {
+        let mut bits = [0u64; 64];
+        return maker_calls::fref_in(words, &mut bits, name);
+    }
+    if words.len() <= 65536 {
+        let mut bits = [0u64; 1024];
+        return maker_calls::fref_in(words, &mut bits, name);
+    }
+    let mut bits = [0u64; 16384];
+    maker_calls::fref_in(words, &mut bits, name)
+}
+
+// A pointer to a struct or a forward reference; `nil` is a flag.
+pub fn get_mem_ptr(words: &mut [u64], to: u64, nil: u64) -> Made
+    ensures { λ r. ⌜ left (made r) (now (words .exit)) ≡ getMemPtrCall to nil (now (words .entry)) ⌝ }
+{
+    if words.len() <= 4096 {
+        let mut bits = [0u64; 64];
+        return maker_calls::pointer_in(words, &mut bits, to, nil);
+    }
+    if words.len() <= 65536 {
+        let mut bits = [0u64; 1024];
+        return maker_calls::pointer_in(words, &mut bits, to, nil);
+    }
+    let mut bits = [0u64; 16384];
+    maker_calls::pointer_in(words, &mut bits, to, nil)
+}
+
+// A memory of an alias and a type.
+pub fn get_mem(words: &mut [u64], alias: u64, t: u64) -> Made
+    ensures { λ r. ⌜ left (made r) (now (words .exit)) ≡ getMemCall alias t (now (words .entry)) ⌝ }
+{
+    if words.len() <= 4096 {
+        let mut bits = [0u64; 64];
+        return maker_calls::memory_in(words, &mut bits, alias, t);
+    }
+    if words.len() <= 65536 {
+        let mut bits = [0u64; 1024];
+        return maker_calls::memory_in(words, &mut bits, alias, t);
+    }
+    let mut bits = [0u64; 16384];
+    maker_calls::memory_in(words, &mut bits, alias, t)
 }

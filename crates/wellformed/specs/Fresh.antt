@@ -1,4 +1,4 @@
--- The words 1 to 93 of every store: the entries that document 01 lists for a fresh one. `types` has the theorem that ties them to that
+-- The words 1 to 93 of every store: the entries that document 01 lists for a fresh one. `kept` has the theorem that ties them to that
 -- list, handle by handle.
 use mathlib.Core.List.{List, [], _∷_}
 use Prim.Native.Nat.{ℕ}

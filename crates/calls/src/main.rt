@@ -1,0 +1,23 @@
+// Runs a script of calls of the store library, read from standard input: a call a line, and a line out for each.
+mod input;
+mod output;
+
+fn main() {
+    let mut line = [0u8; 262144];
+    let mut out = [0u8; 65536];
+    let mut words = [0u64; 65536];
+    let mut numbers = [0u64; 131072];
+    let mut text = [0u8; 131072];
+    whole(&mut line, &mut out, &mut words, &mut numbers, &mut text);
+}
+
+// The arrays as slices. A function of its own, so that no proof has to compute an array.
+fn whole(
+    line: &mut [u8; 262144],
+    out: &mut [u8; 65536],
+    words: &mut [u64; 65536],
+    numbers: &mut [u64; 131072],
+    text: &mut [u8; 131072],
+) {
+    input::script(line, out, words, numbers, text);
+}

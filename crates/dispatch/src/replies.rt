@@ -1,0 +1,64 @@
+// What lines answer, and what the functions for each call share.
+use call::Done;
+use call::Made;
+use call::Number;
+use script::Answer;
+
+// What a line of the script answers.
+pub enum Reply {
+    // no line
+    Nothing,
+    Short(script::Answer),
+    // the used words of the list
+    Used,
+    // all words of the list
+    All,
+    // a count, and how many words the output has that was lent
+    Output(u64, usize),
+    // the line itself, after a mark
+    Malformed,
+}
+
+// Whether a line has this name and this many numbers.
+pub fn is(name: &[u8], n: usize, wanted: &[u8], count: usize) -> bool {
+    if n != count {
+        return false;
+    }
+    check::same(name, wanted)
+}
+
+// The number at a place of a line, or 0 where it has none.
+pub fn arg(a: &[u64], i: usize) -> u64 {
+    if i < a.len() {
+        return a[i];
+    }
+    0
+}
+
+pub fn flag(yes: bool) -> Reply {
+    if yes {
+        return Reply::Short(Answer::Yes);
+    }
+    Reply::Short(Answer::No)
+}
+
+pub fn done(answer: Done) -> Reply {
+    match answer {
+        Done::Accepted => Reply::Short(Answer::Accepted),
+        Done::Refused(n) => Reply::Short(Answer::Refused(n)),
+    }
+}
+
+pub fn made(answer: Made) -> Reply {
+    match answer {
+        Made::Handle(h) => Reply::Short(Answer::Number(h)),
+        Made::Refused(n) => Reply::Short(Answer::Refused(n)),
+    }
+}
+
+pub fn number(answer: Number) -> Reply {
+    match answer {
+        Number::Is(n) => Reply::Short(Answer::Number(n)),
+        Number::Refused(n) => Reply::Short(Answer::Refused(n)),
+    }
+}

@@ -1,0 +1,9 @@
+pub mod Heads
+pub mod Columns
+pub mod Fits
+pub mod NameFits
+pub mod Rows
+pub mod Kept
+pub mod Later
+pub mod Array
+pub mod Fresh

@@ -1,0 +1,1 @@
+// Theorems on the makers: the crate has no code.

@@ -1,0 +1,7 @@
+#!/bin/sh
+# test.sh: everything that can be tested, from nothing: the layout of the files, the scripts of tests/ (joined, they are what the program
+# `calls` is run on), all proofs, the edits that must be refused, and the run. The last line is that of `rt ci`.
+cd "$(dirname "$0")" || exit 2
+rt fmt --check || { echo "test.sh: run 'rt fmt'" >&2; exit 1; }
+sh tests/join.sh --check || exit 1
+exec rt ci
