@@ -1,7 +1,7 @@
 // A set of numbers as bits of words: 64 to a word. A caller sees the set as a test, `bitAt`, and never a bit.
 ghost use mathlib.Core.Path.{_≡_};
-ghost use Prim.Native.Nat.{ℕ, _+_, _*_, _<_, _≤_, _/_};
-ghost use lib.ListN.{length, getD};
+ghost use Prim.Native.Nat.{_+_, _<_, _/_};
+ghost use lib.ListN.{length};
 ghost use Rattle.bitset.specs.Bitset.{bitAt, also, nowhere};
 
 pub fn marked(bits: &[u64], h: usize) -> bool

@@ -1,15 +1,15 @@
 -- Row 1 reads an entry's parts where they start: words that agree there give the same answer. And rows behind rows. Assumes nothing.
-use mathlib.Core.Path.{_≡_, refl, sym, ap, _∙_, fun-ext}
+use mathlib.Core.Path.{_≡_, refl, sym, ap, fun-ext}
 use mathlib.Core.Bool.{Bool, true, false, cond, _&&_, _||_}
 use mathlib.Core.Logic.{_⊎_, ⊎-elim}
-use mathlib.Core.List.{List, [], _∷_, _++_, List·Memᴰ, List·Memᴰ·head, List·Memᴰ·tail, List·Memᴰ·not-nil, List·Memᴰ·cases-cons}
-use Prim.Native.Nat.{ℕ, zero, suc, pred, _+_, _/_, _≤_, _<_, max}
+use mathlib.Core.List.{List, [], _∷_, _++_, List·Memᴰ·head, List·Memᴰ·tail, List·Memᴰ·not-nil, List·Memᴰ·cases-cons}
+use Prim.Native.Nat.{ℕ, zero, suc, pred, _+_, _≤_, _<_}
 use native.Mathlib.Omega.{arith}
 use borrow.Author.Tests.{eqb-true}
-use lib.ListN.{length, take, drop, getD}
-use lib.Dec.{eqb, leb}
+use lib.ListN.{length, take, getD}
+use lib.Dec.{eqb}
 use Rattle.words.specs.Words.{sizeOf}
-use Rattle.words.specs.Table.{Row, rows, entries, isAt, In}
+use Rattle.words.specs.Table.{Row, rows, isAt, In}
 use Rattle.bitset.specs.Bitset.{nowhere, also}
 use Rattle.wellformed.specs.Entry.{noHead, okEntry}
 use Rattle.wellformed.specs.Form.{headsAt, okRows}

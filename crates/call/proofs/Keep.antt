@@ -1,22 +1,20 @@
 -- A call whose operation adds sound entries keeps the store well formed, its words and that no two entries are equal. Assumes nothing.
 use mathlib.Core.Path.{_≡_, refl, sym, ap, _∙_}
-use mathlib.Core.Bool.{Bool, true, false, not, _&&_}
+use mathlib.Core.Bool.{Bool, true, false, _&&_}
 use mathlib.Core.List.{List, [], _∷_, _++_, append-nil}
 use Prim.Native.Nat.{ℕ, zero, suc, _+_, _-_, _≤_, _<_}
 use native.Mathlib.Omega.{arith}
-use borrow.Author.Tests.{eqb-true, ltb-false}
+use borrow.Author.Tests.{ltb-false}
 use lib.Dec.{eqb, ltb}
 use lib.ListN.{length, take, drop, getD, set, length-set, length-append, length-drop, List·getD-append}
 use lib.Seq.{take-take, take-at, drop-at, drop-drop, take-append-le, length-take-le, getD-take, getD-set-same, getD-set-other, take-set-lt, drop-set-lt}
-use Rattle.words.specs.Words.{fills, eqs}
-use Rattle.words.specs.Table.{Row, rows, entries, In, Own}
+use Rattle.words.specs.Table.{rows, entries}
 use Rattle.words.specs.Made.{Grown}
 use Rattle.words.proofs.Walk.{take-slice}
 use Rattle.bitset.specs.Bitset.{nowhere}
-use Rattle.wellformed.specs.Fresh.{freshWords}
 use Rattle.wellformed.specs.Form.{allZero, okRows, wellFormed, usedWords}
 use Rattle.wellformed.proofs.Before.{Tests, tests, passes}
-use Rattle.call.specs.Call.{Reply, handle, refused, Outcome, _when_, _∣_, stored, settle, call}
+use Rattle.call.specs.Call.{Reply, handle, refused, _when_, _∣_, stored, settle, call}
 use Rattle.call.specs.Keep.{Sound, Adds, Keeps}
 use Rattle.call.proofs.Agree.{rows-same}
 use Rattle.call.proofs.Sound.{in-used}

@@ -1,23 +1,22 @@
 -- Operations keep the used words sound: making an entry that row 1 accepts, and one operation after another. Assumes nothing.
-use mathlib.Core.Path.{_≡_, refl, sym, ap, _∙_}
-use mathlib.Core.Bool.{Bool, true, false, _&&_}
+use mathlib.Core.Path.{_≡_, refl, sym, _∙_}
+use mathlib.Core.Bool.{true}
 use mathlib.Core.List.{List, [], _∷_, _++_, append-nil, append-assoc}
-use Prim.Native.Nat.{ℕ, zero, suc, _+_, _-_, _≤_, _<_}
+use Prim.Native.Nat.{ℕ, _+_, _-_, _≤_, _<_}
 use native.Mathlib.Omega.{arith}
-use lib.ListN.{length, take, drop, getD, length-drop, length-append, List·getD-append}
-use Rattle.words.specs.Words.{fills}
-use Rattle.words.specs.Table.{Row, rows, entries, starts, isAt, In, findIn, Sized, Own}
+use lib.ListN.{length, drop, getD, length-drop, List·getD-append}
+use Rattle.words.specs.Table.{Row, rows, entries, starts, In, findIn}
 use Rattle.words.specs.Made.{Grown, make}
 use Rattle.words.specs.declared.Found.{Found}
 use Rattle.words.specs.declared.Found.the-variants.{At, Nothing}
 use Rattle.words.proofs.Placed.{make-there, make-new}
-use Rattle.words.proofs.Kept.{entries-append, fills-more, make-keeps}
-use Rattle.words.proofs.Extend.{Extends, ext-length}
+use Rattle.words.proofs.Kept.{entries-append, make-keeps}
+use Rattle.words.proofs.Extend.{ext-length}
 use Rattle.bitset.specs.Bitset.{nowhere}
 use Rattle.wellformed.specs.Entry.{okEntry}
 use Rattle.wellformed.specs.Form.{headsAt, okRows}
 use Rattle.call.specs.Keep.{Sound, Fitting, Adds}
-use Rattle.call.proofs.Agree.{heads-same, rows-same, rows-behind, and-starts, starts-only, rows-bound, at-row}
+use Rattle.call.proofs.Agree.{heads-same, rows-same, rows-behind, starts-only, rows-bound, at-row}
 
 -- a row of the used words stands in them, past word 0
 pub in-used : (u : List ℕ) → 1 ≤ length u → (r : Row) → In r (entries u) → (1 ≤ r .at) × (r .at < length u)

@@ -1,26 +1,23 @@
 -- The ways that every call goes: no store, a row that turns it back, and the operation with its end. Assumes nothing.
 use mathlib.Core.Path.{_≡_, refl, sym, ap, _∙_}
 use mathlib.Core.Bool.{Bool, true, false, not, cond}
-use mathlib.Core.List.{List, [], _∷_, _++_, append-nil}
-use Prim.Native.Nat.{ℕ, zero, suc, _+_, _-_, _≤_, _<_}
+use mathlib.Core.List.{List, [], append-nil}
+use Prim.Native.Nat.{ℕ, zero, suc, _-_, _≤_, _<_}
 use native.Mathlib.Omega.{arith}
 use borrow.Author.Tests.{lt-ltb, le-ltb, not-true, not-false}
 use lib.Dec.{ltb}
 use lib.ListN.{length, take, drop, getD, set, replicate, length-drop, take-append-drop, drop-of-length-le}
-use lib.Seq.{take-take, take-all}
+use lib.Seq.{take-all}
 use borrow.Rule.Slice.PartMut.{putMid}
 use Rattle.words.specs.Made.{Grown, Segments, Ran}
 use Rattle.words.specs.declared.Interned.{Interned}
 use Rattle.words.specs.declared.Interned.the-variants.{At, Full}
-use Rattle.words.proofs.Room.{Fit, fitted, overflowed}
-use Rattle.words.specs.Table.{starts}
-use Rattle.bitset.specs.Bitset.{bitAt}
+use Rattle.words.proofs.Room.{fitted, overflowed}
 use Rattle.wellformed.specs.Form.{wellFormed, usedWords}
 use Rattle.wellformed.specs.Scan.{Opened}
-use Rattle.wellformed.proofs.Before.{Tests, tests, well-segments}
-use Rattle.call.specs.Call.{Reply, handle, refused, Outcome, left, made, told, _when_, _∣_, stored, settle, call, replyAfter, ask}
-use Rattle.call.specs.Steps.{usedOf, Open, Opening, finishIn}
-use Rattle.call.specs.declared.Made.{Made}
+use Rattle.wellformed.proofs.Before.{tests, well-segments}
+use Rattle.call.specs.Call.{Reply, handle, refused, Outcome, left, made, _when_, settle, call, ask}
+use Rattle.call.specs.Steps.{usedOf, Opening, finishIn}
 use Rattle.call.specs.declared.Made.the-variants.{Handle, Refused}
 use Rattle.call.proofs.Zeros.{all-zero}
 

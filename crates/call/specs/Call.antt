@@ -1,12 +1,10 @@
 -- Document 01, "Calls turned back": the shape that every call on a store has.
-use mathlib.Core.Bool.{Bool, true, false, not, cond}
-use mathlib.Core.List.{List, [], _∷_, _++_}
+use mathlib.Core.Bool.{Bool, true, false, not}
+use mathlib.Core.List.{List, _++_}
 use Prim.Native.Nat.{ℕ, zero, suc, _-_}
-use lib.ListN.{length, take, drop, getD, set, replicate}
+use lib.ListN.{length, drop, set}
 use lib.Dec.{ltb}
 use Rattle.words.specs.Made.{Grown}
-use Rattle.words.specs.declared.Interned.{Interned}
-use Rattle.words.specs.declared.Interned.the-variants.{At, Full}
 use Rattle.wellformed.specs.Form.{wellFormed, usedWords}
 use Rattle.call.specs.declared.Made.{Made}
 use Rattle.call.specs.declared.Made.the-variants as Made-variants

@@ -1,14 +1,14 @@
 -- What is known where no row applies, and of the words of a float. Assumes nothing.
-use mathlib.Core.Path.{_≡_, refl, sym, ap, _∙_}
-use mathlib.Core.Bool.{Bool, true, false, not, cond, _&&_, _||_}
-use mathlib.Core.List.{List, [], _∷_, _++_}
-use Prim.Native.Nat.{ℕ, zero, suc, _+_, _-_, _*_, _/_, _%_, _≤_, _<_}
+use mathlib.Core.Path.{_≡_, refl}
+use mathlib.Core.Bool.{Bool, true, false, not, _&&_, _||_}
+use mathlib.Core.List.{List, [], _∷_}
+use Prim.Native.Nat.{ℕ, zero, suc, _-_, _*_, _/_, _%_, _≤_}
 use native.Mathlib.Omega.{arith}
 use borrow.Author.Tests.{eqb-true, leb-true, ltb-false}
 use lib.Dec.{eqb, leb, ltb}
 use lib.ListN.{length}
 use Rattle.call.specs.Call.{_when_, _∣_}
-use Rattle.call.specs.Handles.{noEntry, wrongKind, tooDeep}
+use Rattle.call.specs.Handles.{noEntry, wrongKind}
 use Rattle.wellformed.specs.Entry.{kindIn, isName, isType, isFlag, isAlias, floatOk, all}
 use Rattle.wellformed.proofs.Bools.{and-left, and-right}
 use Rattle.type_float.specs.Float.{isSizeWord}

@@ -1,26 +1,25 @@
 -- The rows and answers of the makers of values. Assumes nothing.
-use mathlib.Core.Path.{_≡_, refl, sym, ap, _∙_}
-use mathlib.Core.Bool.{Bool, true, false, not, cond, _&&_}
-use mathlib.Core.List.{List, [], _∷_, _++_}
+use mathlib.Core.Path.{_≡_, sym, ap, _∙_}
+use mathlib.Core.Bool.{Bool, true, false, not, cond}
+use mathlib.Core.List.{List, _∷_, _++_}
 use Prim.Native.Nat.{ℕ, _+_, _-_, _%_, _^_, _≤_, _<_}
 use native.Mathlib.Omega.{arith}
-use borrow.Author.Tests.{eq-eqb, ne-eqb, le-leb, lt-leb, lt-ltb, le-ltb, not-true, not-false}
-use lib.Dec.{eqb, ltb, leb}
+use borrow.Author.Tests.{ne-eqb, le-leb, lt-leb, lt-ltb, le-ltb, not-true, not-false}
+use lib.Dec.{eqb, ltb}
 use lib.IntN.{ℤ}
-use lib.ListN.{length, take, drop, replicate, length-replicate, replicate-append-replicate}
+use lib.ListN.{length, drop, replicate, length-replicate, replicate-append-replicate}
 use lib.Seq.{drop-at}
-use Rattle.words.specs.Made.{Grown, make, Ran}
+use Rattle.words.specs.Made.{make, Ran}
 use Rattle.words.specs.declared.Interned.{Interned}
 use Rattle.type_float.specs.Float.{sizeOf, wordOf, isSizeWord, isSize}
 use Rattle.type_float.proofs.Size.{word-size, size-ok}
 use Rattle.wellformed.specs.Fresh.{freshWords}
 use Rattle.wellformed.specs.Entry.{isFlag, floatOk}
 use Rattle.names.specs.Name.{nameEntry, wrapped}
-use Rattle.call.specs.Call.{Reply, handle, Outcome, left, accepted, refused, done, _when_}
-use Rattle.call.specs.declared.Done.{Done}
+use Rattle.call.specs.Call.{handle, left, done, _when_}
 use Rattle.call.specs.declared.Done.the-variants.{Accepted, Refused}
 use Rattle.makers.specs.Entries.{floatEntry, storedSize}
-use Rattle.makers.specs.Makers.{freshStore, freshCall}
+use Rattle.makers.specs.Makers.{freshCall}
 use Rattle.maker_calls.proofs.Fine.{size-word-ok}
 
 -- ---- fresh

@@ -3,7 +3,7 @@ use call::Done;
 use call::Made;
 use call::Number;
 ghost use mathlib.Core.Path.{_≡_};
-ghost use Prim.Native.Nat.{ℕ, _*_, _≤_, min};
+ghost use Prim.Native.Nat.{_*_, _≤_, min};
 ghost use lib.ListN.{length};
 ghost use Rattle.call.specs.Call.{left, made, told, done};
 ghost use Rattle.makers.specs.Makers.{freshCall, kindCall, getBoolCall, makeIntCall, makeFloatCall, getTupleCall, getStrCall, makeStructFrefCall, getMemPtrCall, getMemCall, getStructCall, makeAryCall};

@@ -1,7 +1,7 @@
 -- An entry that is built in a local array is the maker's. Assumes nothing.
-use mathlib.Core.Path.{_≡_, refl, sym, ap, _∙_}
+use mathlib.Core.Path.{_≡_, sym, ap, _∙_}
 use mathlib.Core.List.{List, [], _∷_, _++_, append-nil}
-use Prim.Native.Nat.{ℕ, zero, suc, _+_, _-_, _*_, _≤_, _<_, max}
+use Prim.Native.Nat.{ℕ, suc, _+_, _-_, _*_, _≤_, max}
 use native.Mathlib.Omega.{arith}
 use borrow.Rule.Slice.PartMut.{putMid}
 use lib.ListN.{length, take, drop, set, drop-of-length-le}
@@ -12,7 +12,7 @@ use mir.Val.{SFits, toZ, ofZ}
 use mir.Facts.{toZ-ofZ}
 use Rattle.words.specs.Words.{depthOf}
 use Rattle.type_float.specs.Float.{wordOf}
-use Rattle.words.specs.Made.{Grown, make, Ran}
+use Rattle.words.specs.Made.{make, Ran}
 use Rattle.words.specs.declared.Interned.{Interned}
 use Rattle.wellformed.specs.Entry.{deepest}
 use Rattle.call.specs.Handles.{word}

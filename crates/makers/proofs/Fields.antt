@@ -1,22 +1,21 @@
 -- The lent fields of a struct: words that stand four apart, and the words that are written for them. Assumes nothing.
 use mathlib.Core.Path.{_≡_, refl, sym, ap, _∙_}
-use mathlib.Core.Bool.{Bool, true, false, _&&_}
+use mathlib.Core.Bool.{Bool, true}
 use mathlib.Core.List.{List, [], _∷_, _++_, append-nil, append-assoc}
 use Prim.Native.Nat.{ℕ, zero, suc, _+_, _-_, _*_, _/_, _≤_, _<_, max}
 use native.Mathlib.Omega.{arith}
 use native.Mathlib.Numerals.{add-one}
 use borrow.Author.Tests.{leb-true}
 use borrow.Rule.Slice.PartMut.{putMid}
-use lib.Dec.{leb}
-use lib.ListN.{length, take, drop, getD, set, length-append, length-drop, drop-of-length-le}
+use lib.ListN.{length, take, drop, getD, set, length-drop, drop-of-length-le}
 use lib.Seq.{take-all, take-at, drop-at, drop-drop}
 use Rattle.words.specs.Words.{depthOf}
-use Rattle.words.specs.Made.{Grown, make, Ran}
+use Rattle.words.specs.Made.{make, Ran}
 use Rattle.words.specs.declared.Interned.{Interned}
 use Rattle.wellformed.specs.Entry.{every, all, isFlag, isAlias, deepest}
 use Rattle.wellformed.proofs.Bools.{and-left, and-right}
 use Rattle.call.specs.Handles.{word}
-use Rattle.makers.specs.Entries.{fieldCount, fieldTypes, fieldWords, ValuesFit, structEntry}
+use Rattle.makers.specs.Entries.{fieldTypes, fieldWords, ValuesFit, structEntry}
 use Rattle.makers.proofs.Built.{front-of}
 
 -- ---- words that stand apart

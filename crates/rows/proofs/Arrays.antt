@@ -1,8 +1,8 @@
 -- The rows of an array: each way through the functions gives its row. Assumes nothing.
-use mathlib.Core.Path.{_≡_, refl, sym, ap, _∙_}
-use mathlib.Core.Bool.{Bool, true, false, not, _&&_, _||_}
-use mathlib.Core.List.{List, [], _∷_, _++_}
-use Prim.Native.Nat.{ℕ, suc, _+_, _≤_, _<_}
+use mathlib.Core.Path.{_≡_, sym, _∙_}
+use mathlib.Core.Bool.{Bool, true, false, not}
+use mathlib.Core.List.{List, [], _∷_}
+use Prim.Native.Nat.{ℕ, _+_, _≤_, _<_}
 use native.Mathlib.Omega.{arith}
 use borrow.Author.Tests.{lt-ltb, le-ltb, le-leb, lt-leb, eq-eqb, ne-eqb, not-true, not-false}
 use lib.Dec.{eqb}
@@ -12,7 +12,6 @@ use lib.Seq.{length-take-le}
 use Rattle.words.specs.Table.{starts}
 use Rattle.bitset.specs.Bitset.{bitAt}
 use Rattle.wellformed.specs.Entry.{kindIn, kindAt, all, deepest}
-use Rattle.wellformed.proofs.Bools.{and-left, and-right}
 use Rattle.call.specs.Steps.{Open}
 use Rattle.call.specs.Handles.{word, kindOn}
 use Rattle.names.specs.Name.{wrapped}

@@ -1,7 +1,7 @@
 // The tests that turn a maker's call back, on a store that row 1 has passed. Each gives the number of its first row that applies, or 0.
 ghost use mathlib.Core.Path.{_≡_};
 ghost use mathlib.Core.List.{_∷_, []};
-ghost use Prim.Native.Nat.{ℕ, _<_, _≤_};
+ghost use Prim.Native.Nat.{_<_, _≤_};
 ghost use lib.ListN.{length, take};
 ghost use Rattle.bitset.specs.Bitset.{bitAt};
 ghost use Rattle.wellformed.specs.Entry.{kindIn, kindAt, isName, isType, every, all};

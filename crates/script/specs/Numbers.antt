@@ -1,6 +1,6 @@
 -- What a word of a script says as a number: "Numbers are decimal (negative ones as two's complement words) or 0x hex".
 -- A word is the list of its bytes.
-use mathlib.Core.Bool.{Bool, true, false, cond, _&&_}
+use mathlib.Core.Bool.{Bool, true, cond, _&&_}
 use mathlib.Core.List.{List, [], _∷_}
 use Prim.Native.Nat.{ℕ, _+_, _-_, _*_, _%_, _^_}
 use lib.Dec.{eqb, leb, ltb}

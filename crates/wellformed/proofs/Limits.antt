@@ -1,6 +1,6 @@
 -- Each way through `verify` gives what `wellFormed` says. Assumes nothing.
-use mathlib.Core.Path.{_≡_, refl, sym, ap, _∙_}
-use mathlib.Core.Bool.{Bool, true, false, not, _&&_}
+use mathlib.Core.Path.{_≡_, sym, _∙_}
+use mathlib.Core.Bool.{Bool, true, false, not}
 use mathlib.Core.List.{List}
 use Prim.Native.Nat.{ℕ, _-_, _≤_, _<_}
 use native.Mathlib.Omega.{arith}
@@ -9,7 +9,7 @@ use lib.ListN.{length, take, drop, getD, length-drop}
 use lib.Seq.{take-all}
 use Rattle.words.specs.Words.{eqs}
 use Rattle.wellformed.specs.Fresh.{freshWords}
-use Rattle.wellformed.specs.Form.{allZero, okEntries, wellFormed}
+use Rattle.wellformed.specs.Form.{allZero, wellFormed}
 use Rattle.wellformed.specs.Scan.{Scanned, Opened}
 
 -- the words from n on, as the code lends them

@@ -1,8 +1,8 @@
 -- The loop of `entries`: its bits are the starts passed, and the answer is the answer on what is left. Assumes nothing.
 use mathlib.Core.Path.{_≡_, refl, sym, ap, _∙_, fun-ext}
 use mathlib.Core.Bool.{Bool, true, false, not, _&&_, _||_}
-use mathlib.Core.List.{List, [], _∷_}
-use Prim.Native.Nat.{ℕ, suc, _+_, _-_, _≤_, _<_}
+use mathlib.Core.List.{List}
+use Prim.Native.Nat.{ℕ, _+_, _-_, _≤_, _<_}
 use native.Mathlib.Omega.{arith}
 use native.Mathlib.Nat.{add-sub-cancel-left}
 use borrow.Author.Tests.{eqb-true, not-true, not-false}
@@ -10,12 +10,12 @@ use lib.Dec.{eqb}
 use lib.ListN.{length, take, drop, getD, length-take, length-drop, drop-of-length-le}
 use lib.Seq.{slice, getD-take, getD-drop}
 use Rattle.words.specs.Words.{sizeOf, fills}
-use Rattle.words.specs.Table.{rows, entries, isAt, starts}
+use Rattle.words.specs.Table.{rows, entries, isAt}
 use Rattle.words.proofs.Walk.{next, over, size-pos}
 use Rattle.bitset.specs.Bitset.{bitAt, nowhere, also}
 use Rattle.wellformed.specs.Form.{headsAt, okRows, okEntries}
 use Rattle.wellformed.specs.Entry.{okEntry}
-use Rattle.wellformed.specs.Scan.{Marks, Scanned}
+use Rattle.wellformed.specs.Scan.{Scanned}
 use Rattle.wellformed.proofs.Bools.{and-false, or-false, or-turn}
 
 -- what the loop knows at its head

@@ -1,6 +1,6 @@
 -- Document 01, "The store": what an entry's words may be. `e` is the words of an entry; `heads` gives the head of the earlier entry that
 -- a handle starts.
-use mathlib.Core.Bool.{Bool, true, false, cond, _&&_, _||_}
+use mathlib.Core.Bool.{Bool, true, cond, _&&_, _||_}
 use mathlib.Core.List.{List, [], _∷_}
 use Prim.Native.Nat.{ℕ, zero, suc, _+_, _-_, _*_, _/_, _%_, _^_, max}
 use lib.ListN.{length, getD}

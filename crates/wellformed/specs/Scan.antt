@@ -3,9 +3,9 @@ use mathlib.Core.Path.{_≡_}
 use mathlib.Core.Bool.{Bool, true, false, cond, _&&_}
 use mathlib.Core.List.{List}
 use Prim.Native.Nat.{ℕ, _+_, _*_, _≤_, _<_, max}
-use lib.ListN.{length, getD, take}
+use lib.ListN.{length, take}
 use lib.Dec.{eqb}
-use Rattle.words.specs.Words.{kindOf, depthOf}
+use Rattle.words.specs.Words.{depthOf}
 use Rattle.words.specs.Table.{starts}
 use Rattle.bitset.specs.Bitset.{bitAt}
 use Rattle.wellformed.specs.Entry.{kindAt, isName, isType, isAliasFinal, every, all, deepest}

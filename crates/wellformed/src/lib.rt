@@ -1,7 +1,7 @@
 // Row 1 of the refusals: whether a list of words is well formed.
 ghost use mathlib.Core.Path.{_≡_};
-ghost use Prim.Native.Nat.{ℕ, _+_, _*_, _<_, _≤_, max, min};
-ghost use lib.ListN.{length, getD, take, drop};
+ghost use Prim.Native.Nat.{_+_, _*_, _<_, _≤_, max, min};
+ghost use lib.ListN.{length, getD};
 ghost use Rattle.words.specs.Words.{sizeOf};
 ghost use Rattle.bitset.specs.Bitset.{bitAt};
 ghost use Rattle.wellformed.specs.Entry.{zeroFilled, floatOk, kindIn, okEntry};

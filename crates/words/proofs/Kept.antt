@@ -1,13 +1,13 @@
 -- What making an entry keeps: that entries fill the used words, that no two are equal, and all that stood. Assumes nothing.
-use mathlib.Core.Path.{_≡_, refl, sym, ap, _∙_}
-use mathlib.Core.Bool.{Bool, true, false}
-use mathlib.Core.List.{List, [], _∷_, _++_, append-nil, append-assoc, List·Memᴰ, List·Memᴰ·head, Memᴰ·append-right}
-use Prim.Native.Nat.{ℕ, zero, suc, _+_, _-_, _≤_, _<_}
+use mathlib.Core.Path.{_≡_, refl, sym, _∙_}
+use mathlib.Core.Bool.{true}
+use mathlib.Core.List.{List, [], _∷_, _++_, append-nil, append-assoc, List·Memᴰ·head, Memᴰ·append-right}
+use Prim.Native.Nat.{ℕ, _+_, _-_, _≤_}
 use native.Mathlib.Omega.{arith}
-use lib.ListN.{length, take, drop, getD, length-drop, length-append}
+use lib.ListN.{length, take, drop, length-drop, length-append}
 use lib.Seq.{drop-append-le, length-take-le}
-use Rattle.words.specs.Words.{sizeOf, fills}
-use Rattle.words.specs.Table.{Row, rows, entries, firstOf, findIn, Sized, In, Own}
+use Rattle.words.specs.Words.{fills}
+use Rattle.words.specs.Table.{Row, rows, entries, findIn, Sized, In, Own}
 use Rattle.words.specs.Made.{Grown, make, Segments}
 use Rattle.words.specs.declared.Found.{Found}
 use Rattle.words.specs.declared.Found.the-variants.{At, Nothing}

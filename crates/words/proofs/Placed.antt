@@ -1,18 +1,18 @@
 -- What `intern` hands back on each of its three ways is what `make` says. Assumes nothing.
 use mathlib.Core.Path.{_≡_, refl, sym, ap, _∙_}
-use mathlib.Core.List.{List, [], _∷_, _++_, append-nil, append-assoc}
+use mathlib.Core.List.{List, _++_, append-nil, append-assoc}
 use Prim.Native.Nat.{ℕ, _+_, _-_, _≤_, _<_}
 use native.Mathlib.Omega.{arith}
 use borrow.Rule.Slice.PartMut.{putMid}
 use lib.ListN.{length, take, drop, length-drop, length-append, drop-of-length-le, take-append-drop}
 use lib.Seq.{take-all, drop-drop, length-take-le}
 use Rattle.words.specs.Table.{findIn}
-use Rattle.words.specs.Made.{Grown, make, Segments, Ran}
+use Rattle.words.specs.Made.{make, Segments, Ran}
 use Rattle.words.specs.declared.Found.{Found}
 use Rattle.words.specs.declared.Found.the-variants.{At as FoundAt, Nothing}
 use Rattle.words.specs.declared.Interned.the-variants.{At, Full}
 use Rattle.words.proofs.Extend.{Extends, ext-same, ext-by}
-use Rattle.words.proofs.Room.{Fit, fit, over}
+use Rattle.words.proofs.Room.{fit, over}
 use Rattle.words.proofs.Join.{take-past, drop-past}
 
 pub make-there : (u e : List ℕ) (h : ℕ) → findIn u e ≡ FoundAt h → make u e ≡ record { words = u; handle = h }

@@ -1,18 +1,17 @@
 -- Operations on words that have an end: the two ways one goes, and one after another. Assumes nothing.
 use mathlib.Core.Path.{_≡_, refl, sym, ap, _∙_}
 use mathlib.Core.Bool.{Bool, true, false}
-use mathlib.Core.List.{List, [], _∷_, _++_, append-assoc}
+use mathlib.Core.List.{List, _++_}
 use Prim.Native.Nat.{ℕ, _+_, _-_, _≤_, _<_}
 use native.Mathlib.Omega.{arith}
 use borrow.Author.Tests.{le-leb, lt-leb, leb-true, leb-false}
 use lib.Dec.{leb}
 use lib.ListN.{length, take, drop, length-append, length-drop}
-use lib.Seq.{take-at, take-take, take-append-le, drop-append-add}
+use lib.Seq.{take-at, take-take, drop-append-add}
 use Rattle.words.specs.Made.{Grown, Ran, answerIn}
 use Rattle.words.specs.declared.Interned.{Interned}
 use Rattle.words.specs.declared.Interned.the-variants.{At, Full}
 use Rattle.words.proofs.Extend.{Extends, ext-length, ext-take}
-use Rattle.words.proofs.Join.{drop-past}
 
 -- what is known where the grown words fit
 pub record Fit (g : Grown) (ws ws′ : List ℕ) (h used : ℕ) : Type 0 where

@@ -1,13 +1,13 @@
 -- The search in two segments: first in `old`, then in `new`. Assumes nothing.
 use mathlib.Core.Path.{_≡_, refl, sym, ap, _∙_}
-use mathlib.Core.Bool.{Bool, true, false}
+use mathlib.Core.Bool.{true}
 use mathlib.Core.List.{List, [], _∷_, _++_}
-use Prim.Native.Nat.{ℕ, _+_, _-_, _<_, _≤_}
+use Prim.Native.Nat.{ℕ, _+_, _-_}
 use native.Mathlib.Omega.{arith}
 use lib.ListN.{length, take, drop, length-drop}
 use lib.Seq.{slice, take-length, drop-append-le}
 use Rattle.words.specs.Words.{fills}
-use Rattle.words.specs.Table.{Row, rows, entries, firstOf, findIn}
+use Rattle.words.specs.Table.{rows, entries, firstOf, findIn}
 use Rattle.words.specs.Made.{Segments}
 use Rattle.words.specs.declared.Found.{Found}
 use Rattle.words.specs.declared.Found.the-variants.{At, Nothing}

@@ -1,20 +1,18 @@
 -- The walk over a store's entries: what one step does to `fills` and `rows`. Assumes nothing.
 use mathlib.Core.Path.{_≡_, refl, sym, ap, _∙_}
-use mathlib.Core.Bool.{Bool, true, false, cond, _&&_}
-use mathlib.Core.List.{List, [], _∷_, _++_}
-use Prim.Native.Nat.{ℕ, zero, suc, pred, _+_, _-_, _*_, _/_, _%_, _≤_, _<_}
+use mathlib.Core.Bool.{Bool, true, false, cond}
+use mathlib.Core.List.{List, [], _∷_}
+use Prim.Native.Nat.{ℕ, zero, suc, pred, _+_, _-_, _≤_, _<_}
 use native.Mathlib.Omega.{arith}
-use native.Mathlib.Nat.{add-zero, suc-add, add-suc}
-use native.Mathlib.Numerals.{add-one}
+use native.Mathlib.Nat.{add-zero}
 use lib.ListN.{length, take, drop, getD}
 use Rattle.words.specs.declared.Found.{Found}
 use Rattle.words.specs.declared.Found.the-variants.{At, Nothing}
 use native.Mathlib.Nat.{add-sub-cancel-left}
 use lib.ListN.{drop-of-length-le, length-take}
-use lib.Seq.{slice, slice-cons, drop-drop, length-slice, drop-cons, take-take}
-use lib.Dec.{eqb, leb}
+use lib.Seq.{slice, slice-cons, drop-drop, length-slice, take-take}
 use Rattle.words.specs.Words.{sizeOf, eqs, fills}
-use Rattle.words.specs.Table.{Row, rows, firstOf}
+use Rattle.words.specs.Table.{rows, firstOf}
 
 -- no entry is empty
 pub size-pos : (w : ℕ) → 0 < sizeOf w

@@ -1,4 +1,4 @@
--- `bits::clear` meets its contract.
+-- `bitset::clear` meets its contract.
 use mathlib.Core.Path.{_≡_, refl}
 use Prim.Native.Nat.{ℕ, _≤_, _<_, _-_}
 use borrow.Author.Needs.{needs}
@@ -6,8 +6,6 @@ use lib.ListN.{length, getD, length-set}
 use Rattle.bitset.proofs.Bit.{one-more, all-zero}
 use Rattle.bitset.proofs.clear.Statement.{statement}
 use Rattle.bitset.proofs.clear.Tie as tie
-use Rattle.bitset.proofs.clear.Reads as reads
-use Rattle.bitset.proofs.clear.Lts as lts
 
 abbrev Inv-loop : tie.InvT-loop
 Inv-loop bits₀ k₀ bits k = (k ≤ length bits) × (length bits ≡ length bits₀) × ((i : ℕ) → i < k → getD bits i 0 ≡ 0)
@@ -15,35 +13,27 @@ Inv-loop bits₀ k₀ bits k = (k ≤ length bits) × (length bits ≡ length bi
 abbrev μ-loop : tie.MeasureT-loop
 μ-loop bits₀ k₀ bits k = length bits - k
 
--- src/lib.rt:29:5
 loop-holds : tie.Need-loop-holds Inv-loop μ-loop
 loop-holds c = (search needs, refl, search needs)
 
--- src/lib.rt:30:9
 mul-bits : tie.Need-mul-bits Inv-loop μ-loop
 mul-bits c = search needs
 
--- src/lib.rt:30:9
 slice-write-bits : tie.Need-slice-write-bits Inv-loop μ-loop
 slice-write-bits c = search needs
 
--- src/lib.rt:31:9
 add-k : tie.Need-add-k Inv-loop μ-loop
 add-k c = search needs
 
--- src/lib.rt:29:5
 loop-less : tie.Need-loop-less Inv-loop μ-loop
 loop-less c = simp length-set (search needs)
 
--- src/lib.rt:29:5
 loop-again : tie.Need-loop-again Inv-loop μ-loop
 loop-again c = (simp length-set (search needs), simp length-set (search needs), search one-more)
 
--- src/lib.rt:25:1
 same-length : tie.Need-same-length Inv-loop μ-loop
 same-length c = search needs
 
--- src/lib.rt:25:1
 returns : tie.Need-returns Inv-loop μ-loop
 returns c = search all-zero
 

@@ -1,36 +1,27 @@
--- `bits::mark` meets its contract.
+-- `bitset::mark` meets its contract.
 use Rattle.bitset.proofs.Bit.{marks}
 use borrow.Author.Needs.{needs}
 use Rattle.bitset.proofs.mark.Statement.{statement}
 use Rattle.bitset.proofs.mark.Tie as tie
-use Rattle.bitset.proofs.mark.Reads as reads
-use Rattle.bitset.proofs.mark.Lts as lts
 
--- src/lib.rt:22:15
 mul-bits : tie.Need-mul-bits
 mul-bits c = search needs
 
--- src/lib.rt:22:15
 slice-read-bits : tie.Need-slice-read-bits
 slice-read-bits c = search needs
 
--- src/lib.rt:22:26
 shl-bits : tie.Need-shl-bits
 shl-bits c = search needs
 
--- src/lib.rt:22:5
 mul-bits-2 : tie.Need-mul-bits-2
 mul-bits-2 c = search needs
 
--- src/lib.rt:22:5
 slice-write-bits : tie.Need-slice-write-bits
 slice-write-bits c = search needs
 
--- src/lib.rt:16:1
 same-length : tie.Need-same-length
 same-length c = search needs
 
--- src/lib.rt:16:1
 returns : tie.Need-returns
 returns c = marks _ _ (c .before .pre)
 

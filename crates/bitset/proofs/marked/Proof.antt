@@ -1,25 +1,19 @@
--- `bits::marked` meets its contract.
+-- `bitset::marked` meets its contract.
 use mathlib.Core.Path.{refl}
 use Rattle.bitset.specs.Bitset.{bitAt}
 use borrow.Author.Needs.{needs}
 use Rattle.bitset.proofs.marked.Statement.{statement}
 use Rattle.bitset.proofs.marked.Tie as tie
-use Rattle.bitset.proofs.marked.Reads as reads
-use Rattle.bitset.proofs.marked.Lts as lts
 
--- src/lib.rt:13:6
 mul-result : tie.Need-mul-result
 mul-result c = search needs
 
--- src/lib.rt:13:6
 shared-slice-read-result : tie.Need-shared-slice-read-result
 shared-slice-read-result c = search needs
 
--- src/lib.rt:13:6
 shr-result : tie.Need-shr-result
 shr-result c = search needs
 
--- src/lib.rt:7:1
 returns : tie.Need-returns
 unfolding bitAt
 returns c = refl

@@ -1,8 +1,8 @@
 -- `makers::field_words` meets its contract. The invariant: the words of i fields stand at the front, and behind them is what was there.
-use mathlib.Core.Path.{_≡_, refl, _∙_}
+use mathlib.Core.Path.{_≡_, refl}
 use mathlib.Core.List.{_++_}
 use denote.Ref.{now}
-use Prim.Native.Nat.{_+_, _*_, _/_, _≤_, _<_, _-_}
+use Prim.Native.Nat.{_+_, _*_, _≤_, _-_}
 use native.Mathlib.Omega.{arith}
 use lib.ListN.{length, drop}
 use Rattle.makers.specs.Entries.{fieldWords}

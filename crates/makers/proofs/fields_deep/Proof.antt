@@ -1,5 +1,5 @@
 -- `makers::fields_deep` meets its contract. The invariant: the deepest of all is the deeper of the depth so far and what is left.
-use mathlib.Core.Path.{_≡_, refl}
+use mathlib.Core.Path.{_≡_}
 use mathlib.Core.List.{_++_}
 use Prim.Native.Nat.{_+_, _*_, _/_, _≤_, _<_, _-_, max}
 use lib.ListN.{length, take}

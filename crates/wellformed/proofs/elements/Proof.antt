@@ -1,6 +1,6 @@
 -- `wellformed::elements` meets its contract. The invariant: the answer is the answer on the parts from i on, from the depth so far.
 use mathlib.Core.Path.{_≡_, refl}
-use Prim.Native.Nat.{_+_, _≤_, _-_}
+use Prim.Native.Nat.{_≤_, _-_}
 use lib.ListN.{length, drop}
 use Rattle.bitset.specs.Bitset.{bitAt}
 use Rattle.wellformed.specs.Form.{headsAt}

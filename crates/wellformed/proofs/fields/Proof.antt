@@ -1,6 +1,6 @@
 -- `wellformed::fields` meets its contract. The invariant: the answer is the answer on the j fields from i on, from the depth so far.
 use mathlib.Core.Path.{_≡_, refl}
-use Prim.Native.Nat.{_+_, _*_, _≤_, _-_}
+use Prim.Native.Nat.{_+_, _*_, _-_}
 use lib.ListN.{length}
 use Rattle.bitset.specs.Bitset.{bitAt}
 use Rattle.wellformed.specs.Form.{headsAt}

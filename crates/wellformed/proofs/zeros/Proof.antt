@@ -1,4 +1,4 @@
--- `row1::zeros` meets its contract. The invariant: the answer is the answer on what is left.
+-- `wellformed::zeros` meets its contract. The invariant: the answer is the answer on what is left.
 use mathlib.Core.Path.{_≡_, refl}
 use Prim.Native.Nat.{_≤_, _-_}
 use borrow.Author.Needs.{needs}
@@ -7,8 +7,6 @@ use Rattle.wellformed.specs.Form.{allZero}
 use Rattle.wellformed.proofs.Zero.{not-zero, a-zero, no-more}
 use Rattle.wellformed.proofs.zeros.Statement.{statement}
 use Rattle.wellformed.proofs.zeros.Tie as tie
-use Rattle.wellformed.proofs.zeros.Reads as reads
-use Rattle.wellformed.proofs.zeros.Lts as lts
 
 abbrev Inv-loop : tie.InvT-loop
 Inv-loop a i₀ i = (i ≤ length a) × (allZero a ≡ allZero (drop i a))
@@ -16,35 +14,27 @@ Inv-loop a i₀ i = (i ≤ length a) × (allZero a ≡ allZero (drop i a))
 abbrev μ-loop : tie.MeasureT-loop
 μ-loop a i₀ i = length a - i
 
--- src/lib.rt:20:5
 loop-holds : tie.Need-loop-holds Inv-loop μ-loop
 loop-holds c = (search needs, refl)
 
--- src/lib.rt:21:12
 mul-if1 : tie.Need-mul-if1 Inv-loop μ-loop
 mul-if1 c = search needs
 
--- src/lib.rt:21:12
 shared-slice-read-if1 : tie.Need-shared-slice-read-if1 Inv-loop μ-loop
 shared-slice-read-if1 c = search needs
 
--- src/lib.rt:22:13
 returns : tie.Need-returns Inv-loop μ-loop
 returns c = search not-zero
 
--- src/lib.rt:24:9
 add-i : tie.Need-add-i Inv-loop μ-loop
 add-i c = search needs
 
--- src/lib.rt:20:5
 loop-less : tie.Need-loop-less Inv-loop μ-loop
 loop-less c = search needs
 
--- src/lib.rt:20:5
 loop-again : tie.Need-loop-again Inv-loop μ-loop
 loop-again c = (search needs, search a-zero)
 
--- src/lib.rt:16:1
 returns-2 : tie.Need-returns-2 Inv-loop μ-loop
 returns-2 c = search no-more
 

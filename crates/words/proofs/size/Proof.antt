@@ -1,34 +1,26 @@
--- `store::size` meets its contract: the arm that was taken says which tests of `wordsAfter` pass.
+-- `words::size` meets its contract: the arm that was taken says which tests of `wordsAfter` pass.
 use borrow.Author.Needs.{needs}
 use mathlib.Core.Path.{sym}
 use Rattle.words.proofs.Sizes.{name-size, tuple-size, struct-size, fref-size, pair-size, plain-size, other-size}
 use native.Mathlib.Omega.{arith}
 use Rattle.words.proofs.size.Statement.{statement}
 use Rattle.words.proofs.size.Tie as tie
-use Rattle.words.proofs.size.Reads as reads
-use Rattle.words.proofs.size.Lts as lts
 
--- src/lib.rt:21:19
 add-result : tie.Need-add-result
 add-result c = search needs
 
--- src/lib.rt:21:14
 add-result-2 : tie.Need-add-result-2
 add-result-2 c = search needs
 
--- src/lib.rt:23:14
 add-result-3 : tie.Need-add-result-3
 add-result-3 c = search needs
 
--- src/lib.rt:24:18
 mul-result : tie.Need-mul-result
 mul-result c = search needs
 
--- src/lib.rt:24:14
 add-result-4 : tie.Need-add-result-4
 add-result-4 c = search needs
 
--- src/lib.rt:15:1
 returns : tie.Need-returns
 returns c = sym (name-size _ (c .match .keys1))
 

@@ -1,40 +1,30 @@
--- `store::word` meets its contract.
+-- `words::word` meets its contract.
 use Rattle.words.proofs.Join.{in-first, in-second, in-none}
 use borrow.Author.Needs.{needs}
 use Rattle.words.proofs.word.Statement.{statement}
 use Rattle.words.proofs.word.Tie as tie
-use Rattle.words.proofs.word.Reads as reads
-use Rattle.words.proofs.word.Lts as lts
 
--- src/lib.rt:57:16
 mul-result : tie.Need-mul-result
 mul-result c = search needs
 
--- src/lib.rt:57:16
 shared-slice-read-result : tie.Need-shared-slice-read-result
 shared-slice-read-result c = search needs
 
--- src/lib.rt:57:9
 returns : tie.Need-returns
 returns c = search in-first
 
--- src/lib.rt:60:20
 sub-result : tie.Need-sub-result
 sub-result c = search needs
 
--- src/lib.rt:60:16
 mul-result-2 : tie.Need-mul-result-2
 mul-result-2 c = search needs
 
--- src/lib.rt:60:16
 shared-slice-read-result-2 : tie.Need-shared-slice-read-result-2
 shared-slice-read-result-2 c = search needs
 
--- src/lib.rt:60:9
 returns-2 : tie.Need-returns-2
 returns-2 c = search in-second
 
--- src/lib.rt:52:1
 returns-3 : tie.Need-returns-3
 returns-3 c = search in-none
 

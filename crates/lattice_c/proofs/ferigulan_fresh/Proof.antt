@@ -1,0 +1,20 @@
+-- `lattice_c::ferigulan_fresh` meets its contract.
+use Rattle.lattice_c.proofs.Told.{coded}
+use borrow.Author.Needs.{needs}
+use Rattle.lattice_c.proofs.ferigulan_fresh.Statement.{statement}
+use Rattle.lattice_c.proofs.ferigulan_fresh.Tie as tie
+
+fresh-requires : tie.Need-fresh-requires
+fresh-requires c κs = search needs
+
+of-done-requires : tie.Need-of-done-requires
+of-done-requires c κs = search needs
+
+same-length : tie.Need-same-length
+same-length c = search needs
+
+returns : tie.Need-returns
+returns c = search coded
+
+pub ferigulan-fresh-spec : {M : Type 1} → statement M
+ferigulan-fresh-spec = tie.close (tie.spec fresh-requires of-done-requires same-length returns)

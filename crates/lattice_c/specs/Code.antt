@@ -1,0 +1,17 @@
+-- A reply as one word, for callers in C or Rust.
+use mathlib.Core.Path.{_≡_}
+use mathlib.Core.List.{List}
+use Prim.Native.Nat.{ℕ, _+_, _^_}
+use Rattle.call.specs.Call.{Reply, handle, number, accepted, refused, Outcome}
+
+-- a handle or number is itself, accepted is 0, and refusal n is 2 to the 63 + n
+abbrev pub code : Reply → ℕ
+code (handle h) = h
+code (number n) = n
+code accepted = 0
+code (refused n) = 2 ^ 63 + n
+
+-- r and ws are what is told of an outcome, and the words that it leaves
+pub record Coded (o : Outcome) (r : ℕ) (ws : List ℕ) : Type 0 where
+  pub reply : r ≡ code (o .reply)
+  pub words : ws ≡ o .words
