@@ -7,3 +7,4 @@ pub mod Kept
 pub mod Later
 pub mod Array
 pub mod Fresh
+pub mod Examples

@@ -121,7 +121,14 @@ pub extern "C" fn ferigulan_get_struct(words: &mut [u64], name: u64, fields: &[u
 }
 
 #[no_mangle]
-pub extern "C" fn ferigulan_make_ary(words: &mut [u64], len: u64, len_alias: u64, body: u64, body_alias: u64, text: &[u8]) -> u64
+pub extern "C" fn ferigulan_make_ary(
+    words: &mut [u64],
+    len: u64,
+    len_alias: u64,
+    body: u64,
+    body_alias: u64,
+    text: &[u8],
+) -> u64
     ensures { λ r. ⌜ Coded (makeAryCall len «len_alias» body «body_alias» (now (text .entry)) (now (words .entry))) r (now (words .exit)) ⌝ }
 {
     of_made(types::make_ary(words, len, len_alias, body, body_alias, text))

@@ -11,7 +11,7 @@ use lib.ListN.{length, drop, replicate, length-replicate, replicate-append-repli
 use lib.Seq.{drop-at}
 use Rattle.words.specs.Made.{make, Ran}
 use Rattle.words.specs.declared.Interned.{Interned}
-use Rattle.type_float.specs.Float.{sizeOf, wordOf, isSizeWord, isSize}
+use Rattle.type_float.specs.Float.{sizeFrom, wordOf, isSizeWord, isSize}
 use Rattle.type_float.proofs.Size.{word-size, size-ok}
 use Rattle.wellformed.specs.Fresh.{freshWords}
 use Rattle.wellformed.specs.Entry.{isFlag, floatOk}
@@ -90,9 +90,9 @@ module _ (sz bits size : ℕ) (is : size ≡ (sz + 64) % 2 ^ 64) (t : Bool) (it 
     pub size-known : isSizeWord size ≡ true
     size-known = size-word-ok size bits (sym it ∙ not-false t y)
 
-    pub size-fits : (z : ℤ) → z ≡ sizeOf size → isSize z ≡ true
+    pub size-fits : (z : ℤ) → z ≡ sizeFrom size → isSize z ≡ true
     size-fits z e = rw e (size-ok size size-known)
 
-    pub float-stored : (z : ℤ) → z ≡ sizeOf size → (kept : ℕ) (u ws ws′ : List ℕ) (r : Interned) → Ran kept (make u (floatEntry (wordOf z) bits)) ws ws′ r
+    pub float-stored : (z : ℤ) → z ≡ sizeFrom size → (kept : ℕ) (u ws ws′ : List ℕ) (r : Interned) → Ran kept (make u (floatEntry (wordOf z) bits)) ws ws′ r
         → Ran kept (make u (floatEntry (storedSize sz) bits)) ws ws′ r
     float-stored z e kept u ws ws′ r ran = let q : wordOf z ≡ storedSize sz = ap wordOf e ∙ word-size size size-known ∙ is in rw q at ran

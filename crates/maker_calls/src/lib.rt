@@ -191,7 +191,15 @@ pub fn struct_in(words: &mut [u64], bits: &mut [u64], name: u64, fields: &[u64])
     call::finish(words, used, r)
 }
 
-pub fn array_in(words: &mut [u64], bits: &mut [u64], len: u64, len_alias: u64, body: u64, body_alias: u64, text: &[u8]) -> Made
+pub fn array_in(
+    words: &mut [u64],
+    bits: &mut [u64],
+    len: u64,
+    len_alias: u64,
+    body: u64,
+    body_alias: u64,
+    text: &[u8],
+) -> Made
     requires { ⌜ min (length (now words)) 1048576 ≤ 64 * length (now bits) ⌝ }
     ensures { λ r. ⌜ left (made r) (now (words .exit)) ≡ makeAryCall len «len_alias» body «body_alias» (now (text .entry)) (now (words .entry)) ⌝ }
 {

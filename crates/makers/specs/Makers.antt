@@ -140,9 +140,9 @@ bodyName = 91 ∷ 93 ∷ []
 abbrev pub makeAry : ℕ → ℕ → ℕ → ℕ → List ℕ → List ℕ → Grown
 makeAry len lenAlias body bodyAlias text u =
     let name = make u (nameEntry (wrapped true text)) in
-    let length = make (name .words) (nameEntry lengthName) in
-    let elements = make (length .words) (nameEntry bodyName) in
-    make (elements .words) (structEntry (name .handle) (length .handle ∷ len ∷ lenAlias ∷ 1 ∷ elements .handle ∷ body ∷ bodyAlias ∷ 0 ∷ []) (elements .words))
+    let first = make (name .words) (nameEntry lengthName) in
+    let second = make (first .words) (nameEntry bodyName) in
+    make (second .words) (structEntry (name .handle) (first .handle ∷ len ∷ lenAlias ∷ 1 ∷ second .handle ∷ body ∷ bodyAlias ∷ 0 ∷ []) (second .words))
 
 abbrev pub makeAryCall : ℕ → ℕ → ℕ → ℕ → List ℕ → List ℕ → Outcome
 makeAryCall len lenAlias body bodyAlias text = call (aryRows len lenAlias body bodyAlias text) (makeAry len lenAlias body bodyAlias text)

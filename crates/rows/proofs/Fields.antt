@@ -50,7 +50,7 @@ module _ (u names types : List ℕ) (name : ℕ) where
 -- ---- the rows
 
 module _ (ws bits : List ℕ) (used : ℕ) (o : Open ws bits used) (name : ℕ) (fs : List ℕ) (s : Bool)
-  (is : s ≡ anyNot (all (bitAt bits) (name ∷ [])) (all (bitAt bits) (fieldNames fs)) (all (bitAt bits) (fieldTypes fs))) where
+    (is : s ≡ anyNot (all (bitAt bits) (name ∷ [])) (all (bitAt bits) (fieldNames fs)) (all (bitAt bits) (fieldTypes fs))) where
   abbrev u : List ℕ
   u = take used ws
 

@@ -62,7 +62,15 @@ pub fn fref_rows(words: &[u64], used: usize, bits: &[u64], name: u64) -> u8
 }
 
 // Of an entry around one type, whose kind is from low to high.
-pub fn part_rows(words: &[u64], used: usize, bits: &[u64], h: u64, low: u64, high: u64, taken: bool) -> u8
+pub fn part_rows(
+    words: &[u64],
+    used: usize,
+    bits: &[u64],
+    h: u64,
+    low: u64,
+    high: u64,
+    taken: bool,
+) -> u8
     requires { ⌜ Open (now words) (now bits) used ⌝ }
     ensures { λ r. ⌜ r ≡ partRows (kindIn low high) taken h (take used (now (words .entry))) ⌝ }
 {
@@ -204,7 +212,16 @@ fn never_nil(words: &[u64], used: usize, body: u64) -> bool
     words::word(&none, words, used, body as usize + 2) == 0
 }
 
-pub fn ary_rows(words: &[u64], used: usize, bits: &[u64], len: u64, len_alias: u64, body: u64, body_alias: u64, text: &[u8]) -> u8
+pub fn ary_rows(
+    words: &[u64],
+    used: usize,
+    bits: &[u64],
+    len: u64,
+    len_alias: u64,
+    body: u64,
+    body_alias: u64,
+    text: &[u8],
+) -> u8
     requires { ⌜ Open (now words) (now bits) used ⌝ }
     ensures { λ r. ⌜ r ≡ aryRows len «len_alias» body «body_alias» (now (text .entry)) (take used (now (words .entry))) ⌝ }
 {

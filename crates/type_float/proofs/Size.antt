@@ -10,7 +10,7 @@ use borrow.Author.Tests.{eqb-true, eqb-false, eq-eqb, ne-eqb}
 use mir.Syntax.{w8, w64}
 use mir.Val.{Fits, SFits, toZ, ofZ}
 use mir.Facts.{sfits-lit, fits-lit}
-use Rattle.type_float.specs.Float.{sizeOf, wordOf, isSizeWord, isSize}
+use Rattle.type_float.specs.Float.{sizeFrom, wordOf, isSizeWord, isSize}
 
 -- what a 64-bit word gives back of a number
 abbrev read : ℤ → ℤ
@@ -50,12 +50,12 @@ each-size P a b c d e (negsuc n) ok =
     at Q n 31 b (λ i. at Q n 63 a (λ j. never (simp (not-zero n, next n 31 i, next n 63 j) at ok)))
 
 -- a size's word is the word of that size
-pub word-size : (w : ℕ) → isSizeWord w ≡ true → wordOf (sizeOf w) ≡ w
-word-size = each-word (λ w. wordOf (sizeOf w) ≡ w) refl refl refl refl refl
+pub word-size : (w : ℕ) → isSizeWord w ≡ true → wordOf (sizeFrom w) ≡ w
+word-size = each-word (λ w. wordOf (sizeFrom w) ≡ w) refl refl refl refl refl
 
 -- and stands for a size
-pub size-ok : (w : ℕ) → isSizeWord w ≡ true → isSize (sizeOf w) ≡ true
-size-ok = each-word (λ w. isSize (sizeOf w) ≡ true) refl refl refl refl refl
+pub size-ok : (w : ℕ) → isSizeWord w ≡ true → isSize (sizeFrom w) ≡ true
+size-ok = each-word (λ w. isSize (sizeFrom w) ≡ true) refl refl refl refl refl
 
 -- ---- from a word to its size, as the code computes it
 
@@ -71,8 +71,8 @@ less-fits = each-word (λ w. SFits w64 (less w)) (sfits-lit tt) (sfits-lit tt) (
 pub size-fits : (w : ℕ) → isSizeWord w ≡ true → SFits w8 (read (less w))
 size-fits = each-word (λ w. SFits w8 (read (less w))) (sfits-lit tt) (sfits-lit tt) (sfits-lit tt) (sfits-lit tt) (sfits-lit tt)
 
-pub size-is : (w : ℕ) → isSizeWord w ≡ true → toZ w8 (ofZ w8 (read (less w))) ≡ sizeOf w
-size-is = each-word (λ w. toZ w8 (ofZ w8 (read (less w))) ≡ sizeOf w) refl refl refl refl refl
+pub size-is : (w : ℕ) → isSizeWord w ≡ true → toZ w8 (ofZ w8 (read (less w))) ≡ sizeFrom w
+size-is = each-word (λ w. toZ w8 (ofZ w8 (read (less w))) ≡ sizeFrom w) refl refl refl refl refl
 
 -- ---- and from a size to its word
 

@@ -9,8 +9,8 @@ use Rattle.type_float.specs.declared.Reading.{Reading}
 use Rattle.type_float.specs.declared.Reading.the-variants.{Constant, Sized}
 
 -- the size that a stored word stands for (an entry keeps "sz + 64")
-abbrev pub sizeOf : ℕ → ℤ
-sizeOf w = pos w -ℤ pos 64
+abbrev pub sizeFrom : ℕ → ℤ
+sizeFrom w = pos w -ℤ pos 64
 
 -- the word that is stored for a size
 abbrev pub wordOf : ℤ → ℕ

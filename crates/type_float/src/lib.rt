@@ -3,7 +3,7 @@
 ghost use mathlib.Core.Path.{_≡_};
 ghost use mathlib.Core.Bool.{true};
 ghost use lib.Ieee.{nanBits, binary64, ofBits};
-ghost use Rattle.type_float.specs.Float.{sizeOf, wordOf, isSizeWord, isSize, readingOf, valueOf};
+ghost use Rattle.type_float.specs.Float.{sizeFrom, wordOf, isSizeWord, isSize, readingOf, valueOf};
 ghost use Rattle.type_float.specs.Single.{isSingle};
 
 // A float's size and constant.
@@ -38,7 +38,7 @@ pub fn double(bits: u64) -> f64
 // The float of an entry's two words.
 pub fn float_of(size: u64, bits: u64) -> Float
     requires { ⌜ isSizeWord size ≡ true ⌝ }
-    ensures { λ r. ⌜ (r .sz ≡ sizeOf size) × (r .con ≡ ofBits binary64 bits) ⌝ }
+    ensures { λ r. ⌜ (r .sz ≡ sizeFrom size) × (r .con ≡ ofBits binary64 bits) ⌝ }
 {
     Float {
         sz: (size as i64 - 64) as i8,

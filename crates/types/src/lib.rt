@@ -107,7 +107,14 @@ pub fn get_struct(words: &mut [u64], name: u64, fields: &[u64]) -> Made
 }
 
 // An array struct, whose name is the lent text in brackets.
-pub fn make_ary(words: &mut [u64], len: u64, len_alias: u64, body: u64, body_alias: u64, text: &[u8]) -> Made
+pub fn make_ary(
+    words: &mut [u64],
+    len: u64,
+    len_alias: u64,
+    body: u64,
+    body_alias: u64,
+    text: &[u8],
+) -> Made
     ensures { λ r. ⌜ left (made r) (now (words .exit)) ≡ makeAryCall len «len_alias» body «body_alias» (now (text .entry)) (now (words .entry)) ⌝ }
 {
     if words.len() <= 4096 {
