@@ -1,94 +1,11 @@
-// The makers' calls, on any words whatever. Those on handles take the bits that row 1 marks the entries in; `types` lends them.
-use call::Done;
+// The calls that take handles, on any words whatever. Each takes the bits that row 1 marks the entries in; `types` lends them.
 use call::Made;
 use call::Number;
 ghost use mathlib.Core.Path.{_≡_};
 ghost use Prim.Native.Nat.{_*_, _≤_, min};
 ghost use lib.ListN.{length};
-ghost use Rattle.call.specs.Call.{left, made, told, done};
-ghost use Rattle.makers.specs.Makers.{freshCall, kindCall, getBoolCall, makeIntCall, makeFloatCall, getTupleCall, getStrCall, makeStructFrefCall, getMemPtrCall, getMemCall, getStructCall, makeAryCall};
-
-// ---- the store
-
-// Writes a fresh store and zeroes the rest.
-
-pub fn fresh(words: &mut [u64]) -> Done
-    ensures { λ r. ⌜ left (done r) (now (words .exit)) ≡ freshCall (now (words .entry)) ⌝ }
-{
-    if words.len() < 94 {
-        return Done::Refused(1);
-    }
-    if words.len() > 1048576 {
-        return Done::Refused(1);
-    }
-    call::clear(words);
-    makers::headed(words, 94, &wellformed::FRESH);
-    Done::Accepted
-}
-
-// ---- values
-
-pub fn get_bool(words: &[u64], value: u64) -> Made
-    ensures { λ r. ⌜ left (made r) (now (words .entry)) ≡ getBoolCall value (now (words .entry)) ⌝ }
-{
-    let used = call::begin_plain(words);
-    if used == 0 {
-        return Made::Refused(1);
-    }
-    if value > 1 {
-        return Made::Refused(4);
-    }
-    if value == 0 {
-        return Made::Handle(9);
-    }
-    Made::Handle(12)
-}
-
-pub fn make_int(words: &mut [u64], min: u64, max: u64) -> Made
-    ensures { λ r. ⌜ left (made r) (now (words .exit)) ≡ makeIntCall min max (now (words .entry)) ⌝ }
-{
-    let used = call::begin_plain(words);
-    if used == 0 {
-        return Made::Refused(1);
-    }
-    let none = [0u64; 0];
-    let r = makers::int(&none, words, used, min, max);
-    call::finish(words, used, r)
-}
-
-pub fn make_float(words: &mut [u64], sz: u64, bits: u64) -> Made
-    ensures { λ r. ⌜ left (made r) (now (words .exit)) ≡ makeFloatCall sz bits (now (words .entry)) ⌝ }
-{
-    let used = call::begin_plain(words);
-    if used == 0 {
-        return Made::Refused(1);
-    }
-    let size = std::num::wrapping_add_u64(sz, 64);
-    if !wellformed::float_ok(size, bits) {
-        return Made::Refused(4);
-    }
-    let f = type_float::float_of(size, bits);
-    let none = [0u64; 0];
-    let r = makers::float(&none, words, used, f, bits);
-    call::finish(words, used, r)
-}
-
-pub fn get_str(words: &mut [u64], name: &[u8]) -> Made
-    ensures { λ r. ⌜ left (made r) (now (words .exit)) ≡ getStrCall (now (name .entry)) (now (words .entry)) ⌝ }
-{
-    let used = call::begin_plain(words);
-    if used == 0 {
-        return Made::Refused(1);
-    }
-    if name.len() > 255 {
-        return Made::Refused(5);
-    }
-    let none = [0u64; 0];
-    let r = names::intern_name(&none, words, used, name, false);
-    call::finish(words, used, r)
-}
-
-// ---- calls on handles
+ghost use Rattle.call.specs.Call.{left, made, told};
+ghost use Rattle.makers.specs.Makers.{kindCall, getTupleCall, makeStructFrefCall, getMemPtrCall, getMemCall, getStructCall, makeAryCall};
 
 pub fn kind_in(words: &[u64], bits: &mut [u64], h: u64) -> Number
     requires { ⌜ min (length (now words)) 1048576 ≤ 64 * length (now bits) ⌝ }

@@ -13,7 +13,7 @@ ghost use Rattle.makers.specs.Makers.{freshCall, kindCall, getBoolCall, getIntC
 pub fn fresh(words: &mut [u64]) -> Done
     ensures { λ r. ⌜ left (done r) (now (words .exit)) ≡ freshCall (now (words .entry)) ⌝ }
 {
-    maker_calls::fresh(words)
+    value_calls::fresh(words)
 }
 
 // The kind of a type, which the Rust's casts stand for.
@@ -36,35 +36,35 @@ pub fn kind(words: &[u64], h: u64) -> Number
 pub fn get_bool(words: &[u64], value: u64) -> Made
     ensures { λ r. ⌜ left (made r) (now (words .entry)) ≡ getBoolCall value (now (words .entry)) ⌝ }
 {
-    maker_calls::get_bool(words, value)
+    value_calls::get_bool(words, value)
 }
 
 // The Int of one value.
 pub fn get_int(words: &mut [u64], value: u64) -> Made
     ensures { λ r. ⌜ left (made r) (now (words .exit)) ≡ getIntCall value (now (words .entry)) ⌝ }
 {
-    maker_calls::make_int(words, value, value)
+    value_calls::make_int(words, value, value)
 }
 
 // The Int of a range, high ones included.
 pub fn make_int(words: &mut [u64], min: u64, max: u64) -> Made
     ensures { λ r. ⌜ left (made r) (now (words .exit)) ≡ makeIntCall min max (now (words .entry)) ⌝ }
 {
-    maker_calls::make_int(words, min, max)
+    value_calls::make_int(words, min, max)
 }
 
 // The Float of a constant, by its bits.
 pub fn get_float(words: &mut [u64], bits: u64) -> Made
     ensures { λ r. ⌜ left (made r) (now (words .exit)) ≡ getFloatCall bits (now (words .entry)) ⌝ }
 {
-    maker_calls::make_float(words, 0, bits)
+    value_calls::make_float(words, 0, bits)
 }
 
 // The Float of a size, or of a constant (size 0), by its bits.
 pub fn make_float(words: &mut [u64], sz: u64, bits: u64) -> Made
     ensures { λ r. ⌜ left (made r) (now (words .exit)) ≡ makeFloatCall sz bits (now (words .entry)) ⌝ }
 {
-    maker_calls::make_float(words, sz, bits)
+    value_calls::make_float(words, sz, bits)
 }
 
 // A tuple of the types whose handles are lent.
@@ -87,7 +87,7 @@ pub fn get_tuple(words: &mut [u64], types: &[u64]) -> Made
 pub fn get_str(words: &mut [u64], name: &[u8]) -> Made
     ensures { λ r. ⌜ left (made r) (now (words .exit)) ≡ getStrCall (now (name .entry)) (now (words .entry)) ⌝ }
 {
-    maker_calls::get_str(words, name)
+    value_calls::get_str(words, name)
 }
 
 // A struct of a name and lent fields, four words a field: name, type, alias, final.

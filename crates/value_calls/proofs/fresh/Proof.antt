@@ -1,9 +1,9 @@
--- `maker_calls::fresh` meets its contract.
+-- `value_calls::fresh` meets its contract.
 use Rattle.wellformed.specs.Fresh.{freshWords}
-use Rattle.maker_calls.proofs.Values.{fresh-short, fresh-long, fresh-filled}
+use Rattle.value_calls.proofs.Values.{fresh-short, fresh-long, fresh-filled}
 use borrow.Author.Needs.{needs}
-use Rattle.maker_calls.proofs.fresh.Statement.{statement}
-use Rattle.maker_calls.proofs.fresh.Tie as tie
+use Rattle.value_calls.proofs.fresh.Statement.{statement}
+use Rattle.value_calls.proofs.fresh.Tie as tie
 
 returns : tie.Need-returns
 returns c = search fresh-short

@@ -1,10 +1,10 @@
--- `maker_calls::make_int` meets its contract, by the ways that every call goes.
+-- `value_calls::make_int` meets its contract, by the ways that every call goes.
 use mathlib.Core.Path.{refl}
 use native.Mathlib.Omega.{arith}
 use Rattle.call.proofs.Ways.{begun, no-store, ended}
 use borrow.Author.Needs.{needs}
-use Rattle.maker_calls.proofs.make_int.Statement.{statement}
-use Rattle.maker_calls.proofs.make_int.Tie as tie
+use Rattle.value_calls.proofs.make_int.Statement.{statement}
+use Rattle.value_calls.proofs.make_int.Tie as tie
 
 begin-plain-requires : tie.Need-begin-plain-requires
 begin-plain-requires c κs = search needs

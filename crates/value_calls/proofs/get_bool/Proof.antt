@@ -1,9 +1,9 @@
--- `maker_calls::get_bool` meets its contract, by the ways that a call that reads goes.
+-- `value_calls::get_bool` meets its contract, by the ways that a call that reads goes.
 use Rattle.call.proofs.Ways.{unread, read-back, answered}
-use Rattle.maker_calls.proofs.Values.{no-flag, a-flag, flag-off, flag-on}
+use Rattle.value_calls.proofs.Values.{no-flag, a-flag, flag-off, flag-on}
 use borrow.Author.Needs.{needs}
-use Rattle.maker_calls.proofs.get_bool.Statement.{statement}
-use Rattle.maker_calls.proofs.get_bool.Tie as tie
+use Rattle.value_calls.proofs.get_bool.Statement.{statement}
+use Rattle.value_calls.proofs.get_bool.Tie as tie
 
 begin-plain-requires : tie.Need-begin-plain-requires
 begin-plain-requires c κs = search needs

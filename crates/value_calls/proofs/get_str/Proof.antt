@@ -1,10 +1,10 @@
--- `maker_calls::get_str` meets its contract, by the ways that every call goes.
+-- `value_calls::get_str` meets its contract, by the ways that every call goes.
 use native.Mathlib.Omega.{arith}
 use Rattle.call.proofs.Ways.{begun, no-store, turned, ended}
-use Rattle.maker_calls.proofs.Values.{long-name, short-name, plain-name}
+use Rattle.value_calls.proofs.Values.{long-name, short-name, plain-name}
 use borrow.Author.Needs.{needs}
-use Rattle.maker_calls.proofs.get_str.Statement.{statement}
-use Rattle.maker_calls.proofs.get_str.Tie as tie
+use Rattle.value_calls.proofs.get_str.Statement.{statement}
+use Rattle.value_calls.proofs.get_str.Tie as tie
 
 begin-plain-requires : tie.Need-begin-plain-requires
 begin-plain-requires c κs = search needs

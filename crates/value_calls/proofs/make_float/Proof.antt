@@ -1,10 +1,10 @@
--- `maker_calls::make_float` meets its contract, by the ways that every call goes.
+-- `value_calls::make_float` meets its contract, by the ways that every call goes.
 use native.Mathlib.Omega.{arith}
 use Rattle.call.proofs.Ways.{begun, no-store, turned, ended}
-use Rattle.maker_calls.proofs.Values.{no-float, a-float, size-known, size-fits, float-stored}
+use Rattle.value_calls.proofs.Values.{no-float, a-float, size-known, size-fits, float-stored}
 use borrow.Author.Needs.{needs}
-use Rattle.maker_calls.proofs.make_float.Statement.{statement}
-use Rattle.maker_calls.proofs.make_float.Tie as tie
+use Rattle.value_calls.proofs.make_float.Statement.{statement}
+use Rattle.value_calls.proofs.make_float.Tie as tie
 
 begin-plain-requires : tie.Need-begin-plain-requires
 begin-plain-requires c κs = search needs
