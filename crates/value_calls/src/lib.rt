@@ -6,7 +6,6 @@ ghost use Rattle.call.specs.Call.{left, made, done};
 ghost use Rattle.makers.specs.Makers.{freshCall, getBoolCall, makeIntCall, makeFloatCall, getStrCall};
 
 // Writes a fresh store and zeroes the rest.
-
 pub fn fresh(words: &mut [u64]) -> Done
     ensures { λ r. ⌜ left (done r) (now (words .exit)) ≡ freshCall (now (words .entry)) ⌝ }
 {
