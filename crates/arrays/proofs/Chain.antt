@@ -12,14 +12,14 @@ use Rattle.words.specs.declared.Interned.the-variants.{At, Full}
 use Rattle.words.proofs.Extend.{ext-length}
 use Rattle.words.proofs.Room.{Fit, fitted, fit-front, fit-length, then, stop}
 use Rattle.words.proofs.Placed.{make-extends}
-use Rattle.words.proofs.Kept.{Keeps, keeps-then, keeps-same, make-keeps, segments-after}
+use Rattle.words.proofs.Kept.{Appends, appends-then, appends-none, make-appends, segments-after}
 
 -- all makings so far have fitted: g is what they make of the used words, and its words now stand in the first v of `old` and `now`; h is
 -- the last one's handle
 pub record Reached (old new : List ℕ) (used : ℕ) (g : Grown) (now : List ℕ) (h v : ℕ) : Type 0 where
   pub first : Segments old new used
   pub segments : Segments old now v
-  pub keeps : Keeps (take used (old ++ new)) g
+  pub keeps : Appends (take used (old ++ new)) g
   pub fits : Fit g (old ++ new) (old ++ now) h v
 
 long : (old new : List ℕ) (used : ℕ) → Segments old new used → length (take used (old ++ new)) ≡ used
@@ -32,7 +32,7 @@ start {old} {new} {used} s =
     record {
       first = s;
       segments = s;
-      keeps = keeps-same (take used (old ++ new)) 0 (s .full);
+      keeps = appends-none (take used (old ++ new)) 0 (s .full);
       fits = record {
         handle = refl;
         end = sym n;
@@ -57,7 +57,7 @@ module _ {old new : List ℕ} {used : ℕ} {g : Grown} {now : List ℕ} {h v : �
       let g₂ = make (g .words) e in
       let f = fitted used g₂ (old ++ new) (old ++ now₂) r (more (λ u. e) now₂ ran) h₂ v₂ is in
       let low : 1 ≤ length (g .words) = omega (arith, long old new used (so .first), so .first .low, ext-length u (g .words) (so .keeps .ext)) in
-      let k = keeps-then u g g₂ (so .keeps) (make-keeps (g .words) e low (so .keeps .full) sized) in
+      let k = appends-then u g g₂ (so .keeps) (make-appends (g .words) e low (so .keeps .full) sized) in
       let len : length now₂ ≡ length new = omega (arith, fit-length g₂ (old ++ new) (old ++ now₂) h₂ v₂ f, length-append old new, length-append old now₂) in
       record { first = so .first; segments = segments-after old new now₂ used g₂ h₂ v₂ (so .first) k len f; keeps = k; fits = f }
 

@@ -10,7 +10,7 @@ use Rattle.words.specs.Made.{Grown, make}
 use Rattle.words.specs.declared.Found.{Found}
 use Rattle.words.specs.declared.Found.the-variants.{At, Nothing}
 use Rattle.words.proofs.Placed.{make-there, make-new}
-use Rattle.words.proofs.Kept.{entries-append, make-keeps}
+use Rattle.words.proofs.Kept.{entries-append, make-appends}
 use Rattle.words.proofs.Extend.{ext-length}
 use Rattle.bitset.specs.Bitset.{nowhere}
 use Rattle.wellformed.specs.Entry.{okEntry}
@@ -45,7 +45,7 @@ module _ (u e : List ℕ) (s : Sound u) (f : Fitting u e) where
 
   pub make-adds : Adds u (make u e)
   make-adds =
-      let k = make-keeps u e (s .low) (s .full) (f .sized) in
+      let k = make-appends u e (s .low) (s .full) (f .sized) in
       record {
         sound = record { low = omega (arith, ext-length u (make u e .words) (k .ext), s .low); full = k .full; right = go (findIn u e) refl };
         more = k .ext .more;

@@ -17,7 +17,7 @@ use Rattle.words.proofs.Room.{Fit, fit-front}
 use Rattle.words.proofs.Placed.{make-there, make-new}
 
 -- an operation keeps the used words, with its entries behind theirs
-pub record Keeps (u : List ℕ) (g : Grown) : Type 0 where
+pub record Appends (u : List ℕ) (g : Grown) : Type 0 where
   pub ext : Extends u (g .words)
   pub full : fills 0 (drop 1 (g .words)) ≡ true
   pub extra : List Row
@@ -25,8 +25,8 @@ pub record Keeps (u : List ℕ) (g : Grown) : Type 0 where
   pub own : Own (entries u) → Own (entries (g .words))
 
 -- one operation after another
-pub keeps-then : (u : List ℕ) (g g₂ : Grown) → Keeps u g → Keeps (g .words) g₂ → Keeps u g₂
-keeps-then u g g₂ a b = record {
+pub appends-then : (u : List ℕ) (g g₂ : Grown) → Appends u g → Appends (g .words) g₂ → Appends u g₂
+appends-then u g g₂ a b = record {
   ext = ext-then u (g .words) (g₂ .words) (a .ext) (b .ext);
   full = b .full;
   extra = a .extra ++ b .extra;
@@ -35,8 +35,8 @@ keeps-then u g g₂ a b = record {
 }
 
 -- an operation that makes nothing
-pub keeps-same : (u : List ℕ) (h : ℕ) → fills 0 (drop 1 u) ≡ true → Keeps u (record { words = u; handle = h })
-keeps-same u h full = record { ext = ext-same u; full = full; extra = []; rows = sym (append-nil (entries u)); own = λ o. o }
+pub appends-none : (u : List ℕ) (h : ℕ) → fills 0 (drop 1 u) ≡ true → Appends u (record { words = u; handle = h })
+appends-none u h full = record { ext = ext-same u; full = full; extra = []; rows = sym (append-nil (entries u)); own = λ o. o }
 
 module _ (u e : List ℕ) (low : 1 ≤ length u) (full : fills 0 (drop 1 u) ≡ true) (sized : Sized e) where
   pub entries-append : entries (u ++ e) ≡ entries u ++ (record { at = length u; words = e } ∷ [])
@@ -48,12 +48,12 @@ module _ (u e : List ℕ) (low : 1 ≤ length u) (full : fills 0 (drop 1 u) ≡ 
   pub fills-more : fills 0 (drop 1 (u ++ e)) ≡ true
   fills-more = rw (drop-append-le 1 u e low) (fills-append 0 (drop 1 u) e full ∙ one-fills e sized)
 
-  pub make-keeps : Keeps u (make u e)
+  pub make-appends : Appends u (make u e)
   unfolding findIn
-  make-keeps = go (findIn u e) refl
+  make-appends = go (findIn u e) refl
     where
-      go : (f : Found) → findIn u e ≡ f → Keeps u (make u e)
-      go (At h) q = rw (make-there u e h q) (keeps-same u h full)
+      go : (f : Found) → findIn u e ≡ f → Appends u (make u e)
+      go (At h) q = rw (make-there u e h q) (appends-none u h full)
       go Nothing q = rw (make-new u e q) record {
         ext = ext-by u e;
         full = fills-more;
@@ -72,7 +72,7 @@ module _ (u e : List ℕ) (low : 1 ≤ length u) (full : fills 0 (drop 1 u) ≡ 
       go Nothing q = rw (make-new u e q, entries-append) (Memᴰ·append-right (entries u) (List·Memᴰ·head refl))
 
 -- after an operation that fitted, the segments are a store again, for the next
-pub segments-after : (old new new₁ : List ℕ) (used : ℕ) (g : Grown) (h used₁ : ℕ) → Segments old new used → Keeps (take used (old ++ new)) g → length new₁ ≡ length new
+pub segments-after : (old new new₁ : List ℕ) (used : ℕ) (g : Grown) (h used₁ : ℕ) → Segments old new used → Appends (take used (old ++ new)) g → length new₁ ≡ length new
     → Fit g (old ++ new) (old ++ new₁) h used₁ → Segments old new₁ used₁
 segments-after old new new₁ used g h used₁ s k len f =
     let n : length (take used (old ++ new)) ≡ used = length-take-le used (old ++ new) (omega (arith, length-append old new, s .high)) in
