@@ -4,11 +4,12 @@ use mathlib.Core.Bool.{Bool, true, false, not, cond, _&&_, _||_}
 use mathlib.Core.List.{List, [], _∷_, _++_}
 use Prim.Native.Nat.{ℕ, _+_, _-_, _%_}
 use lib.ListN.{length, replicate}
-use lib.Dec.{eqb, leb, ltb}
+use lib.Dec.{eqb, ltb}
 use Rattle.words.specs.Kinds.{Int, MemPtr}
 use Rattle.words.specs.Made.{Grown, make}
 use Rattle.wellformed.specs.Fresh.{freshWords}
-use Rattle.wellformed.specs.Entry.{kindIn, isName, isType, isStruct, isFlag, isAlias, floatOk, all}
+use Rattle.wellformed.specs.Form.{rightLength}
+use Rattle.wellformed.specs.Entry.{mostCounted, kindIn, isName, isType, isStruct, isFlag, isAlias, floatOk, all}
 use Rattle.call.specs.Call.{Outcome, left, handle, number, accepted, refused, _when_, _∣_, call, ask}
 use Rattle.call.specs.Handles.{word, kindOn, noEntry, wrongKind, tooDeep}
 use Rattle.names.specs.Name.{nameEntry, wrapped}
@@ -24,7 +25,7 @@ filled true ws = left accepted (freshStore (length ws))
 filled false ws = left (refused 1) ws
 
 unfoldable pub freshCall : List ℕ → Outcome
-freshCall ws = filled (leb 94 (length ws) && leb (length ws) 1048576) ws
+freshCall ws = filled (rightLength ws) ws
 
 -- ---- the kind of a type, which stands for the Rust's casts
 
@@ -63,7 +64,7 @@ unfoldable pub tupleRows : List ℕ → List ℕ → ℕ
 tupleRows types u =
     2 when noEntry u types
     ∣ 3 when wrongKind u isType types
-    ∣ 5 when ltb 255 (length types)
+    ∣ 5 when ltb mostCounted (length types)
     ∣ 6 when tooDeep u types
 
 abbrev pub getTupleCall : List ℕ → List ℕ → Outcome
@@ -72,7 +73,7 @@ getTupleCall types = call (tupleRows types) (λ u. make u (tupleEntry types u))
 -- ---- get_str: a name of these bytes
 
 abbrev pub getStrCall : List ℕ → List ℕ → Outcome
-getStrCall name = call (λ u. 5 when ltb 255 (length name)) (λ u. make u (nameEntry name))
+getStrCall name = call (λ u. 5 when ltb mostCounted (length name)) (λ u. make u (nameEntry name))
 
 -- ---- make_struct_fref
 
@@ -107,7 +108,7 @@ structRows name fs u =
     2 when noEntry u (name ∷ []) || noEntry u (fieldNames fs) || noEntry u (fieldTypes fs)
     ∣ 3 when wrongKind u isName (name ∷ []) || wrongKind u isName (fieldNames fs) || wrongKind u isType (fieldTypes fs)
     ∣ 4 when not (eqb (length fs % 4) 0) || not (all isAlias (fieldAliases fs)) || not (all isFlag (fieldFinals fs))
-    ∣ 5 when ltb 255 (fieldCount fs)
+    ∣ 5 when ltb mostCounted (fieldCount fs)
     ∣ 6 when tooDeep u (fieldTypes fs)
 
 abbrev pub getStructCall : ℕ → List ℕ → List ℕ → Outcome
@@ -125,7 +126,7 @@ aryRows len lenAlias body bodyAlias text u =
     -- "an array's length is an Int"
     ∣ 3 when wrongKind u (kindIn Int Int) (len ∷ []) || wrongKind u isType (body ∷ [])
     ∣ 4 when not (isAlias lenAlias) || not (isAlias bodyAlias)
-    ∣ 5 when ltb 255 (length (wrapped true text))
+    ∣ 5 when ltb mostCounted (length (wrapped true text))
     ∣ 6 when tooDeep u (len ∷ body ∷ [])
     ∣ 10 when neverNil u body
 

@@ -19,9 +19,13 @@ depth e = depthOf (getD e 0 0)
 abbrev pub count : List ℕ → ℕ
 count e = countOf (getD e 0 0)
 
--- "n from 0 to 255", "n is 0 for the other kinds"
+-- "n from 0 to 255"
+abbrev pub mostCounted : ℕ
+mostCounted = 255
+
+-- "n is 0 for the other kinds": names, tuples and structs alone count
 unfoldable pub mostOf : ℕ → ℕ
-mostOf k = cond (eqb k Name || eqb k Tuple || eqb k Struct) 255 0
+mostOf k = cond (eqb k Name || eqb k Tuple || eqb k Struct) mostCounted 0
 
 -- "at most 32"
 abbrev pub deepestAllowed : ℕ
@@ -76,6 +80,7 @@ takes k = cond (eqb k MemPtr) isStruct isType
 abbrev pub kindAt : (ℕ → ℕ) → (ℕ → Bool) → ℕ → Bool
 kindAt heads p h = p (kindOf (heads h))
 
+-- p holds of each
 unfoldable pub all : (ℕ → Bool) → List ℕ → Bool
 all p [] = true
 all p (x ∷ xs) = p x && all p xs
@@ -95,10 +100,11 @@ depthFor heads e = cond (eqb (kind e) Name) 0 (1 + deepest heads (typesIn e))
 abbrev pub isFlag : ℕ → Bool
 isFlag v = leb v 1
 
+-- an alias is at most 4,294,967,295
 abbrev pub isAlias : ℕ → Bool
 isAlias v = leb v 4294967295
 
--- 2 × alias + final
+-- "2 × alias + final": at most twice the largest alias, and 1
 abbrev pub isAliasFinal : ℕ → Bool
 isAliasFinal v = leb v 8589934591
 
@@ -106,7 +112,7 @@ isAliasFinal v = leb v 8589934591
 unfoldable pub floatOk : ℕ → ℕ → Bool
 floatOk size bits = eqb size 64 || (eqb bits 0 && leb size 128 && eqb (size % 32) 0)
 
--- a name's bytes are followed by "zero fill" in its last word
+-- "zero fill": a name's n bytes fill its last word, or that word is below 2 to the 8 × (n % 8), so that nothing stands behind the bytes
 unfoldable pub zeroFilled : List ℕ → Bool
 zeroFilled e = eqb (8 * (count e % 8)) 0 || eqb (getD e (length e - 1) 0 / 2 ^ (8 * (count e % 8))) 0
 
@@ -122,10 +128,14 @@ valuesOk e =
 
 unfoldable pub okEntry : (ℕ → ℕ) → List ℕ → Bool
 okEntry heads e =
+    -- a kind of the table, with an n that it may have
     leb (kind e) lastKind
     && leb (count e) (mostOf (kind e))
+    -- "each handle starts an earlier entry of the right kind"
     && all (kindAt heads isName) (namesIn e)
     && all (kindAt heads (takes (kind e))) (typesIn e)
+    -- "depth is right and at most 32"
     && eqb (depth e) (depthFor heads e)
     && leb (depth e) deepestAllowed
+    -- "every value is one a maker accepts"
     && valuesOk e

@@ -31,10 +31,13 @@ okRows ws start (r ∷ rs) = okEntry (headsAt start ws) (r .words) && okRows ws 
 unfoldable pub okEntries : List ℕ → ℕ → Bool
 okEntries ws used = fills 0 (drop 1 (take used ws)) && okRows ws nowhere (entries (take used ws))
 
+-- "A lent list of 64-bit words, 94 to 1,048,576 of them."
+abbrev pub rightLength : List ℕ → Bool
+rightLength ws = leb 94 (length ws) && leb (length ws) 1048576
+
 unfoldable pub wellFormed : List ℕ → Bool
 wellFormed ws =
-    -- "94 to 1,048,576 of them"
-    leb 94 (length ws) && leb (length ws) 1048576
+    rightLength ws
     -- "words 1 to 93 are the fresh ones"
     && eqs (take 93 (drop 1 ws)) freshWords
     -- "word 0 is from 94 to the list's length"
