@@ -10,6 +10,8 @@ use Rattle.call.specs.declared.Made.{Made}
 use Rattle.call.specs.declared.Made.the-variants as Made-variants
 use Rattle.call.specs.declared.Number.{Number}
 use Rattle.call.specs.declared.Number.the-variants as Number-variants
+use Rattle.call.specs.declared.Flag.{Flag}
+use Rattle.call.specs.declared.Flag.the-variants as Flag-variants
 use Rattle.call.specs.declared.Done.{Done}
 use Rattle.call.specs.declared.Done.the-variants as Done-variants
 
@@ -18,6 +20,7 @@ use Rattle.call.specs.declared.Done.the-variants as Done-variants
 pub data Reply : Type 0 where
   handle : ℕ → Reply
   number : ℕ → Reply
+  flag : Bool → Reply
   accepted : Reply
   refused : ℕ → Reply
 
@@ -36,6 +39,10 @@ made (Made-variants.Refused n) = refused n
 abbrev pub told : Number → Reply
 told (Number-variants.Is n) = number n
 told (Number-variants.Refused n) = refused n
+
+abbrev pub said : Flag → Reply
+said (Flag-variants.Is b) = flag b
+said (Flag-variants.Refused n) = refused n
 
 abbrev pub done : Done → Reply
 done Done-variants.Accepted = accepted

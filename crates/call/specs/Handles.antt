@@ -4,16 +4,23 @@ use mathlib.Core.List.{List}
 use Prim.Native.Nat.{ℕ, _+_}
 use lib.ListN.{getD}
 use lib.Dec.{ltb}
-use Rattle.words.specs.Words.{headOf, kindOf}
+use Rattle.words.specs.Words.{headOf, kindOf, depthOf, countOf}
 use Rattle.words.specs.Table.{starts}
-use Rattle.wellformed.specs.Entry.{kindAt, all, deepest, deepestAllowed}
+use Rattle.wellformed.specs.Entry.{isType, kindAt, all, deepest, deepestAllowed}
+use Rattle.call.specs.Call.{_when_, _∣_}
 
 abbrev pub word : List ℕ → ℕ → ℕ
 word u p = getD u p 0
 
--- the kind of the entry at h
+-- the kind, the depth and the n of the entry at h
 abbrev pub kindOn : List ℕ → ℕ → ℕ
 kindOn u h = kindOf (word u h)
+
+abbrev pub depthOn : List ℕ → ℕ → ℕ
+depthOn u h = depthOf (word u h)
+
+abbrev pub countOn : List ℕ → ℕ → ℕ
+countOn u h = countOf (word u h)
 
 -- row 2: "handle starts no entry"
 abbrev pub noEntry : List ℕ → List ℕ → Bool
@@ -22,6 +29,12 @@ noEntry u hs = not (all (starts u) hs)
 -- row 3: "entry of a kind the call does not take"
 abbrev pub wrongKind : List ℕ → (ℕ → Bool) → List ℕ → Bool
 wrongKind u p hs = not (all (kindAt (word u) p) hs)
+
+-- the rows of a call on types: "Calls on types take kinds 1 to 11, unless said otherwise."
+unfoldable pub typesRows : List ℕ → List ℕ → ℕ
+typesRows types u =
+    2 when noEntry u types
+    ∣ 3 when wrongKind u isType types
 
 -- row 6: "depth over 32", of an entry around these types
 abbrev pub tooDeep : List ℕ → List ℕ → Bool

@@ -23,6 +23,12 @@ pub enum Number {
     Refused(u8),
 }
 
+// The answer of a call that tells yes or no.
+pub enum Flag {
+    Is(bool),
+    Refused(u8),
+}
+
 // The answer of a call that tells nothing more.
 pub enum Done {
     Accepted,

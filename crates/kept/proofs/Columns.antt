@@ -9,14 +9,7 @@ use lib.ListN.{length, getD}
 use Rattle.wellformed.specs.Entry.{every, all, isFlag, isAlias, isAliasFinal}
 use Rattle.wellformed.proofs.Bools.{and-left, and-right, and-both}
 use Rattle.makers.specs.Entries.{fieldWords}
-
--- one word more in front
-pub every-shift : (s n p x : ℕ) (l : List ℕ) → every s n (suc p) (x ∷ l) ≡ every s n p l
-unfolding every
-every-shift s zero p x l = refl
-every-shift s (suc n) p x l =
-    let q : suc p + s ≡ suc (p + s) = omega arith in
-    ap (λ (t : List ℕ). getD l p 0 ∷ t) (ap (λ (m : ℕ). every s n m (x ∷ l)) q ∙ every-shift s n (p + s) x l)
+use Rattle.makers.proofs.Fields.{every-shift}
 
 -- all words
 pub every-all : (l : List ℕ) → every 1 (length l) 0 l ≡ l

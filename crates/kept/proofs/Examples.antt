@@ -12,9 +12,10 @@ use Rattle.wellformed.specs.Entry.{all, deepest, floatOk}
 use Rattle.wellformed.specs.Form.{wellFormed}
 use Rattle.names.specs.Name.{wrapped}
 use Rattle.call.specs.Call.{left, handle, number, refused, call, ask}
+use Rattle.call.specs.Handles.{typesRows}
 use Rattle.makers.specs.Entries.{intEntry}
 use Rattle.kept.proofs.Fresh.{fresh-any}
-use Rattle.makers.specs.Makers.{freshStore, makeIntCall, makeFloatCall, getStrCall, getTupleCall, tupleRows, getMemPtrCall, partRows, makeAryCall, aryRows, kindCall, kindRows}
+use Rattle.makers.specs.Makers.{freshStore, makeIntCall, makeFloatCall, getStrCall, getTupleCall, tupleRows, getMemPtrCall, partRows, makeAryCall, aryRows, kindCall}
 
 abbrev fresh94 : List ℕ
 fresh94 = freshStore 94
@@ -69,5 +70,5 @@ found-9 = rw (fresh-any 94 (omega arith) (omega arith))
 
 -- the kind of the pointer 88
 pub kind-88 : kindCall 88 fresh94 ≡ left (number 10) fresh94
-unfolding ask kindRows isAt all freshWords rows entries sizeOf wordsAfter
+unfolding ask typesRows isAt all freshWords rows entries sizeOf wordsAfter
 kind-88 = rw (fresh-any 94 (omega arith) (omega arith))

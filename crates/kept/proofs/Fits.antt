@@ -15,8 +15,8 @@ use Rattle.wellformed.proofs.Bools.{and-left}
 use Rattle.call.specs.Handles.{word, headAround}
 use Rattle.call.specs.Keep.{Fitting}
 use Rattle.makers.specs.Entries.{intEntry, floatEntry, tupleEntry, frefEntry, pointerEntry, memoryEntry, fieldCount, fieldNames, fieldTypes, fieldWords, ValuesFit, structEntry}
-use Rattle.makers.proofs.Fields.{fields-length}
-use Rattle.kept.proofs.Columns.{every-shift, every-all, names-apart, types-apart, values-apart}
+use Rattle.makers.proofs.Fields.{every-shift, fields-length}
+use Rattle.kept.proofs.Columns.{every-all, names-apart, types-apart, values-apart}
 use Rattle.kept.proofs.Heads.{head-kind, head-depth, head-count, start-heads}
 
 all-cons : (t : ℕ → Bool) (h : ℕ) (hs : List ℕ) → all t (h ∷ []) ≡ true → all t hs ≡ true → all t (h ∷ hs) ≡ true
@@ -111,29 +111,45 @@ fref-fits u name r =
 
 -- ---- Tuple
 
-pub tuple-fits : (types u : List ℕ) → Parts u Tuple (length types) [] types → Fitting u (tupleEntry types u)
-unfolding namesIn typesIn valuesOk
-tuple-fits types u p =
-    let n = length types in
-    let head = headAround u Tuple n types in
-    let k = kind-is u Tuple n [] types types p in
-    let c = count-is u Tuple n [] types types p in
-    let size : suc n ≡ sizeOf head = sym (tuple-size head k ∙ omega (arith, c)) in
-    around-fits u Tuple n [] types types p size (rw k) (rw (k, c) (every-shift 1 n 0 head types ∙ every-all types)) (rw k)
+module _ (types u : List ℕ) (p : Parts u Tuple (length types) [] types) where
+  pub tuple-types : typesIn (tupleEntry types u) ≡ types
+  unfolding typesIn
+  tuple-types =
+      let n = length types in
+      rw (kind-is u Tuple n [] types types p, count-is u Tuple n [] types types p) (every-shift 1 n 0 (headAround u Tuple n types) types ∙ every-all types)
+
+  pub tuple-fits : Fitting u (tupleEntry types u)
+  unfolding namesIn valuesOk
+  tuple-fits =
+      let n = length types in
+      let head = headAround u Tuple n types in
+      let k = kind-is u Tuple n [] types types p in
+      let size : suc n ≡ sizeOf head = sym (tuple-size head k ∙ omega (arith, count-is u Tuple n [] types types p)) in
+      around-fits u Tuple n [] types types p size (rw k) tuple-types (rw k)
 
 -- ---- MemPtr and Mem: entries around one type
 
-pub pointer-fits : (to nil : ℕ) (u : List ℕ) → Parts u MemPtr 0 [] (to ∷ []) → isFlag nil ≡ true → Fitting u (pointerEntry to nil u)
-unfolding namesIn typesIn valuesOk sizeOf wordsAfter
-pointer-fits to nil u p flag =
-    let k = kind-is u MemPtr 0 [] (to ∷ []) (to ∷ nil ∷ []) p in
-    around-fits u MemPtr 0 [] (to ∷ []) (to ∷ nil ∷ []) p (rw k) (rw k) (rw k) (rw k flag)
+module _ (to nil : ℕ) (u : List ℕ) (p : Parts u MemPtr 0 [] (to ∷ [])) where
+  pub pointer-types : typesIn (pointerEntry to nil u) ≡ to ∷ []
+  unfolding typesIn
+  pointer-types = rw (kind-is u MemPtr 0 [] (to ∷ []) (to ∷ nil ∷ []) p)
 
-pub memory-fits : (alias t : ℕ) (u : List ℕ) → Parts u Mem 0 [] (t ∷ []) → isAlias alias ≡ true → Fitting u (memoryEntry alias t u)
-unfolding namesIn typesIn valuesOk sizeOf wordsAfter
-memory-fits alias t u p fits =
-    let k = kind-is u Mem 0 [] (t ∷ []) (alias ∷ t ∷ []) p in
-    around-fits u Mem 0 [] (t ∷ []) (alias ∷ t ∷ []) p (rw k) (rw k) (rw k) (rw k fits)
+  pub pointer-fits : isFlag nil ≡ true → Fitting u (pointerEntry to nil u)
+  unfolding namesIn valuesOk sizeOf wordsAfter
+  pointer-fits flag =
+      let k = kind-is u MemPtr 0 [] (to ∷ []) (to ∷ nil ∷ []) p in
+      around-fits u MemPtr 0 [] (to ∷ []) (to ∷ nil ∷ []) p (rw k) (rw k) pointer-types (rw k flag)
+
+module _ (alias t : ℕ) (u : List ℕ) (p : Parts u Mem 0 [] (t ∷ [])) where
+  pub memory-types : typesIn (memoryEntry alias t u) ≡ t ∷ []
+  unfolding typesIn
+  memory-types = rw (kind-is u Mem 0 [] (t ∷ []) (alias ∷ t ∷ []) p)
+
+  pub memory-fits : isAlias alias ≡ true → Fitting u (memoryEntry alias t u)
+  unfolding namesIn valuesOk sizeOf wordsAfter
+  memory-fits fits =
+      let k = kind-is u Mem 0 [] (t ∷ []) (alias ∷ t ∷ []) p in
+      around-fits u Mem 0 [] (t ∷ []) (alias ∷ t ∷ []) p (rw k) (rw k) memory-types (rw k fits)
 
 -- ---- Struct
 
@@ -147,19 +163,26 @@ module _ (name : ℕ) (fs u : List ℕ) where
   abbrev pub StructParts : Type 0
   StructParts = Parts u Struct n (name ∷ fieldNames fs) (fieldTypes fs)
 
-  pub struct-fits : StructParts → ValuesFit fs → Fitting u (structEntry name fs u)
-  unfolding namesIn typesIn valuesOk
-  struct-fits p v =
-      let names = name ∷ fieldNames fs in
-      let head = headAround u Struct n (fieldTypes fs) in
-      let k = kind-is u Struct n names (fieldTypes fs) (name ∷ words) p in
-      let c = count-is u Struct n names (fieldTypes fs) (name ∷ words) p in
-      let size : suc (suc (length words)) ≡ sizeOf head = sym (struct-size head k ∙ omega (arith, c, fields-length n 0 fs)) in
-      around-fits u Struct n names (fieldTypes fs) (name ∷ words) p size
-      (rw (k, c) (ap (λ (l : List ℕ). name ∷ l) (behind 0 ∙ names-apart fs n)))
-      (rw (k, c) (behind 1 ∙ types-apart fs n))
-      (rw (k, c) (ap (all isAliasFinal) (behind 2) ∙ values-apart fs n 0 (v .aliases) (v .finals)))
-    where
-      -- the fields' words stand behind the head and the name
-      behind : (j : ℕ) → every 3 n (suc (suc j)) (headAround u Struct n (fieldTypes fs) ∷ name ∷ words) ≡ every 3 n j words
-      behind j = every-shift 3 n (suc j) (headAround u Struct n (fieldTypes fs)) (name ∷ words) ∙ every-shift 3 n j name words
+  -- the fields' words stand behind the head and the name
+  behind : (j : ℕ) → every 3 n (suc (suc j)) (headAround u Struct n (fieldTypes fs) ∷ name ∷ words) ≡ every 3 n j words
+  behind j = every-shift 3 n (suc j) (headAround u Struct n (fieldTypes fs)) (name ∷ words) ∙ every-shift 3 n j name words
+
+  module _ (p : StructParts) where
+    abbrev names : List ℕ
+    names = name ∷ fieldNames fs
+
+    pub struct-types : typesIn (structEntry name fs u) ≡ fieldTypes fs
+    unfolding typesIn
+    struct-types = rw (kind-is u Struct n names (fieldTypes fs) (name ∷ words) p, count-is u Struct n names (fieldTypes fs) (name ∷ words) p) (behind 1 ∙ types-apart fs n)
+
+    pub struct-fits : ValuesFit fs → Fitting u (structEntry name fs u)
+    unfolding namesIn valuesOk
+    struct-fits v =
+        let head = headAround u Struct n (fieldTypes fs) in
+        let k = kind-is u Struct n names (fieldTypes fs) (name ∷ words) p in
+        let c = count-is u Struct n names (fieldTypes fs) (name ∷ words) p in
+        let size : suc (suc (length words)) ≡ sizeOf head = sym (struct-size head k ∙ omega (arith, c, fields-length n 0 fs)) in
+        around-fits u Struct n names (fieldTypes fs) (name ∷ words) p size
+        (rw (k, c) (ap (λ (l : List ℕ). name ∷ l) (behind 0 ∙ names-apart fs n)))
+        struct-types
+        (rw (k, c) (ap (all isAliasFinal) (behind 2) ∙ values-apart fs n 0 (v .aliases) (v .finals)))

@@ -1,13 +1,15 @@
 -- A reply as one word, for callers in C or Rust.
 use mathlib.Core.Path.{_≡_}
+use mathlib.Core.Bool.{cond}
 use mathlib.Core.List.{List}
 use Prim.Native.Nat.{ℕ, _+_, _^_}
-use Rattle.call.specs.Call.{Reply, handle, number, accepted, refused, Outcome}
+use Rattle.call.specs.Call.{Reply, handle, number, flag, accepted, refused, Outcome}
 
--- a handle or number is itself, accepted is 0, and refusal n is 2 to the 63 + n
+-- a handle or number is itself, yes is 1 and no is 0, accepted is 0, and refusal n is 2 to the 63 + n
 abbrev pub code : Reply → ℕ
 code (handle h) = h
 code (number n) = n
+code (flag b) = cond b 1 0
 code accepted = 0
 code (refused n) = 2 ^ 63 + n
 

@@ -15,7 +15,7 @@ pub fn kind_in(words: &[u64], bits: &mut [u64], h: u64) -> Number
     if used == 0 {
         return Number::Refused(1);
     }
-    let no = rows::kind_rows(words, used, bits, h);
+    let no = rows::types_rows(words, used, bits, &[h]);
     if no != 0 {
         return Number::Refused(no);
     }

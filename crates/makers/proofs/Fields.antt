@@ -25,6 +25,14 @@ unfolding every
 every-first s zero p l h = absurd (omega arith)
 every-first s (suc j) p l h = let q : suc j - 1 ≡ j = omega arith in rw q
 
+-- one word more in front
+pub every-shift : (s n p x : ℕ) (l : List ℕ) → every s n (suc p) (x ∷ l) ≡ every s n p l
+unfolding every
+every-shift s zero p x l = refl
+every-shift s (suc n) p x l =
+    let q : suc p + s ≡ suc (p + s) = omega arith in
+    ap (λ (t : List ℕ). getD l p 0 ∷ t) (ap (λ (m : ℕ). every s n m (x ∷ l)) q ∙ every-shift s n (p + s) x l)
+
 -- what all have, each has
 pub all-at : (t : ℕ → Bool) (s n p : ℕ) (l : List ℕ) → all t (every s n p l) ≡ true → (i : ℕ) → i < n → t (getD l (p + s * i) 0) ≡ true
 unfolding all every
@@ -87,7 +95,7 @@ unfolding fieldWords
 fields-none d fs = refl
 
 -- an entry that was written into a list from position a on
-put-at : (w e x : List ℕ) (a : ℕ) → x ≡ e ++ drop (length e) (take (length w - a) (drop a w)) → putMid a (length w - a) w x ≡ take a w ++ (e ++ drop (length e) (drop a w))
+pub put-at : (w e x : List ℕ) (a : ℕ) → x ≡ e ++ drop (length e) (take (length w - a) (drop a w)) → putMid a (length w - a) w x ≡ take a w ++ (e ++ drop (length e) (drop a w))
 put-at w e x a q =
     let h : length (drop a w) ≤ length w - a = omega (arith, length-drop a w) in
     rw (q, take-all (length w - a) (drop a w) h, drop-of-length-le (drop a w) h, append-nil)

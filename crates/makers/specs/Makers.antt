@@ -11,7 +11,7 @@ use Rattle.wellformed.specs.Fresh.{freshWords}
 use Rattle.wellformed.specs.Form.{rightLength}
 use Rattle.wellformed.specs.Entry.{mostCounted, kindIn, isName, isType, isStruct, isFlag, isAlias, floatOk, all}
 use Rattle.call.specs.Call.{Outcome, left, handle, number, accepted, refused, _when_, _∣_, call, ask}
-use Rattle.call.specs.Handles.{word, kindOn, noEntry, wrongKind, tooDeep}
+use Rattle.call.specs.Handles.{word, kindOn, noEntry, wrongKind, typesRows, tooDeep}
 use Rattle.names.specs.Name.{nameEntry, wrapped}
 use Rattle.makers.specs.Entries.{intEntry, storedSize, floatEntry, tupleEntry, frefEntry, pointerEntry, memoryEntry, fieldCount, fieldNames, fieldTypes, fieldAliases, fieldFinals, structEntry}
 
@@ -29,13 +29,8 @@ freshCall ws = filled (rightLength ws) ws
 
 -- ---- the kind of a type, which stands for the Rust's casts
 
-unfoldable pub kindRows : ℕ → List ℕ → ℕ
-kindRows h u =
-    2 when noEntry u (h ∷ [])
-    ∣ 3 when wrongKind u isType (h ∷ [])
-
 abbrev pub kindCall : ℕ → List ℕ → Outcome
-kindCall h = ask (kindRows h) (λ u. number (kindOn u h))
+kindCall h = ask (typesRows (h ∷ [])) (λ u. number (kindOn u h))
 
 -- ---- get_bool, get_int, make_int
 

@@ -12,8 +12,8 @@ use Rattle.words.specs.Table.{starts}
 use Rattle.bitset.specs.Bitset.{bitAt}
 use Rattle.wellformed.specs.Entry.{kindIn, isName, kindAt, all, deepest}
 use Rattle.call.specs.Steps.{Open}
-use Rattle.call.specs.Handles.{word, tooDeep}
-use Rattle.makers.specs.Makers.{kindRows, tupleRows, frefRows, partRows}
+use Rattle.call.specs.Handles.{word, tooDeep, typesRows}
+use Rattle.makers.specs.Makers.{tupleRows, frefRows, partRows}
 
 -- kind 0 alone
 pub name-kind : kindIn 0 0 ≡ isName
@@ -49,13 +49,25 @@ module _ (ws bits : List ℕ) (used : ℕ) (o : Open ws bits used) where
   abbrev u : List ℕ
   u = take used ws
 
-  -- a tuple's rows
+  -- the rows of calls on types, and a tuple's
   module _ (types : List ℕ) (t : Bool) (is : t ≡ all (bitAt bits) types) where
+    pub types-2 : not t ≡ true → 2 ≡ typesRows types u
+    unfolding typesRows
+    types-2 n = rw (unknown ws bits used o types t is n)
+
     pub tuple-2 : not t ≡ true → 2 ≡ tupleRows types u
     unfolding tupleRows
     tuple-2 n = rw (unknown ws bits used o types t is n)
 
     module _ (y : not t ≡ false) (k : Bool) (ik : k ≡ all (kindAt (word u) (kindIn 1 11)) types) where
+      pub types-3 : not k ≡ true → 3 ≡ typesRows types u
+      unfolding typesRows
+      types-3 n = rw (known ws bits used o types t is y, sym ik ∙ not-true k n)
+
+      pub types-0 : not k ≡ false → 0 ≡ typesRows types u
+      unfolding typesRows
+      types-0 z = rw (known ws bits used o types t is y, sym ik ∙ not-false k z)
+
       pub tuple-3 : not k ≡ true → 3 ≡ tupleRows types u
       unfolding tupleRows
       tuple-3 n = rw (known ws bits used o types t is y, sym ik ∙ not-true k n)
@@ -80,10 +92,6 @@ module _ (ws bits : List ℕ) (used : ℕ) (o : Open ws bits used) where
       gone : all (starts u) (h ∷ []) ≡ false
       gone = unknown ws bits used o (h ∷ []) t is n
 
-      pub kind-2 : 2 ≡ kindRows h u
-      unfolding kindRows
-      kind-2 = rw gone
-
       pub fref-2 : 2 ≡ frefRows h u
       unfolding frefRows
       fref-2 = rw gone
@@ -95,15 +103,6 @@ module _ (ws bits : List ℕ) (used : ℕ) (o : Open ws bits used) where
     module _ (y : not t ≡ false) where
       there : all (starts u) (h ∷ []) ≡ true
       there = known ws bits used o (h ∷ []) t is y
-
-      module _ (k : Bool) (ik : k ≡ all (kindAt (word u) (kindIn 1 11)) (h ∷ [])) where
-        pub kind-3 : not k ≡ true → 3 ≡ kindRows h u
-        unfolding kindRows
-        kind-3 n = rw (there, sym ik ∙ not-true k n)
-
-        pub kind-0 : not k ≡ false → 0 ≡ kindRows h u
-        unfolding kindRows
-        kind-0 z = rw (there, sym ik ∙ not-false k z)
 
       module _ (k : Bool) (ik : k ≡ all (kindAt (word u) (kindIn 0 0)) (h ∷ [])) where
         named : all (kindAt (word u) isName) (h ∷ []) ≡ k

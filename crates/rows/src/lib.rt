@@ -6,22 +6,22 @@ ghost use lib.ListN.{length, take};
 ghost use Rattle.bitset.specs.Bitset.{bitAt};
 ghost use Rattle.wellformed.specs.Entry.{kindIn, kindAt, isName, isType, every, all};
 ghost use Rattle.call.specs.Steps.{Open};
-ghost use Rattle.call.specs.Handles.{word};
+ghost use Rattle.call.specs.Handles.{word, typesRows};
 ghost use Rattle.rows.specs.Tests.{atMost, anyNot};
 ghost use Rattle.makers.specs.Entries.{fieldCount, fieldNames, fieldTypes};
-ghost use Rattle.makers.specs.Makers.{kindRows, tupleRows, frefRows, partRows, structRows, neverNil, aryRows};
+ghost use Rattle.makers.specs.Makers.{tupleRows, frefRows, partRows, structRows, neverNil, aryRows};
 
 // ---- types
 
-pub fn kind_rows(words: &[u64], used: usize, bits: &[u64], h: u64) -> u8
+pub fn types_rows(words: &[u64], used: usize, bits: &[u64], hs: &[u64]) -> u8
     requires { ⌜ Open (now words) (now bits) used ⌝ }
-    ensures { λ r. ⌜ r ≡ kindRows h (take used (now (words .entry))) ⌝ }
+    ensures { λ r. ⌜ r ≡ typesRows (now (hs .entry)) (take used (now (words .entry))) ⌝ }
 {
-    if !call::all_start(bits, &[h]) {
+    if !call::all_start(bits, hs) {
         return 2;
     }
     let none = [0u64; 0];
-    if !call::all_kinds(&none, words, used, &[h], 1, 11) {
+    if !call::all_kinds(&none, words, used, hs, 1, 11) {
         return 3;
     }
     0

@@ -1,0 +1,6 @@
+pub mod Grows
+pub mod Examples
+pub mod Made
+pub mod Nice
+pub mod Loop
+pub mod Ways

@@ -1,0 +1,52 @@
+// The struct that two structs meet in, made of the types that their fields met in, on a store that row 1 has passed.
+use words::Interned;
+ghost use mathlib.Core.Path.{_≡_};
+ghost use mathlib.Core.Bool.{true};
+ghost use mathlib.Core.List.{_++_};
+ghost use Prim.Native.Nat.{_+_, _*_, _≤_, _<_};
+ghost use lib.ListN.{length, take, drop};
+ghost use Rattle.words.specs.Made.{Segments, Runs};
+ghost use Rattle.wellformed.specs.Entry.{every, all, isAliasFinal};
+ghost use Rattle.meet_fields.specs.Fields.{eitherFinal, flagsOn, meetFields};
+
+// Fills the first words of `dst` with n finals, or-ed: the words 2 × alias + final stand from p and from q on, 3 apart.
+fn either_final(
+    dst: &mut [u64],
+    old: &[u64],
+    new: &[u64],
+    used: usize,
+    n: usize,
+    p: usize,
+    q: usize,
+)
+    requires { ⌜ (length (now old) ≤ used) × (used ≤ length (now old) + length (now new)) ⌝ }
+    requires { ⌜ (n ≤ length (now dst)) × (n ≤ 255) × (p ≤ 1048580) × (q ≤ 1048580) ⌝ }
+    ensures { λ _. ⌜ now (dst .exit) ≡ eitherFinal (every 3 n p (take used (now (old .entry) ++ now (new .entry)))) (every 3 n q (take used (now (old .entry) ++ now (new .entry)))) ++ drop n (now (dst .entry)) ⌝ }
+{
+    let mut i = 0;
+    while i < n {
+        let f = words::word(old, new, used, p + 3 * i) % 2;
+        let g = words::word(old, new, used, q + 3 * i) % 2;
+        dst[i] = wellformed::larger(f, g);
+        i += 1;
+    }
+}
+
+// Makes the struct that the structs at a and b meet in, with these types.
+pub fn meet_fields(
+    old: &[u64],
+    new: &mut [u64],
+    used: usize,
+    a: usize,
+    b: usize,
+    types: &[u64],
+) -> Interned
+    requires { ⌜ Segments (now old) (now new) used ⌝ }
+    requires { ⌜ (length (now types) ≤ 255) × (a < 1048576) × (b < 1048576) × (all isAliasFinal (flagsOn (take used (now old ++ now new)) (length (now types)) a) ≡ true) ⌝ }
+    ensures { λ r. ⌜ Runs (meetFields a b (now (types .entry))) (now (old .entry)) (now (new .entry)) used (now (new .exit)) r ⌝ }
+{
+    let mut finals = [0u64; 255];
+    let n = types.len();
+    either_final(&mut finals, old, new, used, n, a + 4, b + 4);
+    structs::made_again(old, new, used, a, types, &finals[..n])
+}

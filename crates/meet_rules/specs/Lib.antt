@@ -1,0 +1,3 @@
+pub mod FreshHandles
+pub mod Names
+pub mod Rules

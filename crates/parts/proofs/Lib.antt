@@ -1,0 +1,4 @@
+pub mod Spot
+pub mod Checked
+pub mod Parts
+pub mod Good

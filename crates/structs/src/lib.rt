@@ -1,0 +1,56 @@
+// A struct made again with other types and finals, on a store that row 1 has passed.
+use words::Interned;
+ghost use mathlib.Core.Path.{_≡_};
+ghost use mathlib.Core.Bool.{true};
+ghost use mathlib.Core.List.{_++_};
+ghost use Prim.Native.Nat.{_+_, _*_, _≤_, _<_};
+ghost use lib.ListN.{length, take, drop};
+ghost use Rattle.words.specs.Made.{Segments, Runs};
+ghost use Rattle.wellformed.specs.Entry.{every, all, isFlag, isAliasFinal};
+ghost use Rattle.structs.specs.Remade.{fieldsWith, remake};
+
+// Fills the first words of `dst` with the fields whose words stand from p on, with these types and finals.
+fn fields_with(
+    dst: &mut [u64],
+    old: &[u64],
+    new: &[u64],
+    used: usize,
+    p: usize,
+    types: &[u64],
+    finals: &[u64],
+)
+    requires { ⌜ (length (now old) ≤ used) × (used ≤ length (now old) + length (now new)) ⌝ }
+    requires { ⌜ (length (now types) ≤ 255) × (length (now types) ≡ length (now finals)) × (4 * length (now types) ≤ length (now dst)) × (p ≤ 1048578) ⌝ }
+    ensures { λ _. ⌜ now (dst .exit) ≡ fieldsWith (take used (now (old .entry) ++ now (new .entry))) p (now (types .entry)) (now (finals .entry)) ++ drop (4 * length (now (types .entry))) (now (dst .entry)) ⌝ }
+{
+    let n = types.len();
+    let mut i = 0;
+    while i < n {
+        let at = p + 3 * i;
+        let name = words::word(old, new, used, at);
+        let alias = words::word(old, new, used, at + 2) / 2;
+        words::write(&mut dst[4 * i..], &[name, types[i], alias, finals[i]]);
+        i += 1;
+    }
+}
+
+// Makes the struct at a again with these types and finals.
+pub fn made_again(
+    old: &[u64],
+    new: &mut [u64],
+    used: usize,
+    a: usize,
+    types: &[u64],
+    finals: &[u64],
+) -> Interned
+    requires { ⌜ Segments (now old) (now new) used ⌝ }
+    requires { ⌜ (length (now types) ≤ 255) × (length (now types) ≡ length (now finals)) × (a ≤ 1048576) ⌝ }
+    requires { ⌜ (all isAliasFinal (every 3 (length (now types)) (a + 4) (take used (now old ++ now new))) ≡ true) × (all isFlag (now finals) ≡ true) ⌝ }
+    ensures { λ r. ⌜ Runs (remake a (now (types .entry)) (now (finals .entry))) (now (old .entry)) (now (new .entry)) used (now (new .exit)) r ⌝ }
+{
+    let mut fields = [0u64; 1020];
+    let n = types.len();
+    fields_with(&mut fields, old, new, used, a + 2, types, finals);
+    let name = words::word(old, new, used, a + 1);
+    makers::structure(old, new, used, name, &fields[..4 * n])
+}

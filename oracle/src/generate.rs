@@ -1,0 +1,258 @@
+//! Lists of calls by chance. The Rust runs each call at once, so that later calls can take what earlier ones made; what is written into a
+//! script are then plain numbers.
+
+mod choosing;
+mod making;
+
+use crate::random::Random;
+use crate::script::known_name;
+use crate::session::Answer;
+use crate::steps::{Arg, Asked, Runner, Step};
+use crate::values;
+use original::datastructures::arena::DroplessArena;
+use original::sea_of_nodes::types::Types;
+
+/// The calls that make types. They are always used: without them there is nothing to ask about.
+const MAKERS: &[(usize, &str)] = &[
+    (1, "get_bool"),
+    (12, "int"),
+    (12, "float"),
+    (12, "tuple"),
+    (7, "str"),
+    (20, "struct"),
+    (5, "fref"),
+    (12, "ptr"),
+    (8, "mem"),
+    (6, "ary"),
+];
+
+/// The calls that can be switched on, and how often each is made.
+const OTHERS: &[(usize, &str)] = &[
+    (3, "kind"),
+    (25, "meet"),
+    (15, "isa"),
+    (8, "dual"),
+    (10, "join"),
+    (5, "glb"),
+    (5, "lub"),
+    (5, "is_final"),
+    (8, "make_ro"),
+    // The other calls come here; `Generator::ask_about` makes those that take a type alone without further ado.
+];
+
+/// Which calls lists are made of.
+pub struct Menu {
+    others: Vec<(usize, &'static str)>,
+    /// Whether each list ends with `dump`, so that every used word is compared.
+    dump: bool,
+}
+
+impl Menu {
+    /// Reads names separated by commas; `makers` stands for all makers, `lattice` for the calls on types, `all` for everything.
+    pub fn read(names: &str) -> Result<Menu, String> {
+        let mut menu = Menu { others: vec![], dump: false };
+        for name in names.split(',') {
+            match name {
+                "makers" => {}
+                "dump" => menu.dump = true,
+                "lattice" => menu.others.extend(OTHERS),
+                "all" => {
+                    menu.dump = true;
+                    menu.others.extend(OTHERS);
+                }
+                _ => menu.others.extend(OTHERS.iter().filter(|other| other.1 == name)),
+            }
+            let is_word = ["makers", "lattice", "all"].contains(&name);
+            if !is_word && known_name(name).is_none() {
+                return Err(format!("{name}: no call of the oracle"));
+            }
+        }
+        Ok(menu)
+    }
+}
+
+/// A list of calls with the Rust's answers.
+pub struct List {
+    pub steps: Vec<Step>,
+    pub asked: Vec<Asked>,
+}
+
+/// Walks visit shared parts again and again, so a type of 31 tuples (x, x) would take them 2^31 visits. Such types are made, and nothing
+/// that walks is asked about those above this.
+const MOST_VISITS: u64 = 2000;
+
+struct Generator<'a, 't, 'm> {
+    random: Random,
+    menu: &'m Menu,
+    runner: Runner<'a, 't>,
+    /// For each entry of the store, how a call says that it means it.
+    origins: Vec<Arg>,
+    list: List,
+}
+
+/// The list of this seed.
+pub fn list(seed: u64, menu: &Menu) -> List {
+    let arena = DroplessArena::new();
+    let types = Types::new(&arena);
+    let mut generator = Generator {
+        random: Random::new(seed),
+        menu,
+        runner: Runner::new(&types),
+        origins: vec![],
+        list: List { steps: vec![], asked: vec![] },
+    };
+    generator.whole_list();
+    generator.list
+}
+
+impl Generator<'_, '_, '_> {
+    fn whole_list(&mut self) {
+        if self.random.percent(4) {
+            self.row_one();
+        }
+        let length = values::length(&mut self.random);
+        self.run("fresh", vec![Arg::Number(length as u64)], vec![]);
+        // a store that is full soon has little to say for long
+        let most = if length < 130 { 60 } else { 400 };
+        let size = self.random.between(20, most);
+        while self.list.steps.len() < size {
+            self.some_call();
+        }
+        if self.menu.dump {
+            self.run("dump", vec![], vec![]);
+        }
+    }
+
+    /// Calls on a list that is no store.
+    fn row_one(&mut self) {
+        if self.random.percent(50) {
+            let numbers = [self.random.of(&[0, 1, 93, 94, 95, 500]), values::int(&mut self.random)];
+            self.run("list", numbers.map(Arg::Number).to_vec(), vec![]);
+        } else {
+            let length = self.random.of(&[0, 1, 92, 93]);
+            self.run("fresh", vec![Arg::Number(length)], vec![]);
+        }
+        for name in ["get_bool", "kind", "fref", "int", "float", "tuple", "dual"] {
+            if MAKERS.iter().chain(&self.menu.others).any(|other| other.1 == name) {
+                let number = values::trouble(&mut self.random);
+                self.run(name, vec![Arg::Number(number)], vec![]);
+            }
+        }
+        self.run("fresh", vec![], vec![]);
+    }
+
+    fn some_call(&mut self) {
+        if self.random.percent(3) {
+            return self.repeat();
+        }
+        if self.random.below(600) == 0 {
+            return self.towers();
+        }
+        if self.menu.others.is_empty() || self.random.percent(50) {
+            self.make();
+        } else {
+            self.ask_about();
+        }
+    }
+
+    /// An earlier call once more: what it made is found again.
+    fn repeat(&mut self) {
+        let step = self.list.steps[self.random.below(self.list.steps.len())].clone();
+        if !["list", "fresh"].contains(&step.name) && self.ends(step.name, &step.args) {
+            self.run(step.name, step.args, step.text);
+        }
+    }
+
+    fn ask_about(&mut self) {
+        match self.random.weighted(&self.menu.others) {
+            name @ ("meet" | "isa" | "join") => self.ask_about_two(name),
+            name => {
+                let a = self.walked();
+                self.call(name, vec![self.origins[a]]);
+            }
+        }
+    }
+
+    /// Two types: mostly alike, since others meet at Bot; or a type and a meet that it went into, where isa says yes.
+    fn ask_about_two(&mut self, name: &'static str) {
+        if self.random.percent(15) {
+            let meets: Vec<&Step> = self.list.steps.iter().filter(|step| step.name == "meet").collect();
+            if !meets.is_empty() {
+                let meet = meets[self.random.below(meets.len())];
+                let args = vec![self.random.of(&meet.args), Arg::Answer(meet.id)];
+                return self.call(name, args);
+            }
+        }
+        let a = self.walked();
+        let b = if self.random.percent(85) { self.alike(a) } else { self.walked() };
+        self.call(name, vec![self.origins[a], self.origins[b]]);
+    }
+
+    /// Makes a call, now and then with arguments that it refuses.
+    fn call(&mut self, name: &'static str, args: Vec<Arg>) {
+        let args = self.spoilt(args);
+        if self.ends(name, &args) {
+            self.run(name, args, vec![]);
+        }
+    }
+
+    /// Whether a call comes to its end soon: a number by chance may be the handle of a type that takes a walk too many visits.
+    fn ends(&self, name: &str, args: &[Arg]) -> bool {
+        let walks = self.menu.others.iter().any(|other| other.1 == name);
+        let is_long = |arg: &Arg| self.store().entry(self.runner.number(*arg)).is_some_and(|entry| entry.visits > MOST_VISITS);
+        !(walks && args.iter().any(is_long))
+    }
+
+    fn spoilt(&mut self, mut args: Vec<Arg>) -> Vec<Arg> {
+        if args.is_empty() || !self.random.percent(8) {
+            return args;
+        }
+        for _ in 0..self.random.of(&[1, 1, 2]) {
+            let place = self.random.below(args.len());
+            args[place] = self.wrong();
+        }
+        // only a field list may have any length, and a tuple
+        if args.len() > 4 && self.random.percent(20) {
+            args.truncate(args.len() - self.random.between(1, 3));
+        }
+        args
+    }
+
+    /// An argument that is mostly refused: a troublesome number, a handle of any kind, a place inside or past the entries.
+    fn wrong(&mut self) -> Arg {
+        let any = self.one(|_| true);
+        let handle = self.store().entries[any].handle;
+        let used = self.store().words.len() as u64;
+        match self.random.below(6) {
+            0 | 1 => Arg::Number(values::trouble(&mut self.random)),
+            2 => self.name(),
+            3 => self.origins[any],
+            4 => Arg::Number(handle + 1),
+            _ => Arg::Number(self.random.of(&[used, used + 1, self.store().length as u64])),
+        }
+    }
+
+    /// Runs a step, writes it down and hands back its id.
+    fn run(&mut self, name: &'static str, args: Vec<Arg>, text: Vec<u8>) -> usize {
+        let id = self.list.steps.len();
+        let step = Step { id, name, args, text };
+        let asked = self.runner.run(&step);
+        self.note_origins(id, &asked);
+        self.list.steps.push(step);
+        self.list.asked.push(asked);
+        id
+    }
+
+    fn note_origins(&mut self, id: usize, asked: &Asked) {
+        let entries = self.runner.session.store().map_or(&[][..], |store| &store.entries);
+        let before = if asked.call.name == "fresh" { 0 } else { self.origins.len() };
+        self.origins.truncate(before);
+        for (k, entry) in entries[before..].iter().enumerate() {
+            self.origins.push(match &asked.answer {
+                _ if asked.call.name == "fresh" => Arg::Number(entry.handle),
+                Answer::Number(answer) if *answer == entry.handle => Arg::Answer(id),
+                _ => Arg::Appended(id, k),
+            });
+        }
+    }
+}

@@ -1,0 +1,109 @@
+//! The original Rust as an oracle: it answers scripts of calls as the program `calls` does. README.md says how.
+
+mod ask;
+mod compare;
+mod generate;
+mod random;
+mod replay;
+mod rows;
+mod script;
+mod session;
+mod shrink;
+mod steps;
+mod store;
+mod values;
+
+use compare::Program;
+use generate::Menu;
+use std::error::Error;
+use std::process::ExitCode;
+
+const USAGE: &str = "oracle                                      runs a script from standard input, prints the Rust's answers
+oracle check FILE..                         compares scripts with the answers behind '; =>'
+oracle time FILE [K]                        runs a script K times (10), prints the time of each call in the Rust
+oracle sample N [SEED] [--calls NAMES]      prints a script of N calls or more, each line with the Rust's answer
+oracle compare N [SEED] [--calls NAMES] --program FILE --folder FOLDER
+                                            runs N calls or more on the Rust and on a program, which puts its files into a folder
+NAMES: names of calls separated by commas, 'lattice' for the calls on types, 'dump' for the store's words at the end of each list,
+'all'. The makers are always used.";
+
+/// What is compared where no calls are named, and what a sample has: dumps make long lines.
+const COMPARED: &str = "makers,kind,meet,isa,dump";
+const SAMPLED: &str = "makers,kind,meet,isa";
+
+fn main() -> ExitCode {
+    let words: Vec<String> = std::env::args().skip(1).collect();
+    match run(&words) {
+        Ok(true) => ExitCode::SUCCESS,
+        Ok(false) => ExitCode::from(1),
+        Err(error) => {
+            eprintln!("oracle: {error}");
+            ExitCode::from(2)
+        }
+    }
+}
+
+/// Says whether all is well.
+fn run(words: &[String]) -> Result<bool, Box<dyn Error>> {
+    let Some((mode, rest)) = words.split_first() else {
+        replay::run_script()?;
+        return Ok(true);
+    };
+    let (plain, options) = split_options(rest)?;
+    match (mode.as_str(), &plain[..]) {
+        ("check", [_, ..]) => Ok(replay::check(&plain)?),
+        ("time", [file, turns @ ..]) => {
+            replay::time(file, number(turns, 10)? as usize)?;
+            Ok(true)
+        }
+        ("sample", [n, seed @ ..]) => {
+            let menu = Menu::read(options.calls.as_deref().unwrap_or(SAMPLED))?;
+            compare::sample(n.parse()?, number(seed, 1)?, &menu);
+            Ok(true)
+        }
+        ("compare", [n, seed @ ..]) => {
+            let menu = Menu::read(options.calls.as_deref().unwrap_or(COMPARED))?;
+            let (Some(path), Some(folder)) = (options.program, options.folder) else {
+                return Err(USAGE.into());
+            };
+            let program = Program { path: path.into(), folder: folder.into() };
+            Ok(compare::compare(&program, n.parse()?, number(seed, 1)?, &menu)?)
+        }
+        _ => Err(USAGE.into()),
+    }
+}
+
+#[derive(Default)]
+struct Options {
+    calls: Option<String>,
+    program: Option<String>,
+    folder: Option<String>,
+}
+
+fn split_options(words: &[String]) -> Result<(Vec<String>, Options), Box<dyn Error>> {
+    let mut plain = vec![];
+    let mut options = Options::default();
+    let mut words = words.iter();
+    while let Some(word) = words.next() {
+        let place = match word.as_str() {
+            "--calls" => &mut options.calls,
+            "--program" => &mut options.program,
+            "--folder" => &mut options.folder,
+            _ if word.starts_with("--") => return Err(format!("{word}: no option\n{USAGE}").into()),
+            _ => {
+                plain.push(word.clone());
+                continue;
+            }
+        };
+        *place = Some(words.next().ok_or_else(|| format!("{word} wants a word behind it"))?.clone());
+    }
+    Ok((plain, options))
+}
+
+fn number(words: &[String], otherwise: u64) -> Result<u64, Box<dyn Error>> {
+    match words {
+        [] => Ok(otherwise),
+        [word] => Ok(word.parse()?),
+        _ => Err(USAGE.into()),
+    }
+}

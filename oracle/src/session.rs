@@ -1,0 +1,187 @@
+//! A lent list, and the calls on it one after the other: row 1, the other rows, the Rust, and then row 12 or the answer.
+
+use crate::ask::{ask, Clock, Told};
+use crate::rows::refusal;
+use crate::script::{read_line, Call, Line};
+use crate::store::{Store, LONGEST, SHORTEST};
+use original::sea_of_nodes::types::Types;
+use std::fmt;
+use std::panic::{catch_unwind, AssertUnwindSafe};
+
+/// What a line answers.
+#[derive(Clone, Debug, PartialEq)]
+pub enum Answer {
+    /// A handle, or another number.
+    Number(u64),
+    Flag(bool),
+    Refused(u8),
+    Accepted,
+    Words(Vec<u64>),
+    /// No call. The line itself is printed after it.
+    Malformed,
+    /// The Rust cannot be asked, for this reason: not to be compared.
+    NotHeld(String),
+}
+
+impl fmt::Display for Answer {
+    fn fmt(&self, f: &mut fmt::Formatter<'_>) -> fmt::Result {
+        match self {
+            Answer::Number(n) => write!(f, "{n}"),
+            Answer::Flag(yes) => write!(f, "{}", u8::from(*yes)),
+            Answer::Refused(row) => write!(f, "-{row}"),
+            Answer::Accepted => f.write_str("ok"),
+            Answer::Words(words) => {
+                let words: Vec<String> = words.iter().map(u64::to_string).collect();
+                f.write_str(&words.join(" "))
+            }
+            Answer::Malformed => f.write_str("?"),
+            Answer::NotHeld(reason) => write!(f, "! {reason}"),
+        }
+    }
+}
+
+/// The program `calls` has room for this many words.
+const MOST_WORDS: u64 = 65_536;
+
+/// The list that calls are lent.
+enum Lent<'a, 't> {
+    /// Words that are no store: never well formed, since `fresh` was not called on them.
+    Plain(Vec<u64>),
+    Store(Store<'a, 't>),
+    /// Words that the Rust's types do not stand for any more, since one was poked or a type could not be held. The length is still known;
+    /// the words are until a call may have changed them.
+    Lost(usize, Option<Vec<u64>>),
+}
+
+pub struct Session<'a, 't> {
+    types: &'a Types<'t>,
+    lent: Lent<'a, 't>,
+    pub clock: Clock,
+}
+
+impl<'a, 't> Session<'a, 't> {
+    pub fn new(types: &'a Types<'t>) -> Self {
+        Session { types, lent: Lent::Plain(vec![]), clock: Clock::default() }
+    }
+
+    pub fn store(&self) -> Option<&Store<'a, 't>> {
+        match &self.lent {
+            Lent::Store(store) => Some(store),
+            _ => None,
+        }
+    }
+
+    /// Runs a line of a script: no answer for a comment.
+    pub fn run_line(&mut self, line: &str) -> Option<Answer> {
+        let answer = match read_line(line) {
+            Line::Empty => return None,
+            Line::Malformed => Answer::Malformed,
+            Line::Call(call) => self.run(&call),
+        };
+        Some(answer)
+    }
+
+    pub fn run(&mut self, call: &Call) -> Answer {
+        match (call.name, &call.numbers[..]) {
+            ("list" | "fresh", [n, ..]) if *n > MOST_WORDS => Answer::Malformed,
+            ("list", [n]) => self.lend(*n, 0),
+            ("list", [n, value]) => self.lend(*n, *value),
+            ("fresh", []) => self.fresh(),
+            ("fresh", [n]) => {
+                self.lend(*n, 0);
+                self.fresh()
+            }
+            ("peek" | "poke", [i, ..]) if *i >= self.length() as u64 => Answer::Malformed,
+            ("peek", [i]) => self.all_words().map_or_else(lost, |words| Answer::Number(words[*i as usize])),
+            ("poke", [i, value]) => self.poke(*i as usize, *value),
+            ("dump", []) => self.all_words().map_or_else(lost, |words| Answer::Words(used_of(words))),
+            ("dumpall", []) => self.all_words().map_or_else(lost, Answer::Words),
+            ("check", []) => match &self.lent {
+                Lent::Plain(_) => Answer::Flag(false),
+                Lent::Store(_) => Answer::Flag(true),
+                Lent::Lost(..) => lost(),
+            },
+            _ => self.call(call),
+        }
+    }
+
+    fn lend(&mut self, n: u64, value: u64) -> Answer {
+        self.lent = Lent::Plain(vec![value; n as usize]);
+        Answer::Accepted
+    }
+
+    fn fresh(&mut self) -> Answer {
+        let length = self.length();
+        if !(SHORTEST..=LONGEST).contains(&length) {
+            return Answer::Refused(1);
+        }
+        self.lent = Lent::Store(Store::fresh(self.types, length));
+        Answer::Accepted
+    }
+
+    fn length(&self) -> usize {
+        match &self.lent {
+            Lent::Plain(words) => words.len(),
+            Lent::Store(store) => store.length,
+            Lent::Lost(length, _) => *length,
+        }
+    }
+
+    fn all_words(&self) -> Option<Vec<u64>> {
+        match &self.lent {
+            Lent::Plain(words) => Some(words.clone()),
+            Lent::Store(store) => {
+                let mut words = store.words.clone();
+                words.resize(store.length, 0);
+                Some(words)
+            }
+            Lent::Lost(_, words) => words.clone(),
+        }
+    }
+
+    fn poke(&mut self, i: usize, value: u64) -> Answer {
+        let mut words = self.all_words();
+        if let Some(words) = &mut words {
+            words[i] = value;
+        }
+        self.lent = Lent::Lost(self.length(), words);
+        Answer::Accepted
+    }
+
+    /// A call of document 01: refused by its own rows, or answered by the Rust.
+    fn call(&mut self, call: &Call) -> Answer {
+        let store = match &mut self.lent {
+            Lent::Plain(_) => return Answer::Refused(1),
+            Lent::Lost(_, words) => {
+                *words = None;
+                return lost();
+            }
+            Lent::Store(store) => store,
+        };
+        if let Some(row) = refusal(store, call) {
+            return Answer::Refused(row);
+        }
+        let clock = &mut self.clock;
+        let told = catch_unwind(AssertUnwindSafe(|| ask(store, call, clock)));
+        let reason = match told {
+            Ok(Told::Flag(yes)) => return Answer::Flag(yes),
+            Ok(Told::Number(n)) => return Answer::Number(n),
+            Ok(Told::Made(made)) => return store.append(&made).map_or(Answer::Refused(12), Answer::Number),
+            Ok(Told::NotHeld(reason)) => reason,
+            Err(_) => "the Rust panicked",
+        };
+        self.lent = Lent::Lost(self.length(), None);
+        Answer::NotHeld(reason.to_string())
+    }
+}
+
+/// The words that word 0 counts, and no more than there are.
+fn used_of(mut words: Vec<u64>) -> Vec<u64> {
+    let used = words.first().map_or(0, |n| (*n).min(words.len() as u64));
+    words.truncate(used as usize);
+    words
+}
+
+fn lost() -> Answer {
+    Answer::NotHeld("the Rust's types do not stand for this list any more".to_string())
+}
