@@ -1,2 +1,3 @@
 pub mod Built
 pub mod Fields
+pub mod FloatSize

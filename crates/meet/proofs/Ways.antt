@@ -19,6 +19,7 @@ use Rattle.call.specs.Keep.{Adds}
 use Rattle.call.specs.Handles.{word, kindOn, depthOn, countOn}
 use Rattle.makers.specs.Entries.{tupleEntry, pointerEntry, memoryEntry}
 use Rattle.type_float.specs.Float.{isSizeWord}
+use Rattle.makers.proofs.FloatSize.{size-word}
 use Rattle.float_meet.specs.FloatRule.{floatRule}
 use Rattle.parts.specs.Parts.{Good, Part, Name, All, Ready}
 use Rattle.parts.proofs.Parts.{few, flat, no-fields, of-tuple, of-struct, of-fref, of-pointer, of-memory, of-float, all-map}
@@ -78,6 +79,11 @@ module _ (old new : List ℕ) (used a b : ℕ) (rd : Ready old new used 1 11 a b
   met-ints e new′ m t = by-rule Ints e new′ m (λ k ka kb. t)
 
   -- floats
+  pub float-sizes : r ≡ Floats → (isSizeWord (word u (a + 1)) ≡ true) × (isSizeWord (word u (b + 1)) ≡ true)
+  float-sizes e =
+      let s = sure-floats u a b (sym er ∙ e) in
+      (size-word (word u (a + 1)) (word u (a + 2)) (of-float (rd .good .sound) (rd .first) (s .0)), size-word (word u (b + 1)) (word u (b + 2)) (of-float (rd .good .sound) (rd .second) (s .1)))
+
   pub met-floats : r ≡ Floats → (h : ℕ) → h ≡ floatHandle a b (floatRule (readingOn u a) (readingOn u b)) → Met old new used a b new (At h used)
   unfolding follow
   met-floats e h q = by-rule Floats e new (At h used) (λ k ka kb. rw (← q) (old-ran h rd))
@@ -240,10 +246,11 @@ module _ (old new : List ℕ) (used a b : ℕ) (rd : Ready old new used 1 11 a b
 -- the next part of a tuple
 module _ (old new : List ℕ) (used a b n : ℕ) (now parts : List ℕ) (v i : ℕ) (J : Going 1 old new used a b n (a + 1) (b + 1) now parts v i) (more : i < n) (p q : ℕ) (ep : p ≡ getD (take used (old ++ now)) (a + 1 + i) 0) (eq : q ≡ getD (take used (old ++ now)) (b + 1 + i) 0) where
   pub tuple-next : (p < a) × (q < b) × Ready old now v 1 11 p q
-  tuple-next =
-      (going-first J more (a + 1 + i) (b + 1 + i) p q (omega arith) (omega arith) ep eq,
-      going-second J more (a + 1 + i) (b + 1 + i) p q (omega arith) (omega arith) ep eq,
-      going-ready J more (a + 1 + i) (b + 1 + i) p q (omega arith) (omega arith) ep eq)
+  tuple-next = (
+    going-first J more (a + 1 + i) (b + 1 + i) p q (omega arith) (omega arith) ep eq,
+    going-second J more (a + 1 + i) (b + 1 + i) p q (omega arith) (omega arith) ep eq,
+    going-ready J more (a + 1 + i) (b + 1 + i) p q (omega arith) (omega arith) ep eq,
+  )
 
   pub tuple-turn : {now₂ : List ℕ} {m : Interned} → Met old now v p q now₂ m → (h v′ : ℕ) → m ≡ At h v′ → i < length parts → Going 1 old new used a b n (a + 1) (b + 1) now₂ (set parts i h) v′ (i + 1)
   tuple-turn t = going-turn J more (a + 1 + i) (b + 1 + i) p q (omega arith) (omega arith) ep eq t
@@ -340,10 +347,11 @@ module _ (old new : List ℕ) (used a b : ℕ) (rd : Ready old new used 8 9 a b)
 -- the next field of a struct
 module _ (old new : List ℕ) (used a b n : ℕ) (now parts : List ℕ) (v i : ℕ) (J : Going 3 old new used a b n (a + 3) (b + 3) now parts v i) (more : i < n) (p q : ℕ) (ep : p ≡ getD (take used (old ++ now)) (a + 3 + 3 * i) 0) (eq : q ≡ getD (take used (old ++ now)) (b + 3 + 3 * i) 0) where
   pub struct-next : (p < a) × (q < b) × Ready old now v 1 11 p q
-  struct-next =
-      (going-first J more (a + 3 + 3 * i) (b + 3 + 3 * i) p q refl refl ep eq,
-      going-second J more (a + 3 + 3 * i) (b + 3 + 3 * i) p q refl refl ep eq,
-      going-ready J more (a + 3 + 3 * i) (b + 3 + 3 * i) p q refl refl ep eq)
+  struct-next = (
+    going-first J more (a + 3 + 3 * i) (b + 3 + 3 * i) p q refl refl ep eq,
+    going-second J more (a + 3 + 3 * i) (b + 3 + 3 * i) p q refl refl ep eq,
+    going-ready J more (a + 3 + 3 * i) (b + 3 + 3 * i) p q refl refl ep eq,
+  )
 
   pub struct-turn : {now₂ : List ℕ} {m : Interned} → Met old now v p q now₂ m → (h v′ : ℕ) → m ≡ At h v′ → i < length parts → Going 3 old new used a b n (a + 3) (b + 3) now₂ (set parts i h) v′ (i + 1)
   struct-turn t = going-turn J more (a + 3 + 3 * i) (b + 3 + 3 * i) p q refl refl ep eq t

@@ -20,7 +20,7 @@ use Rattle.call.specs.Call.{handle, left, done, _when_}
 use Rattle.call.specs.declared.Done.the-variants.{Accepted, Refused}
 use Rattle.makers.specs.Entries.{floatEntry, storedSize}
 use Rattle.makers.specs.Makers.{freshCall}
-use Rattle.wellformed.proofs.Bools.{and-left, and-right}
+use Rattle.makers.proofs.FloatSize.{size-word}
 
 -- ---- fresh
 
@@ -79,27 +79,6 @@ plain-name name kept u ws ws′ r ran = ran
 
 -- ---- make_float
 
--- the size of a float that the maker takes
-size-word-ok : (size bits : ℕ) → floatOk size bits ≡ true → isSizeWord size ≡ true
-unfolding floatOk
-size-word-ok size bits e = go (eqb size 64) refl (eqb bits 0) e
-  where
-    multiple : size ≤ 128 → size % 32 ≡ 0 → isSizeWord size ≡ true
-    multiple h m = by (size / 32) (omega arith) (omega arith)
-      where
-        by : (q : ℕ) → size ≡ 32 * q → q ≤ 4 → isSizeWord size ≡ true
-        by zero s l = let z : size ≡ 0 = omega arith in rw z
-        by (suc zero) s l = let z : size ≡ 32 = omega arith in rw z
-        by (suc (suc zero)) s l = let z : size ≡ 64 = omega arith in rw z
-        by (suc (suc (suc zero))) s l = let z : size ≡ 96 = omega arith in rw z
-        by (suc (suc (suc (suc zero)))) s l = let z : size ≡ 128 = omega arith in rw z
-        by (suc (suc (suc (suc (suc q))))) s l = absurd (omega arith)
-
-    go : (t : Bool) → eqb size 64 ≡ t → (b : Bool) → (t || ((b && leb size 128) && eqb (size % 32) 0)) ≡ true → isSizeWord size ≡ true
-    go true q b f = let z : size ≡ 64 = eqb-true size 64 q in rw z
-    go false q true f = multiple (leb-true size 128 (and-left (leb size 128) (eqb (size % 32) 0) f)) (eqb-true (size % 32) 0 (and-right (leb size 128) (eqb (size % 32) 0) f))
-    go false q false f = let z : _≡_ {A = ℕ} 0 1 = cc in absurd (omega arith)
-
 module _ (sz bits size : ℕ) (is : size ≡ (sz + 64) % 2 ^ 64) (t : Bool) (it : t ≡ floatOk size bits) where
   pub no-float : not t ≡ true → 4 ≡ (4 when not (floatOk (storedSize sz) bits))
   no-float n = rw (← is, sym it ∙ not-true t n)
@@ -109,7 +88,7 @@ module _ (sz bits size : ℕ) (is : size ≡ (sz + 64) % 2 ^ 64) (t : Bool) (it 
     a-float = rw (← is, sym it ∙ not-false t y)
 
     pub size-known : isSizeWord size ≡ true
-    size-known = size-word-ok size bits (sym it ∙ not-false t y)
+    size-known = size-word size bits (sym it ∙ not-false t y)
 
     pub size-fits : (z : ℤ) → z ≡ sizeFrom size → isSize z ≡ true
     size-fits z e = rw e (size-ok size size-known)

@@ -1,3 +1,14 @@
+-- `meet::meet_struct` and `meet::meet_type` meet their contracts: one proof of the cycle, whose measure is twice the larger handle, plus
+-- one in a type's meet. Each way out is a lemma of Ways.antt.
+use mathlib.Core.Path.{_≡_, refl, sym}
+use Prim.Native.Nat.{_+_, _*_, _-_, _/_, _≤_, max}
+use lib.ListN.{length, take, length-set}
+use lib.Seq.{length-take-le}
+use native.Mathlib.Omega.{arith}
+use borrow.Author.Needs.{needs}
+use Rattle.parts.proofs.Good.{ready-segments}
+use Rattle.meet.proofs.Loop.{Going, going-segments, grew-long, grew-high, grew-up}
+use Rattle.meet.proofs.Ways.{met-first, met-second, met-bottom, met-ints, float-sizes, met-floats, ready-structs, met-structs, pointer-next, pointer-full, pointer-segments, met-pointers, memory-next, memory-full, memory-segments, met-memories, tuple-few, tuple-begin, tuple-stop, tuple-end, tuple-next, tuple-turn, names-below, met-former, met-latter, met-lowest, struct-few, struct-begin, struct-stop, struct-end, struct-values, struct-next, struct-turn}
 use Prim.Native.Nat.{ℕ, _<_}
 use borrow.Fn.Kinds.{In}
 use borrow.Fn.PlainCycle.{Measures, is, falls, and}
@@ -22,10 +33,10 @@ use Rattle.meet.proofs.+meet_struct+meet_type.{statement}
 use Rattle.meet.proofs.+meet_struct+meet_type.Tie.{close}
 
 abbrev μ-meet-struct : Measures 2 meet-struct-kinds.ps ℕ
-μ-meet-struct κs a = ?
+μ-meet-struct κs a = 2 * max (a .1 .1 .1 .0) (a .1 .1 .1 .1 .0)
 
 abbrev μ-meet-type : Measures 2 meet-type-kinds.ps ℕ
-μ-meet-type κs a = ?
+μ-meet-type κs a = 2 * max (a .1 .1 .1 .0) (a .1 .1 .1 .1 .0) + 1
 
 abbrev meet-struct-at : ℕ → In 2 meet-struct-kinds.ps
 meet-struct-at t =
@@ -42,2712 +53,423 @@ abbrev meet-type-below : ℕ → In 2 meet-type-kinds.ps
 meet-type-below t =
     and 2 meet-type-kinds.ps (falls 2 meet-type-kinds.ps _<_ μ-meet-type t) meet-type.Pre
 
+abbrev meet-struct-K : ℕ → meet-struct-lts.Claims
+meet-struct-K t = (struct-rule-reads.Asked, struct-rule-reads.Learnt, word-reads.Asked, word-reads.Learnt, meet-type-below t, meet-type.Post, meet-fields-reads.Asked, meet-fields-reads.Learnt)
+
+abbrev meet-type-K : ℕ → meet-type-lts.Claims
+meet-type-K t = (type-rule-reads.Asked, type-rule-reads.Learnt, meet-int-reads.Asked, meet-int-reads.Learnt, meet-float-reads.Asked, meet-float-reads.Learnt, meet-struct-below t, meet-struct.Post, word-reads.Asked, word-reads.Learnt, larger-reads.Asked, larger-reads.Learnt, pointer-reads.Asked, pointer-reads.Learnt, shared-alias-reads.Asked, shared-alias-reads.Learnt, meet-type-below t, meet-type.Post, memory-reads.Asked, memory-reads.Learnt, tuple-reads.Asked, tuple-reads.Learnt)
+
 abbrev meet-struct-Inv-loop : meet-struct-lts.InvT-loop
-meet-struct-Inv-loop old new₀ used a b n types₀ v₀ i₀ new types v i = ?
+meet-struct-Inv-loop old new₀ used a b n types₀ v₀ i₀ new types v i = (i ≤ n) × (n ≤ 255) × (length types ≡ 255) × (length new ≡ length new₀) × (v ≤ length old + length new₀) × (used ≤ v) × (length old ≤ used) × (a < 1048576) × (b < 1048576) × Going 3 old new₀ used a b n (a + 3) (b + 3) new types v i
 
 abbrev meet-struct-μ-loop : meet-struct-lts.MeasureT-loop
-meet-struct-μ-loop old new₀ used a b n types₀ v₀ i₀ new types v i = ?
+meet-struct-μ-loop old new₀ used a b n types₀ v₀ i₀ new types v i = n - i
 
--- src/lib.rt:78:9
-meet-struct-struct-rule-requires : (t : ℕ) → meet-struct-lts.Need-struct-rule-requires (
-  struct-rule-reads.Asked,
-  struct-rule-reads.Learnt,
-  word-reads.Asked,
-  word-reads.Learnt,
-  meet-type-below t,
-  meet-type.Post,
-  meet-fields-reads.Asked,
-  meet-fields-reads.Learnt,
-) (meet-struct-at t) meet-struct.Post meet-struct-Inv-loop meet-struct-μ-loop
-meet-struct-struct-rule-requires t c κs = ?
+meet-struct-struct-rule-requires : (t : ℕ) → meet-struct-lts.Need-struct-rule-requires (meet-struct-K t) (meet-struct-at t) meet-struct.Post meet-struct-Inv-loop meet-struct-μ-loop
+meet-struct-struct-rule-requires t c κs =
+    let P = c .before .before .before .pre .1 in
+    ((P .over, P .within), names-below _ _ _ _ _ P)
 
--- src/lib.rt:80:31
-meet-struct-enum-told : (t : ℕ) → meet-struct-lts.Need-enum-told (
-  struct-rule-reads.Asked,
-  struct-rule-reads.Learnt,
-  word-reads.Asked,
-  word-reads.Learnt,
-  meet-type-below t,
-  meet-type.Post,
-  meet-fields-reads.Asked,
-  meet-fields-reads.Learnt,
-) (meet-struct-at t) meet-struct.Post meet-struct-Inv-loop meet-struct-μ-loop
-meet-struct-enum-told t c = ?
+meet-struct-enum-told : (t : ℕ) → meet-struct-lts.Need-enum-told (meet-struct-K t) (meet-struct-at t) meet-struct.Post meet-struct-Inv-loop meet-struct-μ-loop
+meet-struct-enum-told t c = search needs
 
--- src/lib.rt:81:31
-meet-struct-enum-told-2 : (t : ℕ) → meet-struct-lts.Need-enum-told-2 (
-  struct-rule-reads.Asked,
-  struct-rule-reads.Learnt,
-  word-reads.Asked,
-  word-reads.Learnt,
-  meet-type-below t,
-  meet-type.Post,
-  meet-fields-reads.Asked,
-  meet-fields-reads.Learnt,
-) (meet-struct-at t) meet-struct.Post meet-struct-Inv-loop meet-struct-μ-loop
-meet-struct-enum-told-2 t c = ?
+meet-struct-enum-told-2 : (t : ℕ) → meet-struct-lts.Need-enum-told-2 (meet-struct-K t) (meet-struct-at t) meet-struct.Post meet-struct-Inv-loop meet-struct-μ-loop
+meet-struct-enum-told-2 t c = search needs
 
--- src/lib.rt:82:31
-meet-struct-enum-told-3 : (t : ℕ) → meet-struct-lts.Need-enum-told-3 (
-  struct-rule-reads.Asked,
-  struct-rule-reads.Learnt,
-  word-reads.Asked,
-  word-reads.Learnt,
-  meet-type-below t,
-  meet-type.Post,
-  meet-fields-reads.Asked,
-  meet-fields-reads.Learnt,
-) (meet-struct-at t) meet-struct.Post meet-struct-Inv-loop meet-struct-μ-loop
-meet-struct-enum-told-3 t c = ?
+meet-struct-enum-told-3 : (t : ℕ) → meet-struct-lts.Need-enum-told-3 (meet-struct-K t) (meet-struct-at t) meet-struct.Post meet-struct-Inv-loop meet-struct-μ-loop
+meet-struct-enum-told-3 t c = search needs
 
--- src/lib.rt:84:39
-meet-struct-enum-told-4 : (t : ℕ) → meet-struct-lts.Need-enum-told-4 (
-  struct-rule-reads.Asked,
-  struct-rule-reads.Learnt,
-  word-reads.Asked,
-  word-reads.Learnt,
-  meet-type-below t,
-  meet-type.Post,
-  meet-fields-reads.Asked,
-  meet-fields-reads.Learnt,
-) (meet-struct-at t) meet-struct.Post meet-struct-Inv-loop meet-struct-μ-loop
-meet-struct-enum-told-4 t c = ?
+meet-struct-enum-told-4 : (t : ℕ) → meet-struct-lts.Need-enum-told-4 (meet-struct-K t) (meet-struct-at t) meet-struct.Post meet-struct-Inv-loop meet-struct-μ-loop
+meet-struct-enum-told-4 t c = search needs
 
--- src/lib.rt:84:22
-meet-struct-word-requires : (t : ℕ) → meet-struct-lts.Need-word-requires (
-  struct-rule-reads.Asked,
-  struct-rule-reads.Learnt,
-  word-reads.Asked,
-  word-reads.Learnt,
-  meet-type-below t,
-  meet-type.Post,
-  meet-fields-reads.Asked,
-  meet-fields-reads.Learnt,
-) (meet-struct-at t) meet-struct.Post meet-struct-Inv-loop meet-struct-μ-loop
-meet-struct-word-requires t c κs = ?
+meet-struct-word-requires : (t : ℕ) → meet-struct-lts.Need-word-requires (meet-struct-K t) (meet-struct-at t) meet-struct.Post meet-struct-Inv-loop meet-struct-μ-loop
+meet-struct-word-requires t c κs = search needs
 
--- src/lib.rt:88:13
-meet-struct-loop-holds : (t : ℕ) → meet-struct-lts.Need-loop-holds (
-  struct-rule-reads.Asked,
-  struct-rule-reads.Learnt,
-  word-reads.Asked,
-  word-reads.Learnt,
-  meet-type-below t,
-  meet-type.Post,
-  meet-fields-reads.Asked,
-  meet-fields-reads.Learnt,
-) (meet-struct-at t) meet-struct.Post meet-struct-Inv-loop meet-struct-μ-loop
-meet-struct-loop-holds t c = ?
+meet-struct-loop-holds : (t : ℕ) → meet-struct-lts.Need-loop-holds (meet-struct-K t) (meet-struct-at t) meet-struct.Post meet-struct-Inv-loop meet-struct-μ-loop
+meet-struct-loop-holds t c =
+    let P = c .before .before .before .before .before .before .before .before .pre .1 in
+    let k = c .before .before .before .before .struct-rule .ensures in
+    let e = c .before .before .enum-told4 .given .1 in
+    let x = c .word .ensures in
+    (search needs, struct-few _ _ _ _ _ P _ k e _ x, search needs, refl, P .within, search needs, P .over, omega (arith, P .near, P .within, P .small), omega (arith, P .next, P .within, P .small), struct-begin _ _ _ _ _ P _ k e _ x _)
 
--- src/lib.rt:89:53
-meet-struct-add-word : (t : ℕ) → meet-struct-lts.Need-add-word (
-  struct-rule-reads.Asked,
-  struct-rule-reads.Learnt,
-  word-reads.Asked,
-  word-reads.Learnt,
-  meet-type-below t,
-  meet-type.Post,
-  meet-fields-reads.Asked,
-  meet-fields-reads.Learnt,
-) (meet-struct-at t) meet-struct.Post meet-struct-Inv-loop meet-struct-μ-loop
-meet-struct-add-word t c = ?
+meet-struct-add-word : (t : ℕ) → meet-struct-lts.Need-add-word (meet-struct-K t) (meet-struct-at t) meet-struct.Post meet-struct-Inv-loop meet-struct-μ-loop
+meet-struct-add-word t c = search needs
 
--- src/lib.rt:89:61
-meet-struct-mul-word : (t : ℕ) → meet-struct-lts.Need-mul-word (
-  struct-rule-reads.Asked,
-  struct-rule-reads.Learnt,
-  word-reads.Asked,
-  word-reads.Learnt,
-  meet-type-below t,
-  meet-type.Post,
-  meet-fields-reads.Asked,
-  meet-fields-reads.Learnt,
-) (meet-struct-at t) meet-struct.Post meet-struct-Inv-loop meet-struct-μ-loop
-meet-struct-mul-word t c = ?
+meet-struct-mul-word : (t : ℕ) → meet-struct-lts.Need-mul-word (meet-struct-K t) (meet-struct-at t) meet-struct.Post meet-struct-Inv-loop meet-struct-μ-loop
+meet-struct-mul-word t c = search needs
 
--- src/lib.rt:89:53
-meet-struct-add-word-2 : (t : ℕ) → meet-struct-lts.Need-add-word-2 (
-  struct-rule-reads.Asked,
-  struct-rule-reads.Learnt,
-  word-reads.Asked,
-  word-reads.Learnt,
-  meet-type-below t,
-  meet-type.Post,
-  meet-fields-reads.Asked,
-  meet-fields-reads.Learnt,
-) (meet-struct-at t) meet-struct.Post meet-struct-Inv-loop meet-struct-μ-loop
-meet-struct-add-word-2 t c = ?
+meet-struct-add-word-2 : (t : ℕ) → meet-struct-lts.Need-add-word-2 (meet-struct-K t) (meet-struct-at t) meet-struct.Post meet-struct-Inv-loop meet-struct-μ-loop
+meet-struct-add-word-2 t c = search needs
 
--- src/lib.rt:89:25
-meet-struct-word-requires-2 : (t : ℕ) → meet-struct-lts.Need-word-requires-2 (
-  struct-rule-reads.Asked,
-  struct-rule-reads.Learnt,
-  word-reads.Asked,
-  word-reads.Learnt,
-  meet-type-below t,
-  meet-type.Post,
-  meet-fields-reads.Asked,
-  meet-fields-reads.Learnt,
-) (meet-struct-at t) meet-struct.Post meet-struct-Inv-loop meet-struct-μ-loop
-meet-struct-word-requires-2 t c κs = ?
+meet-struct-word-requires-2 : (t : ℕ) → meet-struct-lts.Need-word-requires-2 (meet-struct-K t) (meet-struct-at t) meet-struct.Post meet-struct-Inv-loop meet-struct-μ-loop
+meet-struct-word-requires-2 t c κs = search needs
 
--- src/lib.rt:90:53
-meet-struct-add-word-3 : (t : ℕ) → meet-struct-lts.Need-add-word-3 (
-  struct-rule-reads.Asked,
-  struct-rule-reads.Learnt,
-  word-reads.Asked,
-  word-reads.Learnt,
-  meet-type-below t,
-  meet-type.Post,
-  meet-fields-reads.Asked,
-  meet-fields-reads.Learnt,
-) (meet-struct-at t) meet-struct.Post meet-struct-Inv-loop meet-struct-μ-loop
-meet-struct-add-word-3 t c = ?
+meet-struct-add-word-3 : (t : ℕ) → meet-struct-lts.Need-add-word-3 (meet-struct-K t) (meet-struct-at t) meet-struct.Post meet-struct-Inv-loop meet-struct-μ-loop
+meet-struct-add-word-3 t c = search needs
 
--- src/lib.rt:90:61
-meet-struct-mul-word-2 : (t : ℕ) → meet-struct-lts.Need-mul-word-2 (
-  struct-rule-reads.Asked,
-  struct-rule-reads.Learnt,
-  word-reads.Asked,
-  word-reads.Learnt,
-  meet-type-below t,
-  meet-type.Post,
-  meet-fields-reads.Asked,
-  meet-fields-reads.Learnt,
-) (meet-struct-at t) meet-struct.Post meet-struct-Inv-loop meet-struct-μ-loop
-meet-struct-mul-word-2 t c = ?
+meet-struct-mul-word-2 : (t : ℕ) → meet-struct-lts.Need-mul-word-2 (meet-struct-K t) (meet-struct-at t) meet-struct.Post meet-struct-Inv-loop meet-struct-μ-loop
+meet-struct-mul-word-2 t c = search needs
 
--- src/lib.rt:90:53
-meet-struct-add-word-4 : (t : ℕ) → meet-struct-lts.Need-add-word-4 (
-  struct-rule-reads.Asked,
-  struct-rule-reads.Learnt,
-  word-reads.Asked,
-  word-reads.Learnt,
-  meet-type-below t,
-  meet-type.Post,
-  meet-fields-reads.Asked,
-  meet-fields-reads.Learnt,
-) (meet-struct-at t) meet-struct.Post meet-struct-Inv-loop meet-struct-μ-loop
-meet-struct-add-word-4 t c = ?
+meet-struct-add-word-4 : (t : ℕ) → meet-struct-lts.Need-add-word-4 (meet-struct-K t) (meet-struct-at t) meet-struct.Post meet-struct-Inv-loop meet-struct-μ-loop
+meet-struct-add-word-4 t c = search needs
 
--- src/lib.rt:90:25
-meet-struct-word-requires-3 : (t : ℕ) → meet-struct-lts.Need-word-requires-3 (
-  struct-rule-reads.Asked,
-  struct-rule-reads.Learnt,
-  word-reads.Asked,
-  word-reads.Learnt,
-  meet-type-below t,
-  meet-type.Post,
-  meet-fields-reads.Asked,
-  meet-fields-reads.Learnt,
-) (meet-struct-at t) meet-struct.Post meet-struct-Inv-loop meet-struct-μ-loop
-meet-struct-word-requires-3 t c κs = ?
+meet-struct-word-requires-3 : (t : ℕ) → meet-struct-lts.Need-word-requires-3 (meet-struct-K t) (meet-struct-at t) meet-struct.Post meet-struct-Inv-loop meet-struct-μ-loop
+meet-struct-word-requires-3 t c κs = search needs
 
--- src/lib.rt:91:21
-meet-struct-meet-type-requires : (t : ℕ) → meet-struct-lts.Need-meet-type-requires (
-  struct-rule-reads.Asked,
-  struct-rule-reads.Learnt,
-  word-reads.Asked,
-  word-reads.Learnt,
-  meet-type-below t,
-  meet-type.Post,
-  meet-fields-reads.Asked,
-  meet-fields-reads.Learnt,
-) (meet-struct-at t) meet-struct.Post meet-struct-Inv-loop meet-struct-μ-loop
-meet-struct-meet-type-requires t c κs = ?
+meet-struct-meet-type-requires : (t : ℕ) → meet-struct-lts.Need-meet-type-requires (meet-struct-K t) (meet-struct-at t) meet-struct.Post meet-struct-Inv-loop meet-struct-μ-loop
+meet-struct-meet-type-requires t c κs =
+    let n = struct-next _ _ _ _ _ _ (c .before .before .before .before .before .before .loop .new) _ _ _ (c .before .before .before .before .before .before .loop .inv .9) (c .before .before .before .before .before .loop-test .taken) _ _ (c .before .before .before .word2 .ensures) (c .before .word3 .ensures) in
+    (omega (arith, n .0, n .1), n .2)
 
--- src/lib.rt:93:34
-meet-struct-enum-known-m : (t : ℕ) → meet-struct-lts.Need-enum-known-m (
-  struct-rule-reads.Asked,
-  struct-rule-reads.Learnt,
-  word-reads.Asked,
-  word-reads.Learnt,
-  meet-type-below t,
-  meet-type.Post,
-  meet-fields-reads.Asked,
-  meet-fields-reads.Learnt,
-) (meet-struct-at t) meet-struct.Post meet-struct-Inv-loop meet-struct-μ-loop
-meet-struct-enum-known-m t c = ?
+meet-struct-enum-known-m : (t : ℕ) → meet-struct-lts.Need-enum-known-m (meet-struct-K t) (meet-struct-at t) meet-struct.Post meet-struct-Inv-loop meet-struct-μ-loop
+meet-struct-enum-known-m t c = search needs
 
--- src/lib.rt:94:25
-meet-struct-mul-types : (t : ℕ) → meet-struct-lts.Need-mul-types (
-  struct-rule-reads.Asked,
-  struct-rule-reads.Learnt,
-  word-reads.Asked,
-  word-reads.Learnt,
-  meet-type-below t,
-  meet-type.Post,
-  meet-fields-reads.Asked,
-  meet-fields-reads.Learnt,
-) (meet-struct-at t) meet-struct.Post meet-struct-Inv-loop meet-struct-μ-loop
-meet-struct-mul-types t c = ?
+meet-struct-mul-types : (t : ℕ) → meet-struct-lts.Need-mul-types (meet-struct-K t) (meet-struct-at t) meet-struct.Post meet-struct-Inv-loop meet-struct-μ-loop
+meet-struct-mul-types t c = search needs
 
--- src/lib.rt:94:25
-meet-struct-array-write-types : (t : ℕ) → meet-struct-lts.Need-array-write-types (
-  struct-rule-reads.Asked,
-  struct-rule-reads.Learnt,
-  word-reads.Asked,
-  word-reads.Learnt,
-  meet-type-below t,
-  meet-type.Post,
-  meet-fields-reads.Asked,
-  meet-fields-reads.Learnt,
-) (meet-struct-at t) meet-struct.Post meet-struct-Inv-loop meet-struct-μ-loop
-meet-struct-array-write-types t c = ?
+meet-struct-array-write-types : (t : ℕ) → meet-struct-lts.Need-array-write-types (meet-struct-K t) (meet-struct-at t) meet-struct.Post meet-struct-Inv-loop meet-struct-μ-loop
+meet-struct-array-write-types t c = search needs
 
--- src/lib.rt:98:25
-meet-struct-enum-told-5 : (t : ℕ) → meet-struct-lts.Need-enum-told-5 (
-  struct-rule-reads.Asked,
-  struct-rule-reads.Learnt,
-  word-reads.Asked,
-  word-reads.Learnt,
-  meet-type-below t,
-  meet-type.Post,
-  meet-fields-reads.Asked,
-  meet-fields-reads.Learnt,
-) (meet-struct-at t) meet-struct.Post meet-struct-Inv-loop meet-struct-μ-loop
-meet-struct-enum-told-5 t c = ?
+meet-struct-enum-told-5 : (t : ℕ) → meet-struct-lts.Need-enum-told-5 (meet-struct-K t) (meet-struct-at t) meet-struct.Post meet-struct-Inv-loop meet-struct-μ-loop
+meet-struct-enum-told-5 t c = search needs
 
--- src/lib.rt:98:25
-meet-struct-same-length : (t : ℕ) → meet-struct-lts.Need-same-length (
-  struct-rule-reads.Asked,
-  struct-rule-reads.Learnt,
-  word-reads.Asked,
-  word-reads.Learnt,
-  meet-type-below t,
-  meet-type.Post,
-  meet-fields-reads.Asked,
-  meet-fields-reads.Learnt,
-) (meet-struct-at t) meet-struct.Post meet-struct-Inv-loop meet-struct-μ-loop
-meet-struct-same-length t c = ?
+meet-struct-same-length : (t : ℕ) → meet-struct-lts.Need-same-length (meet-struct-K t) (meet-struct-at t) meet-struct.Post meet-struct-Inv-loop meet-struct-μ-loop
+meet-struct-same-length t c = search needs
 
--- src/lib.rt:98:25
-meet-struct-returns : (t : ℕ) → meet-struct-lts.Need-returns (
-  struct-rule-reads.Asked,
-  struct-rule-reads.Learnt,
-  word-reads.Asked,
-  word-reads.Learnt,
-  meet-type-below t,
-  meet-type.Post,
-  meet-fields-reads.Asked,
-  meet-fields-reads.Learnt,
-) (meet-struct-at t) meet-struct.Post meet-struct-Inv-loop meet-struct-μ-loop
-meet-struct-returns t c = ?
+meet-struct-returns : (t : ℕ) → meet-struct-lts.Need-returns (meet-struct-K t) (meet-struct-at t) meet-struct.Post meet-struct-Inv-loop meet-struct-μ-loop
+meet-struct-returns t c = search struct-stop
 
--- src/lib.rt:101:17
-meet-struct-add-i : (t : ℕ) → meet-struct-lts.Need-add-i (
-  struct-rule-reads.Asked,
-  struct-rule-reads.Learnt,
-  word-reads.Asked,
-  word-reads.Learnt,
-  meet-type-below t,
-  meet-type.Post,
-  meet-fields-reads.Asked,
-  meet-fields-reads.Learnt,
-) (meet-struct-at t) meet-struct.Post meet-struct-Inv-loop meet-struct-μ-loop
-meet-struct-add-i t c = ?
+meet-struct-add-i : (t : ℕ) → meet-struct-lts.Need-add-i (meet-struct-K t) (meet-struct-at t) meet-struct.Post meet-struct-Inv-loop meet-struct-μ-loop
+meet-struct-add-i t c = search needs
 
--- src/lib.rt:88:13
-meet-struct-loop-less : (t : ℕ) → meet-struct-lts.Need-loop-less (
-  struct-rule-reads.Asked,
-  struct-rule-reads.Learnt,
-  word-reads.Asked,
-  word-reads.Learnt,
-  meet-type-below t,
-  meet-type.Post,
-  meet-fields-reads.Asked,
-  meet-fields-reads.Learnt,
-) (meet-struct-at t) meet-struct.Post meet-struct-Inv-loop meet-struct-μ-loop
-meet-struct-loop-less t c = ?
+meet-struct-loop-less : (t : ℕ) → meet-struct-lts.Need-loop-less (meet-struct-K t) (meet-struct-at t) meet-struct.Post meet-struct-Inv-loop meet-struct-μ-loop
+meet-struct-loop-less t c = search needs
 
--- src/lib.rt:88:13
-meet-struct-loop-again : (t : ℕ) → meet-struct-lts.Need-loop-again (
-  struct-rule-reads.Asked,
-  struct-rule-reads.Learnt,
-  word-reads.Asked,
-  word-reads.Learnt,
-  meet-type-below t,
-  meet-type.Post,
-  meet-fields-reads.Asked,
-  meet-fields-reads.Learnt,
-) (meet-struct-at t) meet-struct.Post meet-struct-Inv-loop meet-struct-μ-loop
-meet-struct-loop-again t c = ?
+meet-struct-loop-again : (t : ℕ) → meet-struct-lts.Need-loop-again (meet-struct-K t) (meet-struct-at t) meet-struct.Post meet-struct-Inv-loop meet-struct-μ-loop
+meet-struct-loop-again t c =
+    let l = c .before .before .before .before .before .before .before .before .before .before .before .before .loop .inv in
+    let i = c .before .before .before .before .before .before .before .before .before .before .before .loop-test .taken in
+    let G = struct-turn _ _ _ _ _ _ (c .before .before .before .before .before .before .before .before .before .before .before .before .loop .new) _ _ _ (l .9) i _ _ (c .before .before .before .before .before .before .before .before .before .word2 .ensures) (c .before .before .before .before .before .before .before .word3 .ensures) (c .before .before .before .before .before .meet-type .ensures) _ _ (c .before .m .given .1) (omega (arith, l .1, l .2, i)) in
+    (search needs, l .1, simp length-set (l .2), grew-long (G .grew), grew-high (G .grew), grew-up (G .grew), l .6, l .7, l .8, G)
 
--- src/lib.rt:103:57
-meet-struct-array-share-prefix-types : (t : ℕ) → meet-struct-lts.Need-array-share-prefix-types (
-  struct-rule-reads.Asked,
-  struct-rule-reads.Learnt,
-  word-reads.Asked,
-  word-reads.Learnt,
-  meet-type-below t,
-  meet-type.Post,
-  meet-fields-reads.Asked,
-  meet-fields-reads.Learnt,
-) (meet-struct-at t) meet-struct.Post meet-struct-Inv-loop meet-struct-μ-loop
-meet-struct-array-share-prefix-types t c = ?
+meet-struct-array-share-prefix-types : (t : ℕ) → meet-struct-lts.Need-array-share-prefix-types (meet-struct-K t) (meet-struct-at t) meet-struct.Post meet-struct-Inv-loop meet-struct-μ-loop
+meet-struct-array-share-prefix-types t c = search needs
 
--- src/lib.rt:103:57
 meet-struct-slice-aggregate-meet-fields :
-    (t : ℕ) → meet-struct-lts.Need-slice-aggregate-meet-fields (
-      struct-rule-reads.Asked,
-      struct-rule-reads.Learnt,
-      word-reads.Asked,
-      word-reads.Learnt,
-      meet-type-below t,
-      meet-type.Post,
-      meet-fields-reads.Asked,
-      meet-fields-reads.Learnt,
-    ) (meet-struct-at t) meet-struct.Post meet-struct-Inv-loop meet-struct-μ-loop
-meet-struct-slice-aggregate-meet-fields t c = ?
+    (t : ℕ) → meet-struct-lts.Need-slice-aggregate-meet-fields (meet-struct-K t) (meet-struct-at t) meet-struct.Post meet-struct-Inv-loop meet-struct-μ-loop
+meet-struct-slice-aggregate-meet-fields t c = sym (length-take-le _ (c .before .before .before .loop .types) (omega arith))
 
--- src/lib.rt:103:13
-meet-struct-meet-fields-requires : (t : ℕ) → meet-struct-lts.Need-meet-fields-requires (
-  struct-rule-reads.Asked,
-  struct-rule-reads.Learnt,
-  word-reads.Asked,
-  word-reads.Learnt,
-  meet-type-below t,
-  meet-type.Post,
-  meet-fields-reads.Asked,
-  meet-fields-reads.Learnt,
-) (meet-struct-at t) meet-struct.Post meet-struct-Inv-loop meet-struct-μ-loop
-meet-struct-meet-fields-requires t c κs = ?
+meet-struct-meet-fields-requires : (t : ℕ) → meet-struct-lts.Need-meet-fields-requires (meet-struct-K t) (meet-struct-at t) meet-struct.Post meet-struct-Inv-loop meet-struct-μ-loop
+meet-struct-meet-fields-requires t c κs =
+    let l = c .before .before .before .loop .inv in
+    let P = c .before .before .before .before .before .before .before .before .before .before .before .before .pre .1 in
+    let k = c .before .before .before .before .before .before .before .before .struct-rule .ensures in
+    let e = c .before .before .before .before .before .before .enum-told4 .given .1 in
+    let x = c .before .before .before .before .word .ensures in
+    let n = length-take-le (c .before .before .before .before .word .result / 65536) (c .before .before .before .loop .types) (omega (arith, l .1, l .2)) in
+    (going-segments (l .9), (omega (arith, n, l .1), l .7, l .8, rw n (struct-values _ _ _ _ _ P _ k e _ x _ _ _ _ (l .9))))
 
--- src/lib.rt:74:1
-meet-struct-same-length-2 : (t : ℕ) → meet-struct-lts.Need-same-length-2 (
-  struct-rule-reads.Asked,
-  struct-rule-reads.Learnt,
-  word-reads.Asked,
-  word-reads.Learnt,
-  meet-type-below t,
-  meet-type.Post,
-  meet-fields-reads.Asked,
-  meet-fields-reads.Learnt,
-) (meet-struct-at t) meet-struct.Post meet-struct-Inv-loop meet-struct-μ-loop
-meet-struct-same-length-2 t c = ?
+meet-struct-same-length-2 : (t : ℕ) → meet-struct-lts.Need-same-length-2 (meet-struct-K t) (meet-struct-at t) meet-struct.Post meet-struct-Inv-loop meet-struct-μ-loop
+meet-struct-same-length-2 t c = search needs
 
--- src/lib.rt:74:1
-meet-struct-returns-2 : (t : ℕ) → meet-struct-lts.Need-returns-2 (
-  struct-rule-reads.Asked,
-  struct-rule-reads.Learnt,
-  word-reads.Asked,
-  word-reads.Learnt,
-  meet-type-below t,
-  meet-type.Post,
-  meet-fields-reads.Asked,
-  meet-fields-reads.Learnt,
-) (meet-struct-at t) meet-struct.Post meet-struct-Inv-loop meet-struct-μ-loop
-meet-struct-returns-2 t c = ?
+meet-struct-returns-2 : (t : ℕ) → meet-struct-lts.Need-returns-2 (meet-struct-K t) (meet-struct-at t) meet-struct.Post meet-struct-Inv-loop meet-struct-μ-loop
+meet-struct-returns-2 t c = search met-former
 
--- src/lib.rt:74:1
-meet-struct-same-length-3 : (t : ℕ) → meet-struct-lts.Need-same-length-3 (
-  struct-rule-reads.Asked,
-  struct-rule-reads.Learnt,
-  word-reads.Asked,
-  word-reads.Learnt,
-  meet-type-below t,
-  meet-type.Post,
-  meet-fields-reads.Asked,
-  meet-fields-reads.Learnt,
-) (meet-struct-at t) meet-struct.Post meet-struct-Inv-loop meet-struct-μ-loop
-meet-struct-same-length-3 t c = ?
+meet-struct-same-length-3 : (t : ℕ) → meet-struct-lts.Need-same-length-3 (meet-struct-K t) (meet-struct-at t) meet-struct.Post meet-struct-Inv-loop meet-struct-μ-loop
+meet-struct-same-length-3 t c = search needs
 
--- src/lib.rt:74:1
-meet-struct-returns-3 : (t : ℕ) → meet-struct-lts.Need-returns-3 (
-  struct-rule-reads.Asked,
-  struct-rule-reads.Learnt,
-  word-reads.Asked,
-  word-reads.Learnt,
-  meet-type-below t,
-  meet-type.Post,
-  meet-fields-reads.Asked,
-  meet-fields-reads.Learnt,
-) (meet-struct-at t) meet-struct.Post meet-struct-Inv-loop meet-struct-μ-loop
-meet-struct-returns-3 t c = ?
+meet-struct-returns-3 : (t : ℕ) → meet-struct-lts.Need-returns-3 (meet-struct-K t) (meet-struct-at t) meet-struct.Post meet-struct-Inv-loop meet-struct-μ-loop
+meet-struct-returns-3 t c = search met-latter
 
--- src/lib.rt:74:1
-meet-struct-same-length-4 : (t : ℕ) → meet-struct-lts.Need-same-length-4 (
-  struct-rule-reads.Asked,
-  struct-rule-reads.Learnt,
-  word-reads.Asked,
-  word-reads.Learnt,
-  meet-type-below t,
-  meet-type.Post,
-  meet-fields-reads.Asked,
-  meet-fields-reads.Learnt,
-) (meet-struct-at t) meet-struct.Post meet-struct-Inv-loop meet-struct-μ-loop
-meet-struct-same-length-4 t c = ?
+meet-struct-same-length-4 : (t : ℕ) → meet-struct-lts.Need-same-length-4 (meet-struct-K t) (meet-struct-at t) meet-struct.Post meet-struct-Inv-loop meet-struct-μ-loop
+meet-struct-same-length-4 t c = search needs
 
--- src/lib.rt:74:1
-meet-struct-returns-4 : (t : ℕ) → meet-struct-lts.Need-returns-4 (
-  struct-rule-reads.Asked,
-  struct-rule-reads.Learnt,
-  word-reads.Asked,
-  word-reads.Learnt,
-  meet-type-below t,
-  meet-type.Post,
-  meet-fields-reads.Asked,
-  meet-fields-reads.Learnt,
-) (meet-struct-at t) meet-struct.Post meet-struct-Inv-loop meet-struct-μ-loop
-meet-struct-returns-4 t c = ?
+meet-struct-returns-4 : (t : ℕ) → meet-struct-lts.Need-returns-4 (meet-struct-K t) (meet-struct-at t) meet-struct.Post meet-struct-Inv-loop meet-struct-μ-loop
+meet-struct-returns-4 t c = search met-lowest
 
--- src/lib.rt:74:1
-meet-struct-same-length-5 : (t : ℕ) → meet-struct-lts.Need-same-length-5 (
-  struct-rule-reads.Asked,
-  struct-rule-reads.Learnt,
-  word-reads.Asked,
-  word-reads.Learnt,
-  meet-type-below t,
-  meet-type.Post,
-  meet-fields-reads.Asked,
-  meet-fields-reads.Learnt,
-) (meet-struct-at t) meet-struct.Post meet-struct-Inv-loop meet-struct-μ-loop
-meet-struct-same-length-5 t c = ?
+meet-struct-same-length-5 : (t : ℕ) → meet-struct-lts.Need-same-length-5 (meet-struct-K t) (meet-struct-at t) meet-struct.Post meet-struct-Inv-loop meet-struct-μ-loop
+meet-struct-same-length-5 t c = search needs
 
--- src/lib.rt:74:1
-meet-struct-returns-5 : (t : ℕ) → meet-struct-lts.Need-returns-5 (
-  struct-rule-reads.Asked,
-  struct-rule-reads.Learnt,
-  word-reads.Asked,
-  word-reads.Learnt,
-  meet-type-below t,
-  meet-type.Post,
-  meet-fields-reads.Asked,
-  meet-fields-reads.Learnt,
-) (meet-struct-at t) meet-struct.Post meet-struct-Inv-loop meet-struct-μ-loop
-meet-struct-returns-5 t c = ?
+meet-struct-returns-5 : (t : ℕ) → meet-struct-lts.Need-returns-5 (meet-struct-K t) (meet-struct-at t) meet-struct.Post meet-struct-Inv-loop meet-struct-μ-loop
+meet-struct-returns-5 t c = search struct-end
 
 abbrev meet-type-Inv-loop : meet-type-lts.InvT-loop
-meet-type-Inv-loop old new₀ used a b n parts₀ v₀ i₀ new parts v i = ?
+meet-type-Inv-loop old new₀ used a b n parts₀ v₀ i₀ new parts v i = (i ≤ n) × (n ≤ 255) × (length parts ≡ 255) × (length new ≡ length new₀) × (v ≤ length old + length new₀) × (used ≤ v) × (length old ≤ used) × (a < 1048576) × (b < 1048576) × Going 1 old new₀ used a b n (a + 1) (b + 1) new parts v i
 
 abbrev meet-type-μ-loop : meet-type-lts.MeasureT-loop
-meet-type-μ-loop old new₀ used a b n parts₀ v₀ i₀ new parts v i = ?
-
--- src/lib.rt:15:9
-meet-type-type-rule-requires : (t : ℕ) → meet-type-lts.Need-type-rule-requires (
-  type-rule-reads.Asked,
-  type-rule-reads.Learnt,
-  meet-int-reads.Asked,
-  meet-int-reads.Learnt,
-  meet-float-reads.Asked,
-  meet-float-reads.Learnt,
-  meet-struct-below t,
-  meet-struct.Post,
-  word-reads.Asked,
-  word-reads.Learnt,
-  larger-reads.Asked,
-  larger-reads.Learnt,
-  pointer-reads.Asked,
-  pointer-reads.Learnt,
-  shared-alias-reads.Asked,
-  shared-alias-reads.Learnt,
-  meet-type-below t,
-  meet-type.Post,
-  memory-reads.Asked,
-  memory-reads.Learnt,
-  tuple-reads.Asked,
-  tuple-reads.Learnt,
-) (meet-type-at t) meet-type.Post meet-type-Inv-loop meet-type-μ-loop
-meet-type-type-rule-requires t c κs = ?
-
--- src/lib.rt:17:24
-meet-type-enum-told : (t : ℕ) → meet-type-lts.Need-enum-told (
-  type-rule-reads.Asked,
-  type-rule-reads.Learnt,
-  meet-int-reads.Asked,
-  meet-int-reads.Learnt,
-  meet-float-reads.Asked,
-  meet-float-reads.Learnt,
-  meet-struct-below t,
-  meet-struct.Post,
-  word-reads.Asked,
-  word-reads.Learnt,
-  larger-reads.Asked,
-  larger-reads.Learnt,
-  pointer-reads.Asked,
-  pointer-reads.Learnt,
-  shared-alias-reads.Asked,
-  shared-alias-reads.Learnt,
-  meet-type-below t,
-  meet-type.Post,
-  memory-reads.Asked,
-  memory-reads.Learnt,
-  tuple-reads.Asked,
-  tuple-reads.Learnt,
-) (meet-type-at t) meet-type.Post meet-type-Inv-loop meet-type-μ-loop
-meet-type-enum-told t c = ?
-
--- src/lib.rt:18:25
-meet-type-enum-told-2 : (t : ℕ) → meet-type-lts.Need-enum-told-2 (
-  type-rule-reads.Asked,
-  type-rule-reads.Learnt,
-  meet-int-reads.Asked,
-  meet-int-reads.Learnt,
-  meet-float-reads.Asked,
-  meet-float-reads.Learnt,
-  meet-struct-below t,
-  meet-struct.Post,
-  word-reads.Asked,
-  word-reads.Learnt,
-  larger-reads.Asked,
-  larger-reads.Learnt,
-  pointer-reads.Asked,
-  pointer-reads.Learnt,
-  shared-alias-reads.Asked,
-  shared-alias-reads.Learnt,
-  meet-type-below t,
-  meet-type.Post,
-  memory-reads.Asked,
-  memory-reads.Learnt,
-  tuple-reads.Asked,
-  tuple-reads.Learnt,
-) (meet-type-at t) meet-type.Post meet-type-Inv-loop meet-type-μ-loop
-meet-type-enum-told-2 t c = ?
-
--- src/lib.rt:19:25
-meet-type-enum-told-3 : (t : ℕ) → meet-type-lts.Need-enum-told-3 (
-  type-rule-reads.Asked,
-  type-rule-reads.Learnt,
-  meet-int-reads.Asked,
-  meet-int-reads.Learnt,
-  meet-float-reads.Asked,
-  meet-float-reads.Learnt,
-  meet-struct-below t,
-  meet-struct.Post,
-  word-reads.Asked,
-  word-reads.Learnt,
-  larger-reads.Asked,
-  larger-reads.Learnt,
-  pointer-reads.Asked,
-  pointer-reads.Learnt,
-  shared-alias-reads.Asked,
-  shared-alias-reads.Learnt,
-  meet-type-below t,
-  meet-type.Post,
-  memory-reads.Asked,
-  memory-reads.Learnt,
-  tuple-reads.Asked,
-  tuple-reads.Learnt,
-) (meet-type-at t) meet-type.Post meet-type-Inv-loop meet-type-μ-loop
-meet-type-enum-told-3 t c = ?
-
--- src/lib.rt:20:49
-meet-type-enum-told-4 : (t : ℕ) → meet-type-lts.Need-enum-told-4 (
-  type-rule-reads.Asked,
-  type-rule-reads.Learnt,
-  meet-int-reads.Asked,
-  meet-int-reads.Learnt,
-  meet-float-reads.Asked,
-  meet-float-reads.Learnt,
-  meet-struct-below t,
-  meet-struct.Post,
-  word-reads.Asked,
-  word-reads.Learnt,
-  larger-reads.Asked,
-  larger-reads.Learnt,
-  pointer-reads.Asked,
-  pointer-reads.Learnt,
-  shared-alias-reads.Asked,
-  shared-alias-reads.Learnt,
-  meet-type-below t,
-  meet-type.Post,
-  memory-reads.Asked,
-  memory-reads.Learnt,
-  tuple-reads.Asked,
-  tuple-reads.Learnt,
-) (meet-type-at t) meet-type.Post meet-type-Inv-loop meet-type-μ-loop
-meet-type-enum-told-4 t c = ?
-
--- src/lib.rt:20:23
-meet-type-meet-int-requires : (t : ℕ) → meet-type-lts.Need-meet-int-requires (
-  type-rule-reads.Asked,
-  type-rule-reads.Learnt,
-  meet-int-reads.Asked,
-  meet-int-reads.Learnt,
-  meet-float-reads.Asked,
-  meet-float-reads.Learnt,
-  meet-struct-below t,
-  meet-struct.Post,
-  word-reads.Asked,
-  word-reads.Learnt,
-  larger-reads.Asked,
-  larger-reads.Learnt,
-  pointer-reads.Asked,
-  pointer-reads.Learnt,
-  shared-alias-reads.Asked,
-  shared-alias-reads.Learnt,
-  meet-type-below t,
-  meet-type.Post,
-  memory-reads.Asked,
-  memory-reads.Learnt,
-  tuple-reads.Asked,
-  tuple-reads.Learnt,
-) (meet-type-at t) meet-type.Post meet-type-Inv-loop meet-type-μ-loop
-meet-type-meet-int-requires t c κs = ?
-
--- src/lib.rt:21:66
-meet-type-enum-told-5 : (t : ℕ) → meet-type-lts.Need-enum-told-5 (
-  type-rule-reads.Asked,
-  type-rule-reads.Learnt,
-  meet-int-reads.Asked,
-  meet-int-reads.Learnt,
-  meet-float-reads.Asked,
-  meet-float-reads.Learnt,
-  meet-struct-below t,
-  meet-struct.Post,
-  word-reads.Asked,
-  word-reads.Learnt,
-  larger-reads.Asked,
-  larger-reads.Learnt,
-  pointer-reads.Asked,
-  pointer-reads.Learnt,
-  shared-alias-reads.Asked,
-  shared-alias-reads.Learnt,
-  meet-type-below t,
-  meet-type.Post,
-  memory-reads.Asked,
-  memory-reads.Learnt,
-  tuple-reads.Asked,
-  tuple-reads.Learnt,
-) (meet-type-at t) meet-type.Post meet-type-Inv-loop meet-type-μ-loop
-meet-type-enum-told-5 t c = ?
-
--- src/lib.rt:21:38
-meet-type-meet-float-requires : (t : ℕ) → meet-type-lts.Need-meet-float-requires (
-  type-rule-reads.Asked,
-  type-rule-reads.Learnt,
-  meet-int-reads.Asked,
-  meet-int-reads.Learnt,
-  meet-float-reads.Asked,
-  meet-float-reads.Learnt,
-  meet-struct-below t,
-  meet-struct.Post,
-  word-reads.Asked,
-  word-reads.Learnt,
-  larger-reads.Asked,
-  larger-reads.Learnt,
-  pointer-reads.Asked,
-  pointer-reads.Learnt,
-  shared-alias-reads.Asked,
-  shared-alias-reads.Learnt,
-  meet-type-below t,
-  meet-type.Post,
-  memory-reads.Asked,
-  memory-reads.Learnt,
-  tuple-reads.Asked,
-  tuple-reads.Learnt,
-) (meet-type-at t) meet-type.Post meet-type-Inv-loop meet-type-μ-loop
-meet-type-meet-float-requires t c κs = ?
-
--- src/lib.rt:22:43
-meet-type-enum-told-6 : (t : ℕ) → meet-type-lts.Need-enum-told-6 (
-  type-rule-reads.Asked,
-  type-rule-reads.Learnt,
-  meet-int-reads.Asked,
-  meet-int-reads.Learnt,
-  meet-float-reads.Asked,
-  meet-float-reads.Learnt,
-  meet-struct-below t,
-  meet-struct.Post,
-  word-reads.Asked,
-  word-reads.Learnt,
-  larger-reads.Asked,
-  larger-reads.Learnt,
-  pointer-reads.Asked,
-  pointer-reads.Learnt,
-  shared-alias-reads.Asked,
-  shared-alias-reads.Learnt,
-  meet-type-below t,
-  meet-type.Post,
-  memory-reads.Asked,
-  memory-reads.Learnt,
-  tuple-reads.Asked,
-  tuple-reads.Learnt,
-) (meet-type-at t) meet-type.Post meet-type-Inv-loop meet-type-μ-loop
-meet-type-enum-told-6 t c = ?
-
--- src/lib.rt:22:26
-meet-type-meet-struct-requires : (t : ℕ) → meet-type-lts.Need-meet-struct-requires (
-  type-rule-reads.Asked,
-  type-rule-reads.Learnt,
-  meet-int-reads.Asked,
-  meet-int-reads.Learnt,
-  meet-float-reads.Asked,
-  meet-float-reads.Learnt,
-  meet-struct-below t,
-  meet-struct.Post,
-  word-reads.Asked,
-  word-reads.Learnt,
-  larger-reads.Asked,
-  larger-reads.Learnt,
-  pointer-reads.Asked,
-  pointer-reads.Learnt,
-  shared-alias-reads.Asked,
-  shared-alias-reads.Learnt,
-  meet-type-below t,
-  meet-type.Post,
-  memory-reads.Asked,
-  memory-reads.Learnt,
-  tuple-reads.Asked,
-  tuple-reads.Learnt,
-) (meet-type-at t) meet-type.Post meet-type-Inv-loop meet-type-μ-loop
-meet-type-meet-struct-requires t c κs = ?
-
--- src/lib.rt:24:38
-meet-type-enum-told-7 : (t : ℕ) → meet-type-lts.Need-enum-told-7 (
-  type-rule-reads.Asked,
-  type-rule-reads.Learnt,
-  meet-int-reads.Asked,
-  meet-int-reads.Learnt,
-  meet-float-reads.Asked,
-  meet-float-reads.Learnt,
-  meet-struct-below t,
-  meet-struct.Post,
-  word-reads.Asked,
-  word-reads.Learnt,
-  larger-reads.Asked,
-  larger-reads.Learnt,
-  pointer-reads.Asked,
-  pointer-reads.Learnt,
-  shared-alias-reads.Asked,
-  shared-alias-reads.Learnt,
-  meet-type-below t,
-  meet-type.Post,
-  memory-reads.Asked,
-  memory-reads.Learnt,
-  tuple-reads.Asked,
-  tuple-reads.Learnt,
-) (meet-type-at t) meet-type.Post meet-type-Inv-loop meet-type-μ-loop
-meet-type-enum-told-7 t c = ?
-
--- src/lib.rt:24:49
-meet-type-add-word : (t : ℕ) → meet-type-lts.Need-add-word (
-  type-rule-reads.Asked,
-  type-rule-reads.Learnt,
-  meet-int-reads.Asked,
-  meet-int-reads.Learnt,
-  meet-float-reads.Asked,
-  meet-float-reads.Learnt,
-  meet-struct-below t,
-  meet-struct.Post,
-  word-reads.Asked,
-  word-reads.Learnt,
-  larger-reads.Asked,
-  larger-reads.Learnt,
-  pointer-reads.Asked,
-  pointer-reads.Learnt,
-  shared-alias-reads.Asked,
-  shared-alias-reads.Learnt,
-  meet-type-below t,
-  meet-type.Post,
-  memory-reads.Asked,
-  memory-reads.Learnt,
-  tuple-reads.Asked,
-  tuple-reads.Learnt,
-) (meet-type-at t) meet-type.Post meet-type-Inv-loop meet-type-μ-loop
-meet-type-add-word t c = ?
-
--- src/lib.rt:24:21
-meet-type-word-requires : (t : ℕ) → meet-type-lts.Need-word-requires (
-  type-rule-reads.Asked,
-  type-rule-reads.Learnt,
-  meet-int-reads.Asked,
-  meet-int-reads.Learnt,
-  meet-float-reads.Asked,
-  meet-float-reads.Learnt,
-  meet-struct-below t,
-  meet-struct.Post,
-  word-reads.Asked,
-  word-reads.Learnt,
-  larger-reads.Asked,
-  larger-reads.Learnt,
-  pointer-reads.Asked,
-  pointer-reads.Learnt,
-  shared-alias-reads.Asked,
-  shared-alias-reads.Learnt,
-  meet-type-below t,
-  meet-type.Post,
-  memory-reads.Asked,
-  memory-reads.Learnt,
-  tuple-reads.Asked,
-  tuple-reads.Learnt,
-) (meet-type-at t) meet-type.Post meet-type-Inv-loop meet-type-μ-loop
-meet-type-word-requires t c κs = ?
-
--- src/lib.rt:25:49
-meet-type-add-word-2 : (t : ℕ) → meet-type-lts.Need-add-word-2 (
-  type-rule-reads.Asked,
-  type-rule-reads.Learnt,
-  meet-int-reads.Asked,
-  meet-int-reads.Learnt,
-  meet-float-reads.Asked,
-  meet-float-reads.Learnt,
-  meet-struct-below t,
-  meet-struct.Post,
-  word-reads.Asked,
-  word-reads.Learnt,
-  larger-reads.Asked,
-  larger-reads.Learnt,
-  pointer-reads.Asked,
-  pointer-reads.Learnt,
-  shared-alias-reads.Asked,
-  shared-alias-reads.Learnt,
-  meet-type-below t,
-  meet-type.Post,
-  memory-reads.Asked,
-  memory-reads.Learnt,
-  tuple-reads.Asked,
-  tuple-reads.Learnt,
-) (meet-type-at t) meet-type.Post meet-type-Inv-loop meet-type-μ-loop
-meet-type-add-word-2 t c = ?
-
--- src/lib.rt:25:21
-meet-type-word-requires-2 : (t : ℕ) → meet-type-lts.Need-word-requires-2 (
-  type-rule-reads.Asked,
-  type-rule-reads.Learnt,
-  meet-int-reads.Asked,
-  meet-int-reads.Learnt,
-  meet-float-reads.Asked,
-  meet-float-reads.Learnt,
-  meet-struct-below t,
-  meet-struct.Post,
-  word-reads.Asked,
-  word-reads.Learnt,
-  larger-reads.Asked,
-  larger-reads.Learnt,
-  pointer-reads.Asked,
-  pointer-reads.Learnt,
-  shared-alias-reads.Asked,
-  shared-alias-reads.Learnt,
-  meet-type-below t,
-  meet-type.Post,
-  memory-reads.Asked,
-  memory-reads.Learnt,
-  tuple-reads.Asked,
-  tuple-reads.Learnt,
-) (meet-type-at t) meet-type.Post meet-type-Inv-loop meet-type-μ-loop
-meet-type-word-requires-2 t c κs = ?
-
--- src/lib.rt:27:45
-meet-type-add-word-3 : (t : ℕ) → meet-type-lts.Need-add-word-3 (
-  type-rule-reads.Asked,
-  type-rule-reads.Learnt,
-  meet-int-reads.Asked,
-  meet-int-reads.Learnt,
-  meet-float-reads.Asked,
-  meet-float-reads.Learnt,
-  meet-struct-below t,
-  meet-struct.Post,
-  word-reads.Asked,
-  word-reads.Learnt,
-  larger-reads.Asked,
-  larger-reads.Learnt,
-  pointer-reads.Asked,
-  pointer-reads.Learnt,
-  shared-alias-reads.Asked,
-  shared-alias-reads.Learnt,
-  meet-type-below t,
-  meet-type.Post,
-  memory-reads.Asked,
-  memory-reads.Learnt,
-  tuple-reads.Asked,
-  tuple-reads.Learnt,
-) (meet-type-at t) meet-type.Post meet-type-Inv-loop meet-type-μ-loop
-meet-type-add-word-3 t c = ?
-
--- src/lib.rt:27:17
-meet-type-word-requires-3 : (t : ℕ) → meet-type-lts.Need-word-requires-3 (
-  type-rule-reads.Asked,
-  type-rule-reads.Learnt,
-  meet-int-reads.Asked,
-  meet-int-reads.Learnt,
-  meet-float-reads.Asked,
-  meet-float-reads.Learnt,
-  meet-struct-below t,
-  meet-struct.Post,
-  word-reads.Asked,
-  word-reads.Learnt,
-  larger-reads.Asked,
-  larger-reads.Learnt,
-  pointer-reads.Asked,
-  pointer-reads.Learnt,
-  shared-alias-reads.Asked,
-  shared-alias-reads.Learnt,
-  meet-type-below t,
-  meet-type.Post,
-  memory-reads.Asked,
-  memory-reads.Learnt,
-  tuple-reads.Asked,
-  tuple-reads.Learnt,
-) (meet-type-at t) meet-type.Post meet-type-Inv-loop meet-type-μ-loop
-meet-type-word-requires-3 t c κs = ?
-
--- src/lib.rt:28:45
-meet-type-add-word-4 : (t : ℕ) → meet-type-lts.Need-add-word-4 (
-  type-rule-reads.Asked,
-  type-rule-reads.Learnt,
-  meet-int-reads.Asked,
-  meet-int-reads.Learnt,
-  meet-float-reads.Asked,
-  meet-float-reads.Learnt,
-  meet-struct-below t,
-  meet-struct.Post,
-  word-reads.Asked,
-  word-reads.Learnt,
-  larger-reads.Asked,
-  larger-reads.Learnt,
-  pointer-reads.Asked,
-  pointer-reads.Learnt,
-  shared-alias-reads.Asked,
-  shared-alias-reads.Learnt,
-  meet-type-below t,
-  meet-type.Post,
-  memory-reads.Asked,
-  memory-reads.Learnt,
-  tuple-reads.Asked,
-  tuple-reads.Learnt,
-) (meet-type-at t) meet-type.Post meet-type-Inv-loop meet-type-μ-loop
-meet-type-add-word-4 t c = ?
-
--- src/lib.rt:28:17
-meet-type-word-requires-4 : (t : ℕ) → meet-type-lts.Need-word-requires-4 (
-  type-rule-reads.Asked,
-  type-rule-reads.Learnt,
-  meet-int-reads.Asked,
-  meet-int-reads.Learnt,
-  meet-float-reads.Asked,
-  meet-float-reads.Learnt,
-  meet-struct-below t,
-  meet-struct.Post,
-  word-reads.Asked,
-  word-reads.Learnt,
-  larger-reads.Asked,
-  larger-reads.Learnt,
-  pointer-reads.Asked,
-  pointer-reads.Learnt,
-  shared-alias-reads.Asked,
-  shared-alias-reads.Learnt,
-  meet-type-below t,
-  meet-type.Post,
-  memory-reads.Asked,
-  memory-reads.Learnt,
-  tuple-reads.Asked,
-  tuple-reads.Learnt,
-) (meet-type-at t) meet-type.Post meet-type-Inv-loop meet-type-μ-loop
-meet-type-word-requires-4 t c κs = ?
-
--- src/lib.rt:26:17
-meet-type-larger-requires : (t : ℕ) → meet-type-lts.Need-larger-requires (
-  type-rule-reads.Asked,
-  type-rule-reads.Learnt,
-  meet-int-reads.Asked,
-  meet-int-reads.Learnt,
-  meet-float-reads.Asked,
-  meet-float-reads.Learnt,
-  meet-struct-below t,
-  meet-struct.Post,
-  word-reads.Asked,
-  word-reads.Learnt,
-  larger-reads.Asked,
-  larger-reads.Learnt,
-  pointer-reads.Asked,
-  pointer-reads.Learnt,
-  shared-alias-reads.Asked,
-  shared-alias-reads.Learnt,
-  meet-type-below t,
-  meet-type.Post,
-  memory-reads.Asked,
-  memory-reads.Learnt,
-  tuple-reads.Asked,
-  tuple-reads.Learnt,
-) (meet-type-at t) meet-type.Post meet-type-Inv-loop meet-type-μ-loop
-meet-type-larger-requires t c κs = ?
-
--- src/lib.rt:30:17
-meet-type-meet-struct-requires-2 : (t : ℕ) → meet-type-lts.Need-meet-struct-requires-2 (
-  type-rule-reads.Asked,
-  type-rule-reads.Learnt,
-  meet-int-reads.Asked,
-  meet-int-reads.Learnt,
-  meet-float-reads.Asked,
-  meet-float-reads.Learnt,
-  meet-struct-below t,
-  meet-struct.Post,
-  word-reads.Asked,
-  word-reads.Learnt,
-  larger-reads.Asked,
-  larger-reads.Learnt,
-  pointer-reads.Asked,
-  pointer-reads.Learnt,
-  shared-alias-reads.Asked,
-  shared-alias-reads.Learnt,
-  meet-type-below t,
-  meet-type.Post,
-  memory-reads.Asked,
-  memory-reads.Learnt,
-  tuple-reads.Asked,
-  tuple-reads.Learnt,
-) (meet-type-at t) meet-type.Post meet-type-Inv-loop meet-type-μ-loop
-meet-type-meet-struct-requires-2 t c κs = ?
-
--- src/lib.rt:32:30
-meet-type-enum-known-m : (t : ℕ) → meet-type-lts.Need-enum-known-m (
-  type-rule-reads.Asked,
-  type-rule-reads.Learnt,
-  meet-int-reads.Asked,
-  meet-int-reads.Learnt,
-  meet-float-reads.Asked,
-  meet-float-reads.Learnt,
-  meet-struct-below t,
-  meet-struct.Post,
-  word-reads.Asked,
-  word-reads.Learnt,
-  larger-reads.Asked,
-  larger-reads.Learnt,
-  pointer-reads.Asked,
-  pointer-reads.Learnt,
-  shared-alias-reads.Asked,
-  shared-alias-reads.Learnt,
-  meet-type-below t,
-  meet-type.Post,
-  memory-reads.Asked,
-  memory-reads.Learnt,
-  tuple-reads.Asked,
-  tuple-reads.Learnt,
-) (meet-type-at t) meet-type.Post meet-type-Inv-loop meet-type-μ-loop
-meet-type-enum-known-m t c = ?
-
--- src/lib.rt:32:39
-meet-type-pointer-requires : (t : ℕ) → meet-type-lts.Need-pointer-requires (
-  type-rule-reads.Asked,
-  type-rule-reads.Learnt,
-  meet-int-reads.Asked,
-  meet-int-reads.Learnt,
-  meet-float-reads.Asked,
-  meet-float-reads.Learnt,
-  meet-struct-below t,
-  meet-struct.Post,
-  word-reads.Asked,
-  word-reads.Learnt,
-  larger-reads.Asked,
-  larger-reads.Learnt,
-  pointer-reads.Asked,
-  pointer-reads.Learnt,
-  shared-alias-reads.Asked,
-  shared-alias-reads.Learnt,
-  meet-type-below t,
-  meet-type.Post,
-  memory-reads.Asked,
-  memory-reads.Learnt,
-  tuple-reads.Asked,
-  tuple-reads.Learnt,
-) (meet-type-at t) meet-type.Post meet-type-Inv-loop meet-type-μ-loop
-meet-type-pointer-requires t c κs = ?
-
--- src/lib.rt:33:35
-meet-type-enum-told-8 : (t : ℕ) → meet-type-lts.Need-enum-told-8 (
-  type-rule-reads.Asked,
-  type-rule-reads.Learnt,
-  meet-int-reads.Asked,
-  meet-int-reads.Learnt,
-  meet-float-reads.Asked,
-  meet-float-reads.Learnt,
-  meet-struct-below t,
-  meet-struct.Post,
-  word-reads.Asked,
-  word-reads.Learnt,
-  larger-reads.Asked,
-  larger-reads.Learnt,
-  pointer-reads.Asked,
-  pointer-reads.Learnt,
-  shared-alias-reads.Asked,
-  shared-alias-reads.Learnt,
-  meet-type-below t,
-  meet-type.Post,
-  memory-reads.Asked,
-  memory-reads.Learnt,
-  tuple-reads.Asked,
-  tuple-reads.Learnt,
-) (meet-type-at t) meet-type.Post meet-type-Inv-loop meet-type-μ-loop
-meet-type-enum-told-8 t c = ?
-
--- src/lib.rt:38:34
-meet-type-enum-told-9 : (t : ℕ) → meet-type-lts.Need-enum-told-9 (
-  type-rule-reads.Asked,
-  type-rule-reads.Learnt,
-  meet-int-reads.Asked,
-  meet-int-reads.Learnt,
-  meet-float-reads.Asked,
-  meet-float-reads.Learnt,
-  meet-struct-below t,
-  meet-struct.Post,
-  word-reads.Asked,
-  word-reads.Learnt,
-  larger-reads.Asked,
-  larger-reads.Learnt,
-  pointer-reads.Asked,
-  pointer-reads.Learnt,
-  shared-alias-reads.Asked,
-  shared-alias-reads.Learnt,
-  meet-type-below t,
-  meet-type.Post,
-  memory-reads.Asked,
-  memory-reads.Learnt,
-  tuple-reads.Asked,
-  tuple-reads.Learnt,
-) (meet-type-at t) meet-type.Post meet-type-Inv-loop meet-type-μ-loop
-meet-type-enum-told-9 t c = ?
-
--- src/lib.rt:38:45
-meet-type-add-word-5 : (t : ℕ) → meet-type-lts.Need-add-word-5 (
-  type-rule-reads.Asked,
-  type-rule-reads.Learnt,
-  meet-int-reads.Asked,
-  meet-int-reads.Learnt,
-  meet-float-reads.Asked,
-  meet-float-reads.Learnt,
-  meet-struct-below t,
-  meet-struct.Post,
-  word-reads.Asked,
-  word-reads.Learnt,
-  larger-reads.Asked,
-  larger-reads.Learnt,
-  pointer-reads.Asked,
-  pointer-reads.Learnt,
-  shared-alias-reads.Asked,
-  shared-alias-reads.Learnt,
-  meet-type-below t,
-  meet-type.Post,
-  memory-reads.Asked,
-  memory-reads.Learnt,
-  tuple-reads.Asked,
-  tuple-reads.Learnt,
-) (meet-type-at t) meet-type.Post meet-type-Inv-loop meet-type-μ-loop
-meet-type-add-word-5 t c = ?
-
--- src/lib.rt:38:17
-meet-type-word-requires-5 : (t : ℕ) → meet-type-lts.Need-word-requires-5 (
-  type-rule-reads.Asked,
-  type-rule-reads.Learnt,
-  meet-int-reads.Asked,
-  meet-int-reads.Learnt,
-  meet-float-reads.Asked,
-  meet-float-reads.Learnt,
-  meet-struct-below t,
-  meet-struct.Post,
-  word-reads.Asked,
-  word-reads.Learnt,
-  larger-reads.Asked,
-  larger-reads.Learnt,
-  pointer-reads.Asked,
-  pointer-reads.Learnt,
-  shared-alias-reads.Asked,
-  shared-alias-reads.Learnt,
-  meet-type-below t,
-  meet-type.Post,
-  memory-reads.Asked,
-  memory-reads.Learnt,
-  tuple-reads.Asked,
-  tuple-reads.Learnt,
-) (meet-type-at t) meet-type.Post meet-type-Inv-loop meet-type-μ-loop
-meet-type-word-requires-5 t c κs = ?
-
--- src/lib.rt:39:45
-meet-type-add-word-6 : (t : ℕ) → meet-type-lts.Need-add-word-6 (
-  type-rule-reads.Asked,
-  type-rule-reads.Learnt,
-  meet-int-reads.Asked,
-  meet-int-reads.Learnt,
-  meet-float-reads.Asked,
-  meet-float-reads.Learnt,
-  meet-struct-below t,
-  meet-struct.Post,
-  word-reads.Asked,
-  word-reads.Learnt,
-  larger-reads.Asked,
-  larger-reads.Learnt,
-  pointer-reads.Asked,
-  pointer-reads.Learnt,
-  shared-alias-reads.Asked,
-  shared-alias-reads.Learnt,
-  meet-type-below t,
-  meet-type.Post,
-  memory-reads.Asked,
-  memory-reads.Learnt,
-  tuple-reads.Asked,
-  tuple-reads.Learnt,
-) (meet-type-at t) meet-type.Post meet-type-Inv-loop meet-type-μ-loop
-meet-type-add-word-6 t c = ?
-
--- src/lib.rt:39:17
-meet-type-word-requires-6 : (t : ℕ) → meet-type-lts.Need-word-requires-6 (
-  type-rule-reads.Asked,
-  type-rule-reads.Learnt,
-  meet-int-reads.Asked,
-  meet-int-reads.Learnt,
-  meet-float-reads.Asked,
-  meet-float-reads.Learnt,
-  meet-struct-below t,
-  meet-struct.Post,
-  word-reads.Asked,
-  word-reads.Learnt,
-  larger-reads.Asked,
-  larger-reads.Learnt,
-  pointer-reads.Asked,
-  pointer-reads.Learnt,
-  shared-alias-reads.Asked,
-  shared-alias-reads.Learnt,
-  meet-type-below t,
-  meet-type.Post,
-  memory-reads.Asked,
-  memory-reads.Learnt,
-  tuple-reads.Asked,
-  tuple-reads.Learnt,
-) (meet-type-at t) meet-type.Post meet-type-Inv-loop meet-type-μ-loop
-meet-type-word-requires-6 t c κs = ?
-
--- src/lib.rt:37:17
-meet-type-shared-alias-requires : (t : ℕ) → meet-type-lts.Need-shared-alias-requires (
-  type-rule-reads.Asked,
-  type-rule-reads.Learnt,
-  meet-int-reads.Asked,
-  meet-int-reads.Learnt,
-  meet-float-reads.Asked,
-  meet-float-reads.Learnt,
-  meet-struct-below t,
-  meet-struct.Post,
-  word-reads.Asked,
-  word-reads.Learnt,
-  larger-reads.Asked,
-  larger-reads.Learnt,
-  pointer-reads.Asked,
-  pointer-reads.Learnt,
-  shared-alias-reads.Asked,
-  shared-alias-reads.Learnt,
-  meet-type-below t,
-  meet-type.Post,
-  memory-reads.Asked,
-  memory-reads.Learnt,
-  tuple-reads.Asked,
-  tuple-reads.Learnt,
-) (meet-type-at t) meet-type.Post meet-type-Inv-loop meet-type-μ-loop
-meet-type-shared-alias-requires t c κs = ?
-
--- src/lib.rt:41:49
-meet-type-add-word-7 : (t : ℕ) → meet-type-lts.Need-add-word-7 (
-  type-rule-reads.Asked,
-  type-rule-reads.Learnt,
-  meet-int-reads.Asked,
-  meet-int-reads.Learnt,
-  meet-float-reads.Asked,
-  meet-float-reads.Learnt,
-  meet-struct-below t,
-  meet-struct.Post,
-  word-reads.Asked,
-  word-reads.Learnt,
-  larger-reads.Asked,
-  larger-reads.Learnt,
-  pointer-reads.Asked,
-  pointer-reads.Learnt,
-  shared-alias-reads.Asked,
-  shared-alias-reads.Learnt,
-  meet-type-below t,
-  meet-type.Post,
-  memory-reads.Asked,
-  memory-reads.Learnt,
-  tuple-reads.Asked,
-  tuple-reads.Learnt,
-) (meet-type-at t) meet-type.Post meet-type-Inv-loop meet-type-μ-loop
-meet-type-add-word-7 t c = ?
-
--- src/lib.rt:41:21
-meet-type-word-requires-7 : (t : ℕ) → meet-type-lts.Need-word-requires-7 (
-  type-rule-reads.Asked,
-  type-rule-reads.Learnt,
-  meet-int-reads.Asked,
-  meet-int-reads.Learnt,
-  meet-float-reads.Asked,
-  meet-float-reads.Learnt,
-  meet-struct-below t,
-  meet-struct.Post,
-  word-reads.Asked,
-  word-reads.Learnt,
-  larger-reads.Asked,
-  larger-reads.Learnt,
-  pointer-reads.Asked,
-  pointer-reads.Learnt,
-  shared-alias-reads.Asked,
-  shared-alias-reads.Learnt,
-  meet-type-below t,
-  meet-type.Post,
-  memory-reads.Asked,
-  memory-reads.Learnt,
-  tuple-reads.Asked,
-  tuple-reads.Learnt,
-) (meet-type-at t) meet-type.Post meet-type-Inv-loop meet-type-μ-loop
-meet-type-word-requires-7 t c κs = ?
-
--- src/lib.rt:42:49
-meet-type-add-word-8 : (t : ℕ) → meet-type-lts.Need-add-word-8 (
-  type-rule-reads.Asked,
-  type-rule-reads.Learnt,
-  meet-int-reads.Asked,
-  meet-int-reads.Learnt,
-  meet-float-reads.Asked,
-  meet-float-reads.Learnt,
-  meet-struct-below t,
-  meet-struct.Post,
-  word-reads.Asked,
-  word-reads.Learnt,
-  larger-reads.Asked,
-  larger-reads.Learnt,
-  pointer-reads.Asked,
-  pointer-reads.Learnt,
-  shared-alias-reads.Asked,
-  shared-alias-reads.Learnt,
-  meet-type-below t,
-  meet-type.Post,
-  memory-reads.Asked,
-  memory-reads.Learnt,
-  tuple-reads.Asked,
-  tuple-reads.Learnt,
-) (meet-type-at t) meet-type.Post meet-type-Inv-loop meet-type-μ-loop
-meet-type-add-word-8 t c = ?
-
--- src/lib.rt:42:21
-meet-type-word-requires-8 : (t : ℕ) → meet-type-lts.Need-word-requires-8 (
-  type-rule-reads.Asked,
-  type-rule-reads.Learnt,
-  meet-int-reads.Asked,
-  meet-int-reads.Learnt,
-  meet-float-reads.Asked,
-  meet-float-reads.Learnt,
-  meet-struct-below t,
-  meet-struct.Post,
-  word-reads.Asked,
-  word-reads.Learnt,
-  larger-reads.Asked,
-  larger-reads.Learnt,
-  pointer-reads.Asked,
-  pointer-reads.Learnt,
-  shared-alias-reads.Asked,
-  shared-alias-reads.Learnt,
-  meet-type-below t,
-  meet-type.Post,
-  memory-reads.Asked,
-  memory-reads.Learnt,
-  tuple-reads.Asked,
-  tuple-reads.Learnt,
-) (meet-type-at t) meet-type.Post meet-type-Inv-loop meet-type-μ-loop
-meet-type-word-requires-8 t c κs = ?
-
--- src/lib.rt:43:17
-meet-type-meet-type-requires : (t : ℕ) → meet-type-lts.Need-meet-type-requires (
-  type-rule-reads.Asked,
-  type-rule-reads.Learnt,
-  meet-int-reads.Asked,
-  meet-int-reads.Learnt,
-  meet-float-reads.Asked,
-  meet-float-reads.Learnt,
-  meet-struct-below t,
-  meet-struct.Post,
-  word-reads.Asked,
-  word-reads.Learnt,
-  larger-reads.Asked,
-  larger-reads.Learnt,
-  pointer-reads.Asked,
-  pointer-reads.Learnt,
-  shared-alias-reads.Asked,
-  shared-alias-reads.Learnt,
-  meet-type-below t,
-  meet-type.Post,
-  memory-reads.Asked,
-  memory-reads.Learnt,
-  tuple-reads.Asked,
-  tuple-reads.Learnt,
-) (meet-type-at t) meet-type.Post meet-type-Inv-loop meet-type-μ-loop
-meet-type-meet-type-requires t c κs = ?
-
--- src/lib.rt:45:30
-meet-type-enum-known-m-2 : (t : ℕ) → meet-type-lts.Need-enum-known-m-2 (
-  type-rule-reads.Asked,
-  type-rule-reads.Learnt,
-  meet-int-reads.Asked,
-  meet-int-reads.Learnt,
-  meet-float-reads.Asked,
-  meet-float-reads.Learnt,
-  meet-struct-below t,
-  meet-struct.Post,
-  word-reads.Asked,
-  word-reads.Learnt,
-  larger-reads.Asked,
-  larger-reads.Learnt,
-  pointer-reads.Asked,
-  pointer-reads.Learnt,
-  shared-alias-reads.Asked,
-  shared-alias-reads.Learnt,
-  meet-type-below t,
-  meet-type.Post,
-  memory-reads.Asked,
-  memory-reads.Learnt,
-  tuple-reads.Asked,
-  tuple-reads.Learnt,
-) (meet-type-at t) meet-type.Post meet-type-Inv-loop meet-type-μ-loop
-meet-type-enum-known-m-2 t c = ?
-
--- src/lib.rt:45:39
-meet-type-memory-requires : (t : ℕ) → meet-type-lts.Need-memory-requires (
-  type-rule-reads.Asked,
-  type-rule-reads.Learnt,
-  meet-int-reads.Asked,
-  meet-int-reads.Learnt,
-  meet-float-reads.Asked,
-  meet-float-reads.Learnt,
-  meet-struct-below t,
-  meet-struct.Post,
-  word-reads.Asked,
-  word-reads.Learnt,
-  larger-reads.Asked,
-  larger-reads.Learnt,
-  pointer-reads.Asked,
-  pointer-reads.Learnt,
-  shared-alias-reads.Asked,
-  shared-alias-reads.Learnt,
-  meet-type-below t,
-  meet-type.Post,
-  memory-reads.Asked,
-  memory-reads.Learnt,
-  tuple-reads.Asked,
-  tuple-reads.Learnt,
-) (meet-type-at t) meet-type.Post meet-type-Inv-loop meet-type-μ-loop
-meet-type-memory-requires t c κs = ?
-
--- src/lib.rt:46:35
-meet-type-enum-told-10 : (t : ℕ) → meet-type-lts.Need-enum-told-10 (
-  type-rule-reads.Asked,
-  type-rule-reads.Learnt,
-  meet-int-reads.Asked,
-  meet-int-reads.Learnt,
-  meet-float-reads.Asked,
-  meet-float-reads.Learnt,
-  meet-struct-below t,
-  meet-struct.Post,
-  word-reads.Asked,
-  word-reads.Learnt,
-  larger-reads.Asked,
-  larger-reads.Learnt,
-  pointer-reads.Asked,
-  pointer-reads.Learnt,
-  shared-alias-reads.Asked,
-  shared-alias-reads.Learnt,
-  meet-type-below t,
-  meet-type.Post,
-  memory-reads.Asked,
-  memory-reads.Learnt,
-  tuple-reads.Asked,
-  tuple-reads.Learnt,
-) (meet-type-at t) meet-type.Post meet-type-Inv-loop meet-type-μ-loop
-meet-type-enum-told-10 t c = ?
-
--- src/lib.rt:50:39
-meet-type-enum-told-11 : (t : ℕ) → meet-type-lts.Need-enum-told-11 (
-  type-rule-reads.Asked,
-  type-rule-reads.Learnt,
-  meet-int-reads.Asked,
-  meet-int-reads.Learnt,
-  meet-float-reads.Asked,
-  meet-float-reads.Learnt,
-  meet-struct-below t,
-  meet-struct.Post,
-  word-reads.Asked,
-  word-reads.Learnt,
-  larger-reads.Asked,
-  larger-reads.Learnt,
-  pointer-reads.Asked,
-  pointer-reads.Learnt,
-  shared-alias-reads.Asked,
-  shared-alias-reads.Learnt,
-  meet-type-below t,
-  meet-type.Post,
-  memory-reads.Asked,
-  memory-reads.Learnt,
-  tuple-reads.Asked,
-  tuple-reads.Learnt,
-) (meet-type-at t) meet-type.Post meet-type-Inv-loop meet-type-μ-loop
-meet-type-enum-told-11 t c = ?
-
--- src/lib.rt:50:22
-meet-type-word-requires-9 : (t : ℕ) → meet-type-lts.Need-word-requires-9 (
-  type-rule-reads.Asked,
-  type-rule-reads.Learnt,
-  meet-int-reads.Asked,
-  meet-int-reads.Learnt,
-  meet-float-reads.Asked,
-  meet-float-reads.Learnt,
-  meet-struct-below t,
-  meet-struct.Post,
-  word-reads.Asked,
-  word-reads.Learnt,
-  larger-reads.Asked,
-  larger-reads.Learnt,
-  pointer-reads.Asked,
-  pointer-reads.Learnt,
-  shared-alias-reads.Asked,
-  shared-alias-reads.Learnt,
-  meet-type-below t,
-  meet-type.Post,
-  memory-reads.Asked,
-  memory-reads.Learnt,
-  tuple-reads.Asked,
-  tuple-reads.Learnt,
-) (meet-type-at t) meet-type.Post meet-type-Inv-loop meet-type-μ-loop
-meet-type-word-requires-9 t c κs = ?
-
--- src/lib.rt:54:13
-meet-type-loop-holds : (t : ℕ) → meet-type-lts.Need-loop-holds (
-  type-rule-reads.Asked,
-  type-rule-reads.Learnt,
-  meet-int-reads.Asked,
-  meet-int-reads.Learnt,
-  meet-float-reads.Asked,
-  meet-float-reads.Learnt,
-  meet-struct-below t,
-  meet-struct.Post,
-  word-reads.Asked,
-  word-reads.Learnt,
-  larger-reads.Asked,
-  larger-reads.Learnt,
-  pointer-reads.Asked,
-  pointer-reads.Learnt,
-  shared-alias-reads.Asked,
-  shared-alias-reads.Learnt,
-  meet-type-below t,
-  meet-type.Post,
-  memory-reads.Asked,
-  memory-reads.Learnt,
-  tuple-reads.Asked,
-  tuple-reads.Learnt,
-) (meet-type-at t) meet-type.Post meet-type-Inv-loop meet-type-μ-loop
-meet-type-loop-holds t c = ?
-
--- src/lib.rt:55:53
-meet-type-add-word-9 : (t : ℕ) → meet-type-lts.Need-add-word-9 (
-  type-rule-reads.Asked,
-  type-rule-reads.Learnt,
-  meet-int-reads.Asked,
-  meet-int-reads.Learnt,
-  meet-float-reads.Asked,
-  meet-float-reads.Learnt,
-  meet-struct-below t,
-  meet-struct.Post,
-  word-reads.Asked,
-  word-reads.Learnt,
-  larger-reads.Asked,
-  larger-reads.Learnt,
-  pointer-reads.Asked,
-  pointer-reads.Learnt,
-  shared-alias-reads.Asked,
-  shared-alias-reads.Learnt,
-  meet-type-below t,
-  meet-type.Post,
-  memory-reads.Asked,
-  memory-reads.Learnt,
-  tuple-reads.Asked,
-  tuple-reads.Learnt,
-) (meet-type-at t) meet-type.Post meet-type-Inv-loop meet-type-μ-loop
-meet-type-add-word-9 t c = ?
-
--- src/lib.rt:55:53
-meet-type-add-word-10 : (t : ℕ) → meet-type-lts.Need-add-word-10 (
-  type-rule-reads.Asked,
-  type-rule-reads.Learnt,
-  meet-int-reads.Asked,
-  meet-int-reads.Learnt,
-  meet-float-reads.Asked,
-  meet-float-reads.Learnt,
-  meet-struct-below t,
-  meet-struct.Post,
-  word-reads.Asked,
-  word-reads.Learnt,
-  larger-reads.Asked,
-  larger-reads.Learnt,
-  pointer-reads.Asked,
-  pointer-reads.Learnt,
-  shared-alias-reads.Asked,
-  shared-alias-reads.Learnt,
-  meet-type-below t,
-  meet-type.Post,
-  memory-reads.Asked,
-  memory-reads.Learnt,
-  tuple-reads.Asked,
-  tuple-reads.Learnt,
-) (meet-type-at t) meet-type.Post meet-type-Inv-loop meet-type-μ-loop
-meet-type-add-word-10 t c = ?
-
--- src/lib.rt:55:25
-meet-type-word-requires-10 : (t : ℕ) → meet-type-lts.Need-word-requires-10 (
-  type-rule-reads.Asked,
-  type-rule-reads.Learnt,
-  meet-int-reads.Asked,
-  meet-int-reads.Learnt,
-  meet-float-reads.Asked,
-  meet-float-reads.Learnt,
-  meet-struct-below t,
-  meet-struct.Post,
-  word-reads.Asked,
-  word-reads.Learnt,
-  larger-reads.Asked,
-  larger-reads.Learnt,
-  pointer-reads.Asked,
-  pointer-reads.Learnt,
-  shared-alias-reads.Asked,
-  shared-alias-reads.Learnt,
-  meet-type-below t,
-  meet-type.Post,
-  memory-reads.Asked,
-  memory-reads.Learnt,
-  tuple-reads.Asked,
-  tuple-reads.Learnt,
-) (meet-type-at t) meet-type.Post meet-type-Inv-loop meet-type-μ-loop
-meet-type-word-requires-10 t c κs = ?
-
--- src/lib.rt:56:53
-meet-type-add-word-11 : (t : ℕ) → meet-type-lts.Need-add-word-11 (
-  type-rule-reads.Asked,
-  type-rule-reads.Learnt,
-  meet-int-reads.Asked,
-  meet-int-reads.Learnt,
-  meet-float-reads.Asked,
-  meet-float-reads.Learnt,
-  meet-struct-below t,
-  meet-struct.Post,
-  word-reads.Asked,
-  word-reads.Learnt,
-  larger-reads.Asked,
-  larger-reads.Learnt,
-  pointer-reads.Asked,
-  pointer-reads.Learnt,
-  shared-alias-reads.Asked,
-  shared-alias-reads.Learnt,
-  meet-type-below t,
-  meet-type.Post,
-  memory-reads.Asked,
-  memory-reads.Learnt,
-  tuple-reads.Asked,
-  tuple-reads.Learnt,
-) (meet-type-at t) meet-type.Post meet-type-Inv-loop meet-type-μ-loop
-meet-type-add-word-11 t c = ?
-
--- src/lib.rt:56:53
-meet-type-add-word-12 : (t : ℕ) → meet-type-lts.Need-add-word-12 (
-  type-rule-reads.Asked,
-  type-rule-reads.Learnt,
-  meet-int-reads.Asked,
-  meet-int-reads.Learnt,
-  meet-float-reads.Asked,
-  meet-float-reads.Learnt,
-  meet-struct-below t,
-  meet-struct.Post,
-  word-reads.Asked,
-  word-reads.Learnt,
-  larger-reads.Asked,
-  larger-reads.Learnt,
-  pointer-reads.Asked,
-  pointer-reads.Learnt,
-  shared-alias-reads.Asked,
-  shared-alias-reads.Learnt,
-  meet-type-below t,
-  meet-type.Post,
-  memory-reads.Asked,
-  memory-reads.Learnt,
-  tuple-reads.Asked,
-  tuple-reads.Learnt,
-) (meet-type-at t) meet-type.Post meet-type-Inv-loop meet-type-μ-loop
-meet-type-add-word-12 t c = ?
-
--- src/lib.rt:56:25
-meet-type-word-requires-11 : (t : ℕ) → meet-type-lts.Need-word-requires-11 (
-  type-rule-reads.Asked,
-  type-rule-reads.Learnt,
-  meet-int-reads.Asked,
-  meet-int-reads.Learnt,
-  meet-float-reads.Asked,
-  meet-float-reads.Learnt,
-  meet-struct-below t,
-  meet-struct.Post,
-  word-reads.Asked,
-  word-reads.Learnt,
-  larger-reads.Asked,
-  larger-reads.Learnt,
-  pointer-reads.Asked,
-  pointer-reads.Learnt,
-  shared-alias-reads.Asked,
-  shared-alias-reads.Learnt,
-  meet-type-below t,
-  meet-type.Post,
-  memory-reads.Asked,
-  memory-reads.Learnt,
-  tuple-reads.Asked,
-  tuple-reads.Learnt,
-) (meet-type-at t) meet-type.Post meet-type-Inv-loop meet-type-μ-loop
-meet-type-word-requires-11 t c κs = ?
-
--- src/lib.rt:57:21
-meet-type-meet-type-requires-2 : (t : ℕ) → meet-type-lts.Need-meet-type-requires-2 (
-  type-rule-reads.Asked,
-  type-rule-reads.Learnt,
-  meet-int-reads.Asked,
-  meet-int-reads.Learnt,
-  meet-float-reads.Asked,
-  meet-float-reads.Learnt,
-  meet-struct-below t,
-  meet-struct.Post,
-  word-reads.Asked,
-  word-reads.Learnt,
-  larger-reads.Asked,
-  larger-reads.Learnt,
-  pointer-reads.Asked,
-  pointer-reads.Learnt,
-  shared-alias-reads.Asked,
-  shared-alias-reads.Learnt,
-  meet-type-below t,
-  meet-type.Post,
-  memory-reads.Asked,
-  memory-reads.Learnt,
-  tuple-reads.Asked,
-  tuple-reads.Learnt,
-) (meet-type-at t) meet-type.Post meet-type-Inv-loop meet-type-μ-loop
-meet-type-meet-type-requires-2 t c κs = ?
-
--- src/lib.rt:59:34
-meet-type-enum-known-m-3 : (t : ℕ) → meet-type-lts.Need-enum-known-m-3 (
-  type-rule-reads.Asked,
-  type-rule-reads.Learnt,
-  meet-int-reads.Asked,
-  meet-int-reads.Learnt,
-  meet-float-reads.Asked,
-  meet-float-reads.Learnt,
-  meet-struct-below t,
-  meet-struct.Post,
-  word-reads.Asked,
-  word-reads.Learnt,
-  larger-reads.Asked,
-  larger-reads.Learnt,
-  pointer-reads.Asked,
-  pointer-reads.Learnt,
-  shared-alias-reads.Asked,
-  shared-alias-reads.Learnt,
-  meet-type-below t,
-  meet-type.Post,
-  memory-reads.Asked,
-  memory-reads.Learnt,
-  tuple-reads.Asked,
-  tuple-reads.Learnt,
-) (meet-type-at t) meet-type.Post meet-type-Inv-loop meet-type-μ-loop
-meet-type-enum-known-m-3 t c = ?
-
--- src/lib.rt:60:25
-meet-type-mul-parts : (t : ℕ) → meet-type-lts.Need-mul-parts (
-  type-rule-reads.Asked,
-  type-rule-reads.Learnt,
-  meet-int-reads.Asked,
-  meet-int-reads.Learnt,
-  meet-float-reads.Asked,
-  meet-float-reads.Learnt,
-  meet-struct-below t,
-  meet-struct.Post,
-  word-reads.Asked,
-  word-reads.Learnt,
-  larger-reads.Asked,
-  larger-reads.Learnt,
-  pointer-reads.Asked,
-  pointer-reads.Learnt,
-  shared-alias-reads.Asked,
-  shared-alias-reads.Learnt,
-  meet-type-below t,
-  meet-type.Post,
-  memory-reads.Asked,
-  memory-reads.Learnt,
-  tuple-reads.Asked,
-  tuple-reads.Learnt,
-) (meet-type-at t) meet-type.Post meet-type-Inv-loop meet-type-μ-loop
-meet-type-mul-parts t c = ?
-
--- src/lib.rt:60:25
-meet-type-array-write-parts : (t : ℕ) → meet-type-lts.Need-array-write-parts (
-  type-rule-reads.Asked,
-  type-rule-reads.Learnt,
-  meet-int-reads.Asked,
-  meet-int-reads.Learnt,
-  meet-float-reads.Asked,
-  meet-float-reads.Learnt,
-  meet-struct-below t,
-  meet-struct.Post,
-  word-reads.Asked,
-  word-reads.Learnt,
-  larger-reads.Asked,
-  larger-reads.Learnt,
-  pointer-reads.Asked,
-  pointer-reads.Learnt,
-  shared-alias-reads.Asked,
-  shared-alias-reads.Learnt,
-  meet-type-below t,
-  meet-type.Post,
-  memory-reads.Asked,
-  memory-reads.Learnt,
-  tuple-reads.Asked,
-  tuple-reads.Learnt,
-) (meet-type-at t) meet-type.Post meet-type-Inv-loop meet-type-μ-loop
-meet-type-array-write-parts t c = ?
-
--- src/lib.rt:64:25
-meet-type-enum-told-12 : (t : ℕ) → meet-type-lts.Need-enum-told-12 (
-  type-rule-reads.Asked,
-  type-rule-reads.Learnt,
-  meet-int-reads.Asked,
-  meet-int-reads.Learnt,
-  meet-float-reads.Asked,
-  meet-float-reads.Learnt,
-  meet-struct-below t,
-  meet-struct.Post,
-  word-reads.Asked,
-  word-reads.Learnt,
-  larger-reads.Asked,
-  larger-reads.Learnt,
-  pointer-reads.Asked,
-  pointer-reads.Learnt,
-  shared-alias-reads.Asked,
-  shared-alias-reads.Learnt,
-  meet-type-below t,
-  meet-type.Post,
-  memory-reads.Asked,
-  memory-reads.Learnt,
-  tuple-reads.Asked,
-  tuple-reads.Learnt,
-) (meet-type-at t) meet-type.Post meet-type-Inv-loop meet-type-μ-loop
-meet-type-enum-told-12 t c = ?
-
--- src/lib.rt:64:25
-meet-type-same-length : (t : ℕ) → meet-type-lts.Need-same-length (
-  type-rule-reads.Asked,
-  type-rule-reads.Learnt,
-  meet-int-reads.Asked,
-  meet-int-reads.Learnt,
-  meet-float-reads.Asked,
-  meet-float-reads.Learnt,
-  meet-struct-below t,
-  meet-struct.Post,
-  word-reads.Asked,
-  word-reads.Learnt,
-  larger-reads.Asked,
-  larger-reads.Learnt,
-  pointer-reads.Asked,
-  pointer-reads.Learnt,
-  shared-alias-reads.Asked,
-  shared-alias-reads.Learnt,
-  meet-type-below t,
-  meet-type.Post,
-  memory-reads.Asked,
-  memory-reads.Learnt,
-  tuple-reads.Asked,
-  tuple-reads.Learnt,
-) (meet-type-at t) meet-type.Post meet-type-Inv-loop meet-type-μ-loop
-meet-type-same-length t c = ?
-
--- src/lib.rt:64:25
-meet-type-returns : (t : ℕ) → meet-type-lts.Need-returns (
-  type-rule-reads.Asked,
-  type-rule-reads.Learnt,
-  meet-int-reads.Asked,
-  meet-int-reads.Learnt,
-  meet-float-reads.Asked,
-  meet-float-reads.Learnt,
-  meet-struct-below t,
-  meet-struct.Post,
-  word-reads.Asked,
-  word-reads.Learnt,
-  larger-reads.Asked,
-  larger-reads.Learnt,
-  pointer-reads.Asked,
-  pointer-reads.Learnt,
-  shared-alias-reads.Asked,
-  shared-alias-reads.Learnt,
-  meet-type-below t,
-  meet-type.Post,
-  memory-reads.Asked,
-  memory-reads.Learnt,
-  tuple-reads.Asked,
-  tuple-reads.Learnt,
-) (meet-type-at t) meet-type.Post meet-type-Inv-loop meet-type-μ-loop
-meet-type-returns t c = ?
-
--- src/lib.rt:67:17
-meet-type-add-i : (t : ℕ) → meet-type-lts.Need-add-i (
-  type-rule-reads.Asked,
-  type-rule-reads.Learnt,
-  meet-int-reads.Asked,
-  meet-int-reads.Learnt,
-  meet-float-reads.Asked,
-  meet-float-reads.Learnt,
-  meet-struct-below t,
-  meet-struct.Post,
-  word-reads.Asked,
-  word-reads.Learnt,
-  larger-reads.Asked,
-  larger-reads.Learnt,
-  pointer-reads.Asked,
-  pointer-reads.Learnt,
-  shared-alias-reads.Asked,
-  shared-alias-reads.Learnt,
-  meet-type-below t,
-  meet-type.Post,
-  memory-reads.Asked,
-  memory-reads.Learnt,
-  tuple-reads.Asked,
-  tuple-reads.Learnt,
-) (meet-type-at t) meet-type.Post meet-type-Inv-loop meet-type-μ-loop
-meet-type-add-i t c = ?
-
--- src/lib.rt:54:13
-meet-type-loop-less : (t : ℕ) → meet-type-lts.Need-loop-less (
-  type-rule-reads.Asked,
-  type-rule-reads.Learnt,
-  meet-int-reads.Asked,
-  meet-int-reads.Learnt,
-  meet-float-reads.Asked,
-  meet-float-reads.Learnt,
-  meet-struct-below t,
-  meet-struct.Post,
-  word-reads.Asked,
-  word-reads.Learnt,
-  larger-reads.Asked,
-  larger-reads.Learnt,
-  pointer-reads.Asked,
-  pointer-reads.Learnt,
-  shared-alias-reads.Asked,
-  shared-alias-reads.Learnt,
-  meet-type-below t,
-  meet-type.Post,
-  memory-reads.Asked,
-  memory-reads.Learnt,
-  tuple-reads.Asked,
-  tuple-reads.Learnt,
-) (meet-type-at t) meet-type.Post meet-type-Inv-loop meet-type-μ-loop
-meet-type-loop-less t c = ?
-
--- src/lib.rt:54:13
-meet-type-loop-again : (t : ℕ) → meet-type-lts.Need-loop-again (
-  type-rule-reads.Asked,
-  type-rule-reads.Learnt,
-  meet-int-reads.Asked,
-  meet-int-reads.Learnt,
-  meet-float-reads.Asked,
-  meet-float-reads.Learnt,
-  meet-struct-below t,
-  meet-struct.Post,
-  word-reads.Asked,
-  word-reads.Learnt,
-  larger-reads.Asked,
-  larger-reads.Learnt,
-  pointer-reads.Asked,
-  pointer-reads.Learnt,
-  shared-alias-reads.Asked,
-  shared-alias-reads.Learnt,
-  meet-type-below t,
-  meet-type.Post,
-  memory-reads.Asked,
-  memory-reads.Learnt,
-  tuple-reads.Asked,
-  tuple-reads.Learnt,
-) (meet-type-at t) meet-type.Post meet-type-Inv-loop meet-type-μ-loop
-meet-type-loop-again t c = ?
-
--- src/lib.rt:69:40
-meet-type-array-share-prefix-parts : (t : ℕ) → meet-type-lts.Need-array-share-prefix-parts (
-  type-rule-reads.Asked,
-  type-rule-reads.Learnt,
-  meet-int-reads.Asked,
-  meet-int-reads.Learnt,
-  meet-float-reads.Asked,
-  meet-float-reads.Learnt,
-  meet-struct-below t,
-  meet-struct.Post,
-  word-reads.Asked,
-  word-reads.Learnt,
-  larger-reads.Asked,
-  larger-reads.Learnt,
-  pointer-reads.Asked,
-  pointer-reads.Learnt,
-  shared-alias-reads.Asked,
-  shared-alias-reads.Learnt,
-  meet-type-below t,
-  meet-type.Post,
-  memory-reads.Asked,
-  memory-reads.Learnt,
-  tuple-reads.Asked,
-  tuple-reads.Learnt,
-) (meet-type-at t) meet-type.Post meet-type-Inv-loop meet-type-μ-loop
-meet-type-array-share-prefix-parts t c = ?
-
--- src/lib.rt:69:40
-meet-type-slice-aggregate-tuple : (t : ℕ) → meet-type-lts.Need-slice-aggregate-tuple (
-  type-rule-reads.Asked,
-  type-rule-reads.Learnt,
-  meet-int-reads.Asked,
-  meet-int-reads.Learnt,
-  meet-float-reads.Asked,
-  meet-float-reads.Learnt,
-  meet-struct-below t,
-  meet-struct.Post,
-  word-reads.Asked,
-  word-reads.Learnt,
-  larger-reads.Asked,
-  larger-reads.Learnt,
-  pointer-reads.Asked,
-  pointer-reads.Learnt,
-  shared-alias-reads.Asked,
-  shared-alias-reads.Learnt,
-  meet-type-below t,
-  meet-type.Post,
-  memory-reads.Asked,
-  memory-reads.Learnt,
-  tuple-reads.Asked,
-  tuple-reads.Learnt,
-) (meet-type-at t) meet-type.Post meet-type-Inv-loop meet-type-μ-loop
-meet-type-slice-aggregate-tuple t c = ?
-
--- src/lib.rt:69:13
-meet-type-tuple-requires : (t : ℕ) → meet-type-lts.Need-tuple-requires (
-  type-rule-reads.Asked,
-  type-rule-reads.Learnt,
-  meet-int-reads.Asked,
-  meet-int-reads.Learnt,
-  meet-float-reads.Asked,
-  meet-float-reads.Learnt,
-  meet-struct-below t,
-  meet-struct.Post,
-  word-reads.Asked,
-  word-reads.Learnt,
-  larger-reads.Asked,
-  larger-reads.Learnt,
-  pointer-reads.Asked,
-  pointer-reads.Learnt,
-  shared-alias-reads.Asked,
-  shared-alias-reads.Learnt,
-  meet-type-below t,
-  meet-type.Post,
-  memory-reads.Asked,
-  memory-reads.Learnt,
-  tuple-reads.Asked,
-  tuple-reads.Learnt,
-) (meet-type-at t) meet-type.Post meet-type-Inv-loop meet-type-μ-loop
-meet-type-tuple-requires t c κs = ?
-
--- src/lib.rt:11:1
-meet-type-same-length-2 : (t : ℕ) → meet-type-lts.Need-same-length-2 (
-  type-rule-reads.Asked,
-  type-rule-reads.Learnt,
-  meet-int-reads.Asked,
-  meet-int-reads.Learnt,
-  meet-float-reads.Asked,
-  meet-float-reads.Learnt,
-  meet-struct-below t,
-  meet-struct.Post,
-  word-reads.Asked,
-  word-reads.Learnt,
-  larger-reads.Asked,
-  larger-reads.Learnt,
-  pointer-reads.Asked,
-  pointer-reads.Learnt,
-  shared-alias-reads.Asked,
-  shared-alias-reads.Learnt,
-  meet-type-below t,
-  meet-type.Post,
-  memory-reads.Asked,
-  memory-reads.Learnt,
-  tuple-reads.Asked,
-  tuple-reads.Learnt,
-) (meet-type-at t) meet-type.Post meet-type-Inv-loop meet-type-μ-loop
-meet-type-same-length-2 t c = ?
-
--- src/lib.rt:11:1
-meet-type-returns-2 : (t : ℕ) → meet-type-lts.Need-returns-2 (
-  type-rule-reads.Asked,
-  type-rule-reads.Learnt,
-  meet-int-reads.Asked,
-  meet-int-reads.Learnt,
-  meet-float-reads.Asked,
-  meet-float-reads.Learnt,
-  meet-struct-below t,
-  meet-struct.Post,
-  word-reads.Asked,
-  word-reads.Learnt,
-  larger-reads.Asked,
-  larger-reads.Learnt,
-  pointer-reads.Asked,
-  pointer-reads.Learnt,
-  shared-alias-reads.Asked,
-  shared-alias-reads.Learnt,
-  meet-type-below t,
-  meet-type.Post,
-  memory-reads.Asked,
-  memory-reads.Learnt,
-  tuple-reads.Asked,
-  tuple-reads.Learnt,
-) (meet-type-at t) meet-type.Post meet-type-Inv-loop meet-type-μ-loop
-meet-type-returns-2 t c = ?
-
--- src/lib.rt:11:1
-meet-type-same-length-3 : (t : ℕ) → meet-type-lts.Need-same-length-3 (
-  type-rule-reads.Asked,
-  type-rule-reads.Learnt,
-  meet-int-reads.Asked,
-  meet-int-reads.Learnt,
-  meet-float-reads.Asked,
-  meet-float-reads.Learnt,
-  meet-struct-below t,
-  meet-struct.Post,
-  word-reads.Asked,
-  word-reads.Learnt,
-  larger-reads.Asked,
-  larger-reads.Learnt,
-  pointer-reads.Asked,
-  pointer-reads.Learnt,
-  shared-alias-reads.Asked,
-  shared-alias-reads.Learnt,
-  meet-type-below t,
-  meet-type.Post,
-  memory-reads.Asked,
-  memory-reads.Learnt,
-  tuple-reads.Asked,
-  tuple-reads.Learnt,
-) (meet-type-at t) meet-type.Post meet-type-Inv-loop meet-type-μ-loop
-meet-type-same-length-3 t c = ?
-
--- src/lib.rt:11:1
-meet-type-returns-3 : (t : ℕ) → meet-type-lts.Need-returns-3 (
-  type-rule-reads.Asked,
-  type-rule-reads.Learnt,
-  meet-int-reads.Asked,
-  meet-int-reads.Learnt,
-  meet-float-reads.Asked,
-  meet-float-reads.Learnt,
-  meet-struct-below t,
-  meet-struct.Post,
-  word-reads.Asked,
-  word-reads.Learnt,
-  larger-reads.Asked,
-  larger-reads.Learnt,
-  pointer-reads.Asked,
-  pointer-reads.Learnt,
-  shared-alias-reads.Asked,
-  shared-alias-reads.Learnt,
-  meet-type-below t,
-  meet-type.Post,
-  memory-reads.Asked,
-  memory-reads.Learnt,
-  tuple-reads.Asked,
-  tuple-reads.Learnt,
-) (meet-type-at t) meet-type.Post meet-type-Inv-loop meet-type-μ-loop
-meet-type-returns-3 t c = ?
-
--- src/lib.rt:11:1
-meet-type-same-length-4 : (t : ℕ) → meet-type-lts.Need-same-length-4 (
-  type-rule-reads.Asked,
-  type-rule-reads.Learnt,
-  meet-int-reads.Asked,
-  meet-int-reads.Learnt,
-  meet-float-reads.Asked,
-  meet-float-reads.Learnt,
-  meet-struct-below t,
-  meet-struct.Post,
-  word-reads.Asked,
-  word-reads.Learnt,
-  larger-reads.Asked,
-  larger-reads.Learnt,
-  pointer-reads.Asked,
-  pointer-reads.Learnt,
-  shared-alias-reads.Asked,
-  shared-alias-reads.Learnt,
-  meet-type-below t,
-  meet-type.Post,
-  memory-reads.Asked,
-  memory-reads.Learnt,
-  tuple-reads.Asked,
-  tuple-reads.Learnt,
-) (meet-type-at t) meet-type.Post meet-type-Inv-loop meet-type-μ-loop
-meet-type-same-length-4 t c = ?
-
--- src/lib.rt:11:1
-meet-type-returns-4 : (t : ℕ) → meet-type-lts.Need-returns-4 (
-  type-rule-reads.Asked,
-  type-rule-reads.Learnt,
-  meet-int-reads.Asked,
-  meet-int-reads.Learnt,
-  meet-float-reads.Asked,
-  meet-float-reads.Learnt,
-  meet-struct-below t,
-  meet-struct.Post,
-  word-reads.Asked,
-  word-reads.Learnt,
-  larger-reads.Asked,
-  larger-reads.Learnt,
-  pointer-reads.Asked,
-  pointer-reads.Learnt,
-  shared-alias-reads.Asked,
-  shared-alias-reads.Learnt,
-  meet-type-below t,
-  meet-type.Post,
-  memory-reads.Asked,
-  memory-reads.Learnt,
-  tuple-reads.Asked,
-  tuple-reads.Learnt,
-) (meet-type-at t) meet-type.Post meet-type-Inv-loop meet-type-μ-loop
-meet-type-returns-4 t c = ?
-
--- src/lib.rt:11:1
-meet-type-same-length-5 : (t : ℕ) → meet-type-lts.Need-same-length-5 (
-  type-rule-reads.Asked,
-  type-rule-reads.Learnt,
-  meet-int-reads.Asked,
-  meet-int-reads.Learnt,
-  meet-float-reads.Asked,
-  meet-float-reads.Learnt,
-  meet-struct-below t,
-  meet-struct.Post,
-  word-reads.Asked,
-  word-reads.Learnt,
-  larger-reads.Asked,
-  larger-reads.Learnt,
-  pointer-reads.Asked,
-  pointer-reads.Learnt,
-  shared-alias-reads.Asked,
-  shared-alias-reads.Learnt,
-  meet-type-below t,
-  meet-type.Post,
-  memory-reads.Asked,
-  memory-reads.Learnt,
-  tuple-reads.Asked,
-  tuple-reads.Learnt,
-) (meet-type-at t) meet-type.Post meet-type-Inv-loop meet-type-μ-loop
-meet-type-same-length-5 t c = ?
-
--- src/lib.rt:11:1
-meet-type-returns-5 : (t : ℕ) → meet-type-lts.Need-returns-5 (
-  type-rule-reads.Asked,
-  type-rule-reads.Learnt,
-  meet-int-reads.Asked,
-  meet-int-reads.Learnt,
-  meet-float-reads.Asked,
-  meet-float-reads.Learnt,
-  meet-struct-below t,
-  meet-struct.Post,
-  word-reads.Asked,
-  word-reads.Learnt,
-  larger-reads.Asked,
-  larger-reads.Learnt,
-  pointer-reads.Asked,
-  pointer-reads.Learnt,
-  shared-alias-reads.Asked,
-  shared-alias-reads.Learnt,
-  meet-type-below t,
-  meet-type.Post,
-  memory-reads.Asked,
-  memory-reads.Learnt,
-  tuple-reads.Asked,
-  tuple-reads.Learnt,
-) (meet-type-at t) meet-type.Post meet-type-Inv-loop meet-type-μ-loop
-meet-type-returns-5 t c = ?
-
--- src/lib.rt:11:1
-meet-type-same-length-6 : (t : ℕ) → meet-type-lts.Need-same-length-6 (
-  type-rule-reads.Asked,
-  type-rule-reads.Learnt,
-  meet-int-reads.Asked,
-  meet-int-reads.Learnt,
-  meet-float-reads.Asked,
-  meet-float-reads.Learnt,
-  meet-struct-below t,
-  meet-struct.Post,
-  word-reads.Asked,
-  word-reads.Learnt,
-  larger-reads.Asked,
-  larger-reads.Learnt,
-  pointer-reads.Asked,
-  pointer-reads.Learnt,
-  shared-alias-reads.Asked,
-  shared-alias-reads.Learnt,
-  meet-type-below t,
-  meet-type.Post,
-  memory-reads.Asked,
-  memory-reads.Learnt,
-  tuple-reads.Asked,
-  tuple-reads.Learnt,
-) (meet-type-at t) meet-type.Post meet-type-Inv-loop meet-type-μ-loop
-meet-type-same-length-6 t c = ?
-
--- src/lib.rt:11:1
-meet-type-returns-6 : (t : ℕ) → meet-type-lts.Need-returns-6 (
-  type-rule-reads.Asked,
-  type-rule-reads.Learnt,
-  meet-int-reads.Asked,
-  meet-int-reads.Learnt,
-  meet-float-reads.Asked,
-  meet-float-reads.Learnt,
-  meet-struct-below t,
-  meet-struct.Post,
-  word-reads.Asked,
-  word-reads.Learnt,
-  larger-reads.Asked,
-  larger-reads.Learnt,
-  pointer-reads.Asked,
-  pointer-reads.Learnt,
-  shared-alias-reads.Asked,
-  shared-alias-reads.Learnt,
-  meet-type-below t,
-  meet-type.Post,
-  memory-reads.Asked,
-  memory-reads.Learnt,
-  tuple-reads.Asked,
-  tuple-reads.Learnt,
-) (meet-type-at t) meet-type.Post meet-type-Inv-loop meet-type-μ-loop
-meet-type-returns-6 t c = ?
-
--- src/lib.rt:11:1
-meet-type-same-length-7 : (t : ℕ) → meet-type-lts.Need-same-length-7 (
-  type-rule-reads.Asked,
-  type-rule-reads.Learnt,
-  meet-int-reads.Asked,
-  meet-int-reads.Learnt,
-  meet-float-reads.Asked,
-  meet-float-reads.Learnt,
-  meet-struct-below t,
-  meet-struct.Post,
-  word-reads.Asked,
-  word-reads.Learnt,
-  larger-reads.Asked,
-  larger-reads.Learnt,
-  pointer-reads.Asked,
-  pointer-reads.Learnt,
-  shared-alias-reads.Asked,
-  shared-alias-reads.Learnt,
-  meet-type-below t,
-  meet-type.Post,
-  memory-reads.Asked,
-  memory-reads.Learnt,
-  tuple-reads.Asked,
-  tuple-reads.Learnt,
-) (meet-type-at t) meet-type.Post meet-type-Inv-loop meet-type-μ-loop
-meet-type-same-length-7 t c = ?
-
--- src/lib.rt:11:1
-meet-type-returns-7 : (t : ℕ) → meet-type-lts.Need-returns-7 (
-  type-rule-reads.Asked,
-  type-rule-reads.Learnt,
-  meet-int-reads.Asked,
-  meet-int-reads.Learnt,
-  meet-float-reads.Asked,
-  meet-float-reads.Learnt,
-  meet-struct-below t,
-  meet-struct.Post,
-  word-reads.Asked,
-  word-reads.Learnt,
-  larger-reads.Asked,
-  larger-reads.Learnt,
-  pointer-reads.Asked,
-  pointer-reads.Learnt,
-  shared-alias-reads.Asked,
-  shared-alias-reads.Learnt,
-  meet-type-below t,
-  meet-type.Post,
-  memory-reads.Asked,
-  memory-reads.Learnt,
-  tuple-reads.Asked,
-  tuple-reads.Learnt,
-) (meet-type-at t) meet-type.Post meet-type-Inv-loop meet-type-μ-loop
-meet-type-returns-7 t c = ?
-
--- src/lib.rt:11:1
-meet-type-same-length-8 : (t : ℕ) → meet-type-lts.Need-same-length-8 (
-  type-rule-reads.Asked,
-  type-rule-reads.Learnt,
-  meet-int-reads.Asked,
-  meet-int-reads.Learnt,
-  meet-float-reads.Asked,
-  meet-float-reads.Learnt,
-  meet-struct-below t,
-  meet-struct.Post,
-  word-reads.Asked,
-  word-reads.Learnt,
-  larger-reads.Asked,
-  larger-reads.Learnt,
-  pointer-reads.Asked,
-  pointer-reads.Learnt,
-  shared-alias-reads.Asked,
-  shared-alias-reads.Learnt,
-  meet-type-below t,
-  meet-type.Post,
-  memory-reads.Asked,
-  memory-reads.Learnt,
-  tuple-reads.Asked,
-  tuple-reads.Learnt,
-) (meet-type-at t) meet-type.Post meet-type-Inv-loop meet-type-μ-loop
-meet-type-same-length-8 t c = ?
-
--- src/lib.rt:11:1
-meet-type-returns-8 : (t : ℕ) → meet-type-lts.Need-returns-8 (
-  type-rule-reads.Asked,
-  type-rule-reads.Learnt,
-  meet-int-reads.Asked,
-  meet-int-reads.Learnt,
-  meet-float-reads.Asked,
-  meet-float-reads.Learnt,
-  meet-struct-below t,
-  meet-struct.Post,
-  word-reads.Asked,
-  word-reads.Learnt,
-  larger-reads.Asked,
-  larger-reads.Learnt,
-  pointer-reads.Asked,
-  pointer-reads.Learnt,
-  shared-alias-reads.Asked,
-  shared-alias-reads.Learnt,
-  meet-type-below t,
-  meet-type.Post,
-  memory-reads.Asked,
-  memory-reads.Learnt,
-  tuple-reads.Asked,
-  tuple-reads.Learnt,
-) (meet-type-at t) meet-type.Post meet-type-Inv-loop meet-type-μ-loop
-meet-type-returns-8 t c = ?
-
--- src/lib.rt:11:1
-meet-type-same-length-9 : (t : ℕ) → meet-type-lts.Need-same-length-9 (
-  type-rule-reads.Asked,
-  type-rule-reads.Learnt,
-  meet-int-reads.Asked,
-  meet-int-reads.Learnt,
-  meet-float-reads.Asked,
-  meet-float-reads.Learnt,
-  meet-struct-below t,
-  meet-struct.Post,
-  word-reads.Asked,
-  word-reads.Learnt,
-  larger-reads.Asked,
-  larger-reads.Learnt,
-  pointer-reads.Asked,
-  pointer-reads.Learnt,
-  shared-alias-reads.Asked,
-  shared-alias-reads.Learnt,
-  meet-type-below t,
-  meet-type.Post,
-  memory-reads.Asked,
-  memory-reads.Learnt,
-  tuple-reads.Asked,
-  tuple-reads.Learnt,
-) (meet-type-at t) meet-type.Post meet-type-Inv-loop meet-type-μ-loop
-meet-type-same-length-9 t c = ?
-
--- src/lib.rt:11:1
-meet-type-returns-9 : (t : ℕ) → meet-type-lts.Need-returns-9 (
-  type-rule-reads.Asked,
-  type-rule-reads.Learnt,
-  meet-int-reads.Asked,
-  meet-int-reads.Learnt,
-  meet-float-reads.Asked,
-  meet-float-reads.Learnt,
-  meet-struct-below t,
-  meet-struct.Post,
-  word-reads.Asked,
-  word-reads.Learnt,
-  larger-reads.Asked,
-  larger-reads.Learnt,
-  pointer-reads.Asked,
-  pointer-reads.Learnt,
-  shared-alias-reads.Asked,
-  shared-alias-reads.Learnt,
-  meet-type-below t,
-  meet-type.Post,
-  memory-reads.Asked,
-  memory-reads.Learnt,
-  tuple-reads.Asked,
-  tuple-reads.Learnt,
-) (meet-type-at t) meet-type.Post meet-type-Inv-loop meet-type-μ-loop
-meet-type-returns-9 t c = ?
-
--- src/lib.rt:11:1
-meet-type-same-length-10 : (t : ℕ) → meet-type-lts.Need-same-length-10 (
-  type-rule-reads.Asked,
-  type-rule-reads.Learnt,
-  meet-int-reads.Asked,
-  meet-int-reads.Learnt,
-  meet-float-reads.Asked,
-  meet-float-reads.Learnt,
-  meet-struct-below t,
-  meet-struct.Post,
-  word-reads.Asked,
-  word-reads.Learnt,
-  larger-reads.Asked,
-  larger-reads.Learnt,
-  pointer-reads.Asked,
-  pointer-reads.Learnt,
-  shared-alias-reads.Asked,
-  shared-alias-reads.Learnt,
-  meet-type-below t,
-  meet-type.Post,
-  memory-reads.Asked,
-  memory-reads.Learnt,
-  tuple-reads.Asked,
-  tuple-reads.Learnt,
-) (meet-type-at t) meet-type.Post meet-type-Inv-loop meet-type-μ-loop
-meet-type-same-length-10 t c = ?
-
--- src/lib.rt:11:1
-meet-type-returns-10 : (t : ℕ) → meet-type-lts.Need-returns-10 (
-  type-rule-reads.Asked,
-  type-rule-reads.Learnt,
-  meet-int-reads.Asked,
-  meet-int-reads.Learnt,
-  meet-float-reads.Asked,
-  meet-float-reads.Learnt,
-  meet-struct-below t,
-  meet-struct.Post,
-  word-reads.Asked,
-  word-reads.Learnt,
-  larger-reads.Asked,
-  larger-reads.Learnt,
-  pointer-reads.Asked,
-  pointer-reads.Learnt,
-  shared-alias-reads.Asked,
-  shared-alias-reads.Learnt,
-  meet-type-below t,
-  meet-type.Post,
-  memory-reads.Asked,
-  memory-reads.Learnt,
-  tuple-reads.Asked,
-  tuple-reads.Learnt,
-) (meet-type-at t) meet-type.Post meet-type-Inv-loop meet-type-μ-loop
-meet-type-returns-10 t c = ?
-
--- src/lib.rt:11:1
-meet-type-same-length-11 : (t : ℕ) → meet-type-lts.Need-same-length-11 (
-  type-rule-reads.Asked,
-  type-rule-reads.Learnt,
-  meet-int-reads.Asked,
-  meet-int-reads.Learnt,
-  meet-float-reads.Asked,
-  meet-float-reads.Learnt,
-  meet-struct-below t,
-  meet-struct.Post,
-  word-reads.Asked,
-  word-reads.Learnt,
-  larger-reads.Asked,
-  larger-reads.Learnt,
-  pointer-reads.Asked,
-  pointer-reads.Learnt,
-  shared-alias-reads.Asked,
-  shared-alias-reads.Learnt,
-  meet-type-below t,
-  meet-type.Post,
-  memory-reads.Asked,
-  memory-reads.Learnt,
-  tuple-reads.Asked,
-  tuple-reads.Learnt,
-) (meet-type-at t) meet-type.Post meet-type-Inv-loop meet-type-μ-loop
-meet-type-same-length-11 t c = ?
-
--- src/lib.rt:11:1
-meet-type-returns-11 : (t : ℕ) → meet-type-lts.Need-returns-11 (
-  type-rule-reads.Asked,
-  type-rule-reads.Learnt,
-  meet-int-reads.Asked,
-  meet-int-reads.Learnt,
-  meet-float-reads.Asked,
-  meet-float-reads.Learnt,
-  meet-struct-below t,
-  meet-struct.Post,
-  word-reads.Asked,
-  word-reads.Learnt,
-  larger-reads.Asked,
-  larger-reads.Learnt,
-  pointer-reads.Asked,
-  pointer-reads.Learnt,
-  shared-alias-reads.Asked,
-  shared-alias-reads.Learnt,
-  meet-type-below t,
-  meet-type.Post,
-  memory-reads.Asked,
-  memory-reads.Learnt,
-  tuple-reads.Asked,
-  tuple-reads.Learnt,
-) (meet-type-at t) meet-type.Post meet-type-Inv-loop meet-type-μ-loop
-meet-type-returns-11 t c = ?
-
--- src/lib.rt:11:1
-meet-type-same-length-12 : (t : ℕ) → meet-type-lts.Need-same-length-12 (
-  type-rule-reads.Asked,
-  type-rule-reads.Learnt,
-  meet-int-reads.Asked,
-  meet-int-reads.Learnt,
-  meet-float-reads.Asked,
-  meet-float-reads.Learnt,
-  meet-struct-below t,
-  meet-struct.Post,
-  word-reads.Asked,
-  word-reads.Learnt,
-  larger-reads.Asked,
-  larger-reads.Learnt,
-  pointer-reads.Asked,
-  pointer-reads.Learnt,
-  shared-alias-reads.Asked,
-  shared-alias-reads.Learnt,
-  meet-type-below t,
-  meet-type.Post,
-  memory-reads.Asked,
-  memory-reads.Learnt,
-  tuple-reads.Asked,
-  tuple-reads.Learnt,
-) (meet-type-at t) meet-type.Post meet-type-Inv-loop meet-type-μ-loop
-meet-type-same-length-12 t c = ?
-
--- src/lib.rt:11:1
-meet-type-returns-12 : (t : ℕ) → meet-type-lts.Need-returns-12 (
-  type-rule-reads.Asked,
-  type-rule-reads.Learnt,
-  meet-int-reads.Asked,
-  meet-int-reads.Learnt,
-  meet-float-reads.Asked,
-  meet-float-reads.Learnt,
-  meet-struct-below t,
-  meet-struct.Post,
-  word-reads.Asked,
-  word-reads.Learnt,
-  larger-reads.Asked,
-  larger-reads.Learnt,
-  pointer-reads.Asked,
-  pointer-reads.Learnt,
-  shared-alias-reads.Asked,
-  shared-alias-reads.Learnt,
-  meet-type-below t,
-  meet-type.Post,
-  memory-reads.Asked,
-  memory-reads.Learnt,
-  tuple-reads.Asked,
-  tuple-reads.Learnt,
-) (meet-type-at t) meet-type.Post meet-type-Inv-loop meet-type-μ-loop
-meet-type-returns-12 t c = ?
+meet-type-μ-loop old new₀ used a b n parts₀ v₀ i₀ new parts v i = n - i
+
+meet-type-type-rule-requires : (t : ℕ) → meet-type-lts.Need-type-rule-requires (meet-type-K t) (meet-type-at t) meet-type.Post meet-type-Inv-loop meet-type-μ-loop
+meet-type-type-rule-requires t c κs = search needs
+
+meet-type-enum-told : (t : ℕ) → meet-type-lts.Need-enum-told (meet-type-K t) (meet-type-at t) meet-type.Post meet-type-Inv-loop meet-type-μ-loop
+meet-type-enum-told t c = search needs
+
+meet-type-enum-told-2 : (t : ℕ) → meet-type-lts.Need-enum-told-2 (meet-type-K t) (meet-type-at t) meet-type.Post meet-type-Inv-loop meet-type-μ-loop
+meet-type-enum-told-2 t c = search needs
+
+meet-type-enum-told-3 : (t : ℕ) → meet-type-lts.Need-enum-told-3 (meet-type-K t) (meet-type-at t) meet-type.Post meet-type-Inv-loop meet-type-μ-loop
+meet-type-enum-told-3 t c = search needs
+
+meet-type-enum-told-4 : (t : ℕ) → meet-type-lts.Need-enum-told-4 (meet-type-K t) (meet-type-at t) meet-type.Post meet-type-Inv-loop meet-type-μ-loop
+meet-type-enum-told-4 t c = search needs
+
+meet-type-meet-int-requires : (t : ℕ) → meet-type-lts.Need-meet-int-requires (meet-type-K t) (meet-type-at t) meet-type.Post meet-type-Inv-loop meet-type-μ-loop
+meet-type-meet-int-requires t c κs =
+    let P = c .before .before .before .before .before .before .before .pre .1 in
+    (ready-segments P, (omega (arith, P .near, P .within, P .small), omega (arith, P .next, P .within, P .small)))
+
+meet-type-enum-told-5 : (t : ℕ) → meet-type-lts.Need-enum-told-5 (meet-type-K t) (meet-type-at t) meet-type.Post meet-type-Inv-loop meet-type-μ-loop
+meet-type-enum-told-5 t c = search needs
+
+meet-type-meet-float-requires : (t : ℕ) → meet-type-lts.Need-meet-float-requires (meet-type-K t) (meet-type-at t) meet-type.Post meet-type-Inv-loop meet-type-μ-loop
+meet-type-meet-float-requires t c κs =
+    let P = c .before .before .before .before .before .before .before .pre .1 in
+    ((P .over, P .within, omega (arith, P .near, P .within, P .small), omega (arith, P .next, P .within, P .small)), float-sizes _ _ _ _ _ P _ (c .before .before .before .type-rule .ensures) (c .before .enum-told5 .given .1))
+
+meet-type-enum-told-6 : (t : ℕ) → meet-type-lts.Need-enum-told-6 (meet-type-K t) (meet-type-at t) meet-type.Post meet-type-Inv-loop meet-type-μ-loop
+meet-type-enum-told-6 t c = search needs
+
+meet-type-meet-struct-requires : (t : ℕ) → meet-type-lts.Need-meet-struct-requires (meet-type-K t) (meet-type-at t) meet-type.Post meet-type-Inv-loop meet-type-μ-loop
+meet-type-meet-struct-requires t c κs = (search needs, search ready-structs)
+
+meet-type-enum-told-7 : (t : ℕ) → meet-type-lts.Need-enum-told-7 (meet-type-K t) (meet-type-at t) meet-type.Post meet-type-Inv-loop meet-type-μ-loop
+meet-type-enum-told-7 t c = search needs
+
+meet-type-add-word : (t : ℕ) → meet-type-lts.Need-add-word (meet-type-K t) (meet-type-at t) meet-type.Post meet-type-Inv-loop meet-type-μ-loop
+meet-type-add-word t c = search needs
+
+meet-type-word-requires : (t : ℕ) → meet-type-lts.Need-word-requires (meet-type-K t) (meet-type-at t) meet-type.Post meet-type-Inv-loop meet-type-μ-loop
+meet-type-word-requires t c κs = search needs
+
+meet-type-add-word-2 : (t : ℕ) → meet-type-lts.Need-add-word-2 (meet-type-K t) (meet-type-at t) meet-type.Post meet-type-Inv-loop meet-type-μ-loop
+meet-type-add-word-2 t c = search needs
+
+meet-type-word-requires-2 : (t : ℕ) → meet-type-lts.Need-word-requires-2 (meet-type-K t) (meet-type-at t) meet-type.Post meet-type-Inv-loop meet-type-μ-loop
+meet-type-word-requires-2 t c κs = search needs
+
+meet-type-add-word-3 : (t : ℕ) → meet-type-lts.Need-add-word-3 (meet-type-K t) (meet-type-at t) meet-type.Post meet-type-Inv-loop meet-type-μ-loop
+meet-type-add-word-3 t c = search needs
+
+meet-type-word-requires-3 : (t : ℕ) → meet-type-lts.Need-word-requires-3 (meet-type-K t) (meet-type-at t) meet-type.Post meet-type-Inv-loop meet-type-μ-loop
+meet-type-word-requires-3 t c κs = search needs
+
+meet-type-add-word-4 : (t : ℕ) → meet-type-lts.Need-add-word-4 (meet-type-K t) (meet-type-at t) meet-type.Post meet-type-Inv-loop meet-type-μ-loop
+meet-type-add-word-4 t c = search needs
+
+meet-type-word-requires-4 : (t : ℕ) → meet-type-lts.Need-word-requires-4 (meet-type-K t) (meet-type-at t) meet-type.Post meet-type-Inv-loop meet-type-μ-loop
+meet-type-word-requires-4 t c κs = search needs
+
+meet-type-larger-requires : (t : ℕ) → meet-type-lts.Need-larger-requires (meet-type-K t) (meet-type-at t) meet-type.Post meet-type-Inv-loop meet-type-μ-loop
+meet-type-larger-requires t c κs = search needs
+
+meet-type-meet-struct-requires-2 : (t : ℕ) → meet-type-lts.Need-meet-struct-requires-2 (meet-type-K t) (meet-type-at t) meet-type.Post meet-type-Inv-loop meet-type-μ-loop
+meet-type-meet-struct-requires-2 t c κs =
+    let n = pointer-next _ _ _ _ _ (c .before .before .before .before .before .before .before .before .before .before .before .before .before .before .before .before .pre .1) _ (c .before .before .before .before .before .before .before .before .before .before .before .before .type-rule .ensures) (c .before .before .before .before .before .before .before .before .before .before .enum-told7 .given .1) _ _ (c .before .before .before .before .before .before .before .before .word .ensures) (c .before .before .before .before .before .before .word2 .ensures) in
+    (omega (arith, n .0, n .1), n .2)
+
+meet-type-enum-known-m : (t : ℕ) → meet-type-lts.Need-enum-known-m (meet-type-K t) (meet-type-at t) meet-type.Post meet-type-Inv-loop meet-type-μ-loop
+meet-type-enum-known-m t c = search needs
+
+meet-type-pointer-requires : (t : ℕ) → meet-type-lts.Need-pointer-requires (meet-type-K t) (meet-type-at t) meet-type.Post meet-type-Inv-loop meet-type-μ-loop
+meet-type-pointer-requires t c κs = pointer-segments _ _ _ _ _ (c .before .before .before .before .before .before .before .before .before .before .before .before .before .before .before .before .before .before .before .before .before .before .before .pre .1) _ (c .before .before .before .before .before .before .before .before .before .before .before .before .before .before .before .before .before .before .before .type-rule .ensures) (c .before .before .before .before .before .before .before .before .before .before .before .before .before .before .before .before .before .enum-told7 .given .1) _ _ (c .before .before .before .before .before .before .before .before .before .before .before .before .before .before .before .word .ensures) (c .before .before .before .before .before .before .before .before .before .before .before .before .before .word2 .ensures) _ _ (c .before .before .before .before .before .before .meet-struct2 .ensures) _ _ (c .before .before .m .given .1)
+
+meet-type-enum-told-8 : (t : ℕ) → meet-type-lts.Need-enum-told-8 (meet-type-K t) (meet-type-at t) meet-type.Post meet-type-Inv-loop meet-type-μ-loop
+meet-type-enum-told-8 t c = search needs
+
+meet-type-enum-told-9 : (t : ℕ) → meet-type-lts.Need-enum-told-9 (meet-type-K t) (meet-type-at t) meet-type.Post meet-type-Inv-loop meet-type-μ-loop
+meet-type-enum-told-9 t c = search needs
+
+meet-type-add-word-5 : (t : ℕ) → meet-type-lts.Need-add-word-5 (meet-type-K t) (meet-type-at t) meet-type.Post meet-type-Inv-loop meet-type-μ-loop
+meet-type-add-word-5 t c = search needs
+
+meet-type-word-requires-5 : (t : ℕ) → meet-type-lts.Need-word-requires-5 (meet-type-K t) (meet-type-at t) meet-type.Post meet-type-Inv-loop meet-type-μ-loop
+meet-type-word-requires-5 t c κs = search needs
+
+meet-type-add-word-6 : (t : ℕ) → meet-type-lts.Need-add-word-6 (meet-type-K t) (meet-type-at t) meet-type.Post meet-type-Inv-loop meet-type-μ-loop
+meet-type-add-word-6 t c = search needs
+
+meet-type-word-requires-6 : (t : ℕ) → meet-type-lts.Need-word-requires-6 (meet-type-K t) (meet-type-at t) meet-type.Post meet-type-Inv-loop meet-type-μ-loop
+meet-type-word-requires-6 t c κs = search needs
+
+meet-type-shared-alias-requires : (t : ℕ) → meet-type-lts.Need-shared-alias-requires (meet-type-K t) (meet-type-at t) meet-type.Post meet-type-Inv-loop meet-type-μ-loop
+meet-type-shared-alias-requires t c κs = search needs
+
+meet-type-add-word-7 : (t : ℕ) → meet-type-lts.Need-add-word-7 (meet-type-K t) (meet-type-at t) meet-type.Post meet-type-Inv-loop meet-type-μ-loop
+meet-type-add-word-7 t c = search needs
+
+meet-type-word-requires-7 : (t : ℕ) → meet-type-lts.Need-word-requires-7 (meet-type-K t) (meet-type-at t) meet-type.Post meet-type-Inv-loop meet-type-μ-loop
+meet-type-word-requires-7 t c κs = search needs
+
+meet-type-add-word-8 : (t : ℕ) → meet-type-lts.Need-add-word-8 (meet-type-K t) (meet-type-at t) meet-type.Post meet-type-Inv-loop meet-type-μ-loop
+meet-type-add-word-8 t c = search needs
+
+meet-type-word-requires-8 : (t : ℕ) → meet-type-lts.Need-word-requires-8 (meet-type-K t) (meet-type-at t) meet-type.Post meet-type-Inv-loop meet-type-μ-loop
+meet-type-word-requires-8 t c κs = search needs
+
+meet-type-meet-type-requires : (t : ℕ) → meet-type-lts.Need-meet-type-requires (meet-type-K t) (meet-type-at t) meet-type.Post meet-type-Inv-loop meet-type-μ-loop
+meet-type-meet-type-requires t c κs =
+    let n = memory-next _ _ _ _ _ (c .before .before .before .before .before .before .before .before .before .before .before .before .before .before .before .before .pre .1) _ (c .before .before .before .before .before .before .before .before .before .before .before .before .type-rule .ensures) (c .before .before .before .before .before .before .before .before .before .before .enum-told9 .given .1) _ _ (c .before .before .before .word7 .ensures) (c .before .word8 .ensures) in
+    (omega (arith, n .0, n .1), n .2)
+
+meet-type-enum-known-m-2 : (t : ℕ) → meet-type-lts.Need-enum-known-m-2 (meet-type-K t) (meet-type-at t) meet-type.Post meet-type-Inv-loop meet-type-μ-loop
+meet-type-enum-known-m-2 t c = search needs
+
+meet-type-memory-requires : (t : ℕ) → meet-type-lts.Need-memory-requires (meet-type-K t) (meet-type-at t) meet-type.Post meet-type-Inv-loop meet-type-μ-loop
+meet-type-memory-requires t c κs = memory-segments _ _ _ _ _ (c .before .before .before .before .before .before .before .before .before .before .before .before .before .before .before .before .before .before .before .before .before .before .before .pre .1) _ (c .before .before .before .before .before .before .before .before .before .before .before .before .before .before .before .before .before .before .before .type-rule .ensures) (c .before .before .before .before .before .before .before .before .before .before .before .before .before .before .before .before .before .enum-told9 .given .1) _ _ (c .before .before .before .before .before .before .before .before .before .before .word7 .ensures) (c .before .before .before .before .before .before .before .before .word8 .ensures) _ _ (c .before .before .before .before .before .before .meet-type .ensures) _ _ (c .before .before .m2 .given .1)
+
+meet-type-enum-told-10 : (t : ℕ) → meet-type-lts.Need-enum-told-10 (meet-type-K t) (meet-type-at t) meet-type.Post meet-type-Inv-loop meet-type-μ-loop
+meet-type-enum-told-10 t c = search needs
+
+meet-type-enum-told-11 : (t : ℕ) → meet-type-lts.Need-enum-told-11 (meet-type-K t) (meet-type-at t) meet-type.Post meet-type-Inv-loop meet-type-μ-loop
+meet-type-enum-told-11 t c = search needs
+
+meet-type-word-requires-9 : (t : ℕ) → meet-type-lts.Need-word-requires-9 (meet-type-K t) (meet-type-at t) meet-type.Post meet-type-Inv-loop meet-type-μ-loop
+meet-type-word-requires-9 t c κs = search needs
+
+meet-type-loop-holds : (t : ℕ) → meet-type-lts.Need-loop-holds (meet-type-K t) (meet-type-at t) meet-type.Post meet-type-Inv-loop meet-type-μ-loop
+meet-type-loop-holds t c =
+    let P = c .before .before .before .before .before .before .before .before .pre .1 in
+    let k = c .before .before .before .before .type-rule .ensures in
+    let e = c .before .before .enum-told11 .given .1 in
+    let x = c .word9 .ensures in
+    (search needs, tuple-few _ _ _ _ _ P _ k e _ x, search needs, refl, P .within, search needs, P .over, omega (arith, P .near, P .within, P .small), omega (arith, P .next, P .within, P .small), tuple-begin _ _ _ _ _ P _ k e _ x _)
+
+meet-type-add-word-9 : (t : ℕ) → meet-type-lts.Need-add-word-9 (meet-type-K t) (meet-type-at t) meet-type.Post meet-type-Inv-loop meet-type-μ-loop
+meet-type-add-word-9 t c = search needs
+
+meet-type-add-word-10 : (t : ℕ) → meet-type-lts.Need-add-word-10 (meet-type-K t) (meet-type-at t) meet-type.Post meet-type-Inv-loop meet-type-μ-loop
+meet-type-add-word-10 t c = search needs
+
+meet-type-word-requires-10 : (t : ℕ) → meet-type-lts.Need-word-requires-10 (meet-type-K t) (meet-type-at t) meet-type.Post meet-type-Inv-loop meet-type-μ-loop
+meet-type-word-requires-10 t c κs = search needs
+
+meet-type-add-word-11 : (t : ℕ) → meet-type-lts.Need-add-word-11 (meet-type-K t) (meet-type-at t) meet-type.Post meet-type-Inv-loop meet-type-μ-loop
+meet-type-add-word-11 t c = search needs
+
+meet-type-add-word-12 : (t : ℕ) → meet-type-lts.Need-add-word-12 (meet-type-K t) (meet-type-at t) meet-type.Post meet-type-Inv-loop meet-type-μ-loop
+meet-type-add-word-12 t c = search needs
+
+meet-type-word-requires-11 : (t : ℕ) → meet-type-lts.Need-word-requires-11 (meet-type-K t) (meet-type-at t) meet-type.Post meet-type-Inv-loop meet-type-μ-loop
+meet-type-word-requires-11 t c κs = search needs
+
+meet-type-meet-type-requires-2 : (t : ℕ) → meet-type-lts.Need-meet-type-requires-2 (meet-type-K t) (meet-type-at t) meet-type.Post meet-type-Inv-loop meet-type-μ-loop
+meet-type-meet-type-requires-2 t c κs =
+    let n = tuple-next _ _ _ _ _ _ (c .before .before .before .before .before .before .loop .new) _ _ _ (c .before .before .before .before .before .before .loop .inv .9) (c .before .before .before .before .before .loop-test .taken) _ _ (c .before .before .before .word10 .ensures) (c .before .word11 .ensures) in
+    (omega (arith, n .0, n .1), n .2)
+
+meet-type-enum-known-m-3 : (t : ℕ) → meet-type-lts.Need-enum-known-m-3 (meet-type-K t) (meet-type-at t) meet-type.Post meet-type-Inv-loop meet-type-μ-loop
+meet-type-enum-known-m-3 t c = search needs
+
+meet-type-mul-parts : (t : ℕ) → meet-type-lts.Need-mul-parts (meet-type-K t) (meet-type-at t) meet-type.Post meet-type-Inv-loop meet-type-μ-loop
+meet-type-mul-parts t c = search needs
+
+meet-type-array-write-parts : (t : ℕ) → meet-type-lts.Need-array-write-parts (meet-type-K t) (meet-type-at t) meet-type.Post meet-type-Inv-loop meet-type-μ-loop
+meet-type-array-write-parts t c = search needs
+
+meet-type-enum-told-12 : (t : ℕ) → meet-type-lts.Need-enum-told-12 (meet-type-K t) (meet-type-at t) meet-type.Post meet-type-Inv-loop meet-type-μ-loop
+meet-type-enum-told-12 t c = search needs
+
+meet-type-same-length : (t : ℕ) → meet-type-lts.Need-same-length (meet-type-K t) (meet-type-at t) meet-type.Post meet-type-Inv-loop meet-type-μ-loop
+meet-type-same-length t c = search needs
+
+meet-type-returns : (t : ℕ) → meet-type-lts.Need-returns (meet-type-K t) (meet-type-at t) meet-type.Post meet-type-Inv-loop meet-type-μ-loop
+meet-type-returns t c = search tuple-stop
+
+meet-type-add-i : (t : ℕ) → meet-type-lts.Need-add-i (meet-type-K t) (meet-type-at t) meet-type.Post meet-type-Inv-loop meet-type-μ-loop
+meet-type-add-i t c = search needs
+
+meet-type-loop-less : (t : ℕ) → meet-type-lts.Need-loop-less (meet-type-K t) (meet-type-at t) meet-type.Post meet-type-Inv-loop meet-type-μ-loop
+meet-type-loop-less t c = search needs
+
+meet-type-loop-again : (t : ℕ) → meet-type-lts.Need-loop-again (meet-type-K t) (meet-type-at t) meet-type.Post meet-type-Inv-loop meet-type-μ-loop
+meet-type-loop-again t c =
+    let l = c .before .before .before .before .before .before .before .before .before .before .before .before .loop .inv in
+    let i = c .before .before .before .before .before .before .before .before .before .before .before .loop-test .taken in
+    let G = tuple-turn _ _ _ _ _ _ (c .before .before .before .before .before .before .before .before .before .before .before .before .loop .new) _ _ _ (l .9) i _ _ (c .before .before .before .before .before .before .before .before .before .word10 .ensures) (c .before .before .before .before .before .before .before .word11 .ensures) (c .before .before .before .before .before .meet-type2 .ensures) _ _ (c .before .m3 .given .1) (omega (arith, l .1, l .2, i)) in
+    (search needs, l .1, simp length-set (l .2), grew-long (G .grew), grew-high (G .grew), grew-up (G .grew), l .6, l .7, l .8, G)
+
+meet-type-array-share-prefix-parts : (t : ℕ) → meet-type-lts.Need-array-share-prefix-parts (meet-type-K t) (meet-type-at t) meet-type.Post meet-type-Inv-loop meet-type-μ-loop
+meet-type-array-share-prefix-parts t c = search needs
+
+meet-type-slice-aggregate-tuple : (t : ℕ) → meet-type-lts.Need-slice-aggregate-tuple (meet-type-K t) (meet-type-at t) meet-type.Post meet-type-Inv-loop meet-type-μ-loop
+meet-type-slice-aggregate-tuple t c = sym (length-take-le _ (c .before .before .before .loop .parts) (omega arith))
+
+meet-type-tuple-requires : (t : ℕ) → meet-type-lts.Need-tuple-requires (meet-type-K t) (meet-type-at t) meet-type.Post meet-type-Inv-loop meet-type-μ-loop
+meet-type-tuple-requires t c κs =
+    let l = c .before .before .before .loop .inv in
+    let n = length-take-le (c .before .before .before .before .word9 .result / 65536) (c .before .before .before .loop .parts) (omega (arith, l .1, l .2)) in
+    (going-segments (l .9), omega (arith, n, l .1))
+
+meet-type-same-length-2 : (t : ℕ) → meet-type-lts.Need-same-length-2 (meet-type-K t) (meet-type-at t) meet-type.Post meet-type-Inv-loop meet-type-μ-loop
+meet-type-same-length-2 t c = search needs
+
+meet-type-returns-2 : (t : ℕ) → meet-type-lts.Need-returns-2 (meet-type-K t) (meet-type-at t) meet-type.Post meet-type-Inv-loop meet-type-μ-loop
+meet-type-returns-2 t c = search met-first
+
+meet-type-same-length-3 : (t : ℕ) → meet-type-lts.Need-same-length-3 (meet-type-K t) (meet-type-at t) meet-type.Post meet-type-Inv-loop meet-type-μ-loop
+meet-type-same-length-3 t c = search needs
+
+meet-type-returns-3 : (t : ℕ) → meet-type-lts.Need-returns-3 (meet-type-K t) (meet-type-at t) meet-type.Post meet-type-Inv-loop meet-type-μ-loop
+meet-type-returns-3 t c = search met-second
+
+meet-type-same-length-4 : (t : ℕ) → meet-type-lts.Need-same-length-4 (meet-type-K t) (meet-type-at t) meet-type.Post meet-type-Inv-loop meet-type-μ-loop
+meet-type-same-length-4 t c = search needs
+
+meet-type-returns-4 : (t : ℕ) → meet-type-lts.Need-returns-4 (meet-type-K t) (meet-type-at t) meet-type.Post meet-type-Inv-loop meet-type-μ-loop
+meet-type-returns-4 t c = search met-bottom
+
+meet-type-same-length-5 : (t : ℕ) → meet-type-lts.Need-same-length-5 (meet-type-K t) (meet-type-at t) meet-type.Post meet-type-Inv-loop meet-type-μ-loop
+meet-type-same-length-5 t c = search needs
+
+meet-type-returns-5 : (t : ℕ) → meet-type-lts.Need-returns-5 (meet-type-K t) (meet-type-at t) meet-type.Post meet-type-Inv-loop meet-type-μ-loop
+meet-type-returns-5 t c = search met-ints
+
+meet-type-same-length-6 : (t : ℕ) → meet-type-lts.Need-same-length-6 (meet-type-K t) (meet-type-at t) meet-type.Post meet-type-Inv-loop meet-type-μ-loop
+meet-type-same-length-6 t c = search needs
+
+meet-type-returns-6 : (t : ℕ) → meet-type-lts.Need-returns-6 (meet-type-K t) (meet-type-at t) meet-type.Post meet-type-Inv-loop meet-type-μ-loop
+meet-type-returns-6 t c = search met-floats
+
+meet-type-same-length-7 : (t : ℕ) → meet-type-lts.Need-same-length-7 (meet-type-K t) (meet-type-at t) meet-type.Post meet-type-Inv-loop meet-type-μ-loop
+meet-type-same-length-7 t c = search needs
+
+meet-type-returns-7 : (t : ℕ) → meet-type-lts.Need-returns-7 (meet-type-K t) (meet-type-at t) meet-type.Post meet-type-Inv-loop meet-type-μ-loop
+meet-type-returns-7 t c = search met-structs
+
+meet-type-same-length-8 : (t : ℕ) → meet-type-lts.Need-same-length-8 (meet-type-K t) (meet-type-at t) meet-type.Post meet-type-Inv-loop meet-type-μ-loop
+meet-type-same-length-8 t c = search needs
+
+meet-type-returns-8 : (t : ℕ) → meet-type-lts.Need-returns-8 (meet-type-K t) (meet-type-at t) meet-type.Post meet-type-Inv-loop meet-type-μ-loop
+meet-type-returns-8 t c = met-pointers _ _ _ _ _ (c .before .before .before .before .before .before .before .before .before .before .before .before .before .before .before .before .before .before .before .before .before .before .before .before .before .before .pre .1) _ (c .before .before .before .before .before .before .before .before .before .before .before .before .before .before .before .before .before .before .before .before .before .before .type-rule .ensures) (c .before .before .before .before .before .before .before .before .before .before .before .before .before .before .before .before .before .before .before .before .enum-told7 .given .1) _ _ (c .before .before .before .before .before .before .before .before .before .before .before .before .before .before .before .before .before .before .word .ensures) (c .before .before .before .before .before .before .before .before .before .before .before .before .before .before .before .before .word2 .ensures) _ _ (c .before .before .before .before .before .before .before .before .before .meet-struct2 .ensures) _ _ (c .before .before .before .before .before .m .given .1) _ _ _ (c .before .before .before .before .before .before .before .before .before .before .before .before .before .before .word3 .ensures) (c .before .before .before .before .before .before .before .before .before .before .before .before .word4 .ensures) (c .before .before .before .before .before .before .before .before .before .before .before .larger .ensures) _ _ (c .before .before .pointer .ensures)
+
+meet-type-same-length-9 : (t : ℕ) → meet-type-lts.Need-same-length-9 (meet-type-K t) (meet-type-at t) meet-type.Post meet-type-Inv-loop meet-type-μ-loop
+meet-type-same-length-9 t c = search needs
+
+meet-type-returns-9 : (t : ℕ) → meet-type-lts.Need-returns-9 (meet-type-K t) (meet-type-at t) meet-type.Post meet-type-Inv-loop meet-type-μ-loop
+meet-type-returns-9 t c = search pointer-full
+
+meet-type-same-length-10 : (t : ℕ) → meet-type-lts.Need-same-length-10 (meet-type-K t) (meet-type-at t) meet-type.Post meet-type-Inv-loop meet-type-μ-loop
+meet-type-same-length-10 t c = search needs
+
+meet-type-returns-10 : (t : ℕ) → meet-type-lts.Need-returns-10 (meet-type-K t) (meet-type-at t) meet-type.Post meet-type-Inv-loop meet-type-μ-loop
+meet-type-returns-10 t c = met-memories _ _ _ _ _ (c .before .before .before .before .before .before .before .before .before .before .before .before .before .before .before .before .before .before .before .before .before .before .before .before .before .before .pre .1) _ (c .before .before .before .before .before .before .before .before .before .before .before .before .before .before .before .before .before .before .before .before .before .before .type-rule .ensures) (c .before .before .before .before .before .before .before .before .before .before .before .before .before .before .before .before .before .before .before .before .enum-told9 .given .1) _ _ (c .before .before .before .before .before .before .before .before .before .before .before .before .before .word7 .ensures) (c .before .before .before .before .before .before .before .before .before .before .before .word8 .ensures) _ _ (c .before .before .before .before .before .before .before .before .before .meet-type .ensures) _ _ (c .before .before .before .before .before .m2 .given .1) _ _ _ (c .before .before .before .before .before .before .before .before .before .before .before .before .before .before .before .before .before .before .word5 .ensures) (c .before .before .before .before .before .before .before .before .before .before .before .before .before .before .before .before .word6 .ensures) (c .before .before .before .before .before .before .before .before .before .before .before .before .before .before .before .shared-alias .ensures) _ _ (c .before .before .memory .ensures)
+
+meet-type-same-length-11 : (t : ℕ) → meet-type-lts.Need-same-length-11 (meet-type-K t) (meet-type-at t) meet-type.Post meet-type-Inv-loop meet-type-μ-loop
+meet-type-same-length-11 t c = search needs
+
+meet-type-returns-11 : (t : ℕ) → meet-type-lts.Need-returns-11 (meet-type-K t) (meet-type-at t) meet-type.Post meet-type-Inv-loop meet-type-μ-loop
+meet-type-returns-11 t c = search memory-full
+
+meet-type-same-length-12 : (t : ℕ) → meet-type-lts.Need-same-length-12 (meet-type-K t) (meet-type-at t) meet-type.Post meet-type-Inv-loop meet-type-μ-loop
+meet-type-same-length-12 t c = search needs
+
+meet-type-returns-12 : (t : ℕ) → meet-type-lts.Need-returns-12 (meet-type-K t) (meet-type-at t) meet-type.Post meet-type-Inv-loop meet-type-μ-loop
+meet-type-returns-12 t c = search tuple-end
 
 pub +meet-struct+meet-type-spec : {M : Type 1} → statement M
-+meet-struct+meet-type-spec = close μ-meet-struct μ-meet-type (λ t. meet-struct-lts.spec (
-  struct-rule-reads.Asked,
-  struct-rule-reads.Learnt,
-  word-reads.Asked,
-  word-reads.Learnt,
-  meet-type-below t,
-  meet-type.Post,
-  meet-fields-reads.Asked,
-  meet-fields-reads.Learnt,
-)
++meet-struct+meet-type-spec = close μ-meet-struct μ-meet-type (λ t. meet-struct-lts.spec (meet-struct-K t)
     (meet-struct-at t)
     meet-struct.Post
     meet-struct-Inv-loop
@@ -2788,30 +510,7 @@ pub +meet-struct+meet-type-spec : {M : Type 1} → statement M
     (meet-struct-returns-4 t)
     (meet-struct-same-length-5 t)
     (meet-struct-returns-5 t))
-    λ t. meet-type-lts.spec (
-      type-rule-reads.Asked,
-      type-rule-reads.Learnt,
-      meet-int-reads.Asked,
-      meet-int-reads.Learnt,
-      meet-float-reads.Asked,
-      meet-float-reads.Learnt,
-      meet-struct-below t,
-      meet-struct.Post,
-      word-reads.Asked,
-      word-reads.Learnt,
-      larger-reads.Asked,
-      larger-reads.Learnt,
-      pointer-reads.Asked,
-      pointer-reads.Learnt,
-      shared-alias-reads.Asked,
-      shared-alias-reads.Learnt,
-      meet-type-below t,
-      meet-type.Post,
-      memory-reads.Asked,
-      memory-reads.Learnt,
-      tuple-reads.Asked,
-      tuple-reads.Learnt,
-    )
+    λ t. meet-type-lts.spec (meet-type-K t)
     (meet-type-at t)
     meet-type.Post
     meet-type-Inv-loop
