@@ -25,7 +25,7 @@ pub then-off : (n : ℕ) (t : Bool) (rest : ℕ) → (suc n when t ∣ rest) ≡
 then-off n true rest q = absurd (omega arith)
 then-off n false rest q = (refl, q)
 
-two-off : (i j : ℕ) (a b : Bool) → (suc i when a ∣ suc j when b) ≡ 0 → (a ≡ false) × (b ≡ false)
+pub two-off : (i j : ℕ) (a b : Bool) → (suc i when a ∣ suc j when b) ≡ 0 → (a ≡ false) × (b ≡ false)
 two-off i j a b q = let x = then-off i a (suc j when b) q in (x .0, off j b (x .1))
 
 pub four-off : (i j k l : ℕ) (a b c d : Bool) → (suc i when a ∣ suc j when b ∣ suc k when c ∣ suc l when d) ≡ 0 → (a ≡ false) × (b ≡ false) × (c ≡ false) × (d ≡ false)

@@ -21,13 +21,13 @@ use Rattle.wellformed.specs.Entry.{kind, depth, typesIn}
 use Rattle.wellformed.specs.Fresh.{freshWords}
 use Rattle.wellformed.specs.Form.{wellFormed, usedWords}
 use Rattle.wellformed.proofs.Before.{tests}
-use Rattle.call.specs.Handles.{word, kindOn, depthOn}
+use Rattle.call.specs.Handles.{word, kindOn}
 use Rattle.call.specs.Keep.{Sound, Fitting, Adds}
 use Rattle.call.proofs.Sound.{make-adds, adds-none, adds-then, in-used, start-used}
 use Rattle.call.proofs.Keep.{well-sound}
 use Rattle.parts.specs.Parts.{Good, Part, Name, All, Ready}
 use Rattle.parts.proofs.Spot.{at-more, row-starts, entry-head}
-use Rattle.parts.proofs.Parts.{types-earlier}
+use Rattle.parts.proofs.Parts.{types-earlier, flat}
 
 -- row 1 has passed them
 pub well-good : (ws : List ℕ) → wellFormed ws ≡ true → Good (usedWords ws)
@@ -84,10 +84,21 @@ module _ {u : List ℕ} (g : Good u) (d : ℕ) (some : 1 < d) where
   unfolding rows isAt sizeOf wordsAfter freshWords
   float-bot-part = fresh-part g 61 d 1 11 262 refl (omega arith) (omega arith) refl (omega arith) (omega arith) (omega arith)
 
+-- ---- handles that a call takes
+
+pub handle-part : {u : List ℕ} (h : ℕ) → Good u → starts u h ≡ true → 1 ≤ kindOn u h → kindOn u h ≤ 11 → Part u (length u) 33 1 11 h
+handle-part {u} h g is low high =
+    let l = start-used u (g .sound .low) h is .1 in
+    let p : Part u (length u) 256 1 11 h = record { entry = is; earlier = l; least = low; most = high; shallow = omega arith } in
+    record { entry = is; earlier = l; least = low; most = high; shallow = omega (arith, flat (g .sound) p) }
+
 -- ---- growth
 
 pub part-weak : {u : List ℕ} {k d low high h : ℕ} (k′ d′ : ℕ) → k ≤ k′ → d ≤ d′ → Part u k d low high h → Part u k′ d′ low high h
 part-weak k′ d′ a b p = record { entry = p .entry; earlier = omega (arith, p .earlier); least = p .least; most = p .most; shallow = omega (arith, p .shallow) }
+
+pub part-below : {u : List ℕ} {k d low high h : ℕ} (top : ℕ) → h < top → Part u k d low high h → Part u top d low high h
+part-below top l p = record { entry = p .entry; earlier = l; least = p .least; most = p .most; shallow = p .shallow }
 
 -- a part stands before the end of the used words
 pub part-used : {u : List ℕ} {k d low high h : ℕ} → Good u → Part u k d low high h → h < length u

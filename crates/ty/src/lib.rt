@@ -1,0 +1,41 @@
+// The operations of `Ty`. Each call takes any words whatever as the store and any numbers as its arguments; what it answers and what it
+// leaves is what its definition in ty_calls/specs/Ty.antt says.
+//
+// Each lends row 1 an array of bits whose size goes by the list's length, so that a small store does not pay for a large one's.
+use call::Flag;
+use call::Made;
+ghost use mathlib.Core.Path.{_≡_};
+ghost use Rattle.call.specs.Call.{left, made, said};
+ghost use Rattle.ty_calls.specs.Ty.{meetCall, isaCall};
+
+// The lowest type above both.
+pub fn meet(words: &mut [u64], a: u64, b: u64) -> Made
+    ensures { λ r. ⌜ left (made r) (now (words .exit)) ≡ meetCall a b (now (words .entry)) ⌝ }
+{
+    if words.len() <= 4096 {
+        let mut bits = [0u64; 64];
+        return ty_calls::meet_in(words, &mut bits, a, b);
+    }
+    if words.len() <= 65536 {
+        let mut bits = [0u64; 1024];
+        return ty_calls::meet_in(words, &mut bits, a, b);
+    }
+    let mut bits = [0u64; 16384];
+    ty_calls::meet_in(words, &mut bits, a, b)
+}
+
+// Whether b is above a: whether their meet would be b.
+pub fn isa(words: &[u64], a: u64, b: u64) -> Flag
+    ensures { λ r. ⌜ left (said r) (now (words .entry)) ≡ isaCall a b (now (words .entry)) ⌝ }
+{
+    if words.len() <= 4096 {
+        let mut bits = [0u64; 64];
+        return ty_calls::isa_in(words, &mut bits, a, b);
+    }
+    if words.len() <= 65536 {
+        let mut bits = [0u64; 1024];
+        return ty_calls::isa_in(words, &mut bits, a, b);
+    }
+    let mut bits = [0u64; 16384];
+    ty_calls::isa_in(words, &mut bits, a, b)
+}

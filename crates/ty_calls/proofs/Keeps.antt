@@ -1,0 +1,31 @@
+-- meet and isa keep what every call keeps: the store is well formed again, old entries keep their words, and no two entries become equal.
+-- Assumes nothing.
+use mathlib.Core.Path.{_≡_}
+use mathlib.Core.Bool.{true}
+use mathlib.Core.List.{List, [], _∷_}
+use Prim.Native.Nat.{ℕ, suc, max}
+use native.Mathlib.Omega.{arith}
+use Rattle.wellformed.specs.Form.{wellFormed, usedWords}
+use Rattle.call.specs.Call.{flag}
+use Rattle.call.specs.Handles.{typesRows}
+use Rattle.call.specs.Keep.{Keeps}
+use Rattle.call.proofs.Keep.{call-keeps}
+use Rattle.kept.proofs.Kept.{ask-keeps}
+use Rattle.parts.specs.Parts.{Good}
+use Rattle.parts.proofs.Good.{well-good, part-below, Answers}
+use Rattle.meet.specs.Meet.{meetOf, isaOf}
+use Rattle.meet.proofs.Nice.{meet-nice}
+use Rattle.ty_calls.specs.Ty.{meetCall, isaCall}
+use Rattle.ty_calls.proofs.Ready.{two-parts}
+
+-- the meet of two types of good used words adds entries, and its answer is a type at most 32 deep, new where anything was added
+pub meet-answers : (u : List ℕ) (a b : ℕ) → Good u → typesRows (a ∷ b ∷ []) u ≡ 0 → Answers u 33 1 11 (meetOf u a b)
+meet-answers u a b g q =
+    let p = two-parts a b u g q in
+    meet-nice (suc (max a b)) u a b 33 g (part-below (suc (max a b)) (omega arith) (p .0)) (part-below (suc (max a b)) (omega arith) (p .1))
+
+pub meet-keeps : (a b : ℕ) (ws : List ℕ) → wellFormed ws ≡ true → Keeps ws (meetCall a b ws)
+meet-keeps a b ws ok = call-keeps (typesRows (a ∷ b ∷ [])) (λ u. meetOf u a b) ws ok (λ s q. meet-answers (usedWords ws) a b (well-good ws ok) q .adds)
+
+pub isa-keeps : (a b : ℕ) (ws : List ℕ) → wellFormed ws ≡ true → Keeps ws (isaCall a b ws)
+isa-keeps a b = ask-keeps (typesRows (a ∷ b ∷ [])) (λ u. flag (isaOf u a b))

@@ -1,0 +1,113 @@
+-- What the calls on two types know past their rows, and what meet leaves of the used words alone. Assumes nothing.
+use mathlib.Core.Path.{_≡_, sym, ap, _∙_}
+use mathlib.Core.Bool.{true, false}
+use mathlib.Core.Logic.{⊎-elim}
+use mathlib.Core.List.{List, [], _∷_, _++_, append-nil}
+use Prim.Native.Nat.{ℕ, suc, _≤_, max}
+use native.Mathlib.Omega.{arith}
+use borrow.Author.Tests.{leb-true, ne-eqb}
+use lib.Dec.{eqb, leb}
+use lib.ListN.{length, take}
+use lib.Seq.{length-take-le, take-take}
+use Rattle.words.specs.Table.{starts}
+use Rattle.words.specs.Made.{Grown, Ran}
+use Rattle.words.specs.declared.Interned.{Interned}
+use Rattle.words.specs.declared.Interned.the-variants.{At, Full}
+use Rattle.words.proofs.Room.{fitted, overflowed}
+use Rattle.wellformed.specs.Entry.{isType, kindAt, all}
+use Rattle.wellformed.specs.Form.{usedWords}
+use Rattle.wellformed.proofs.Before.{tests}
+use Rattle.wellformed.proofs.Bools.{and-left, and-right}
+use Rattle.call.specs.Handles.{word, kindOn, noEntry, wrongKind, typesRows}
+use Rattle.call.proofs.Ways.{Begun}
+use Rattle.kept.proofs.Fits.{Right}
+use Rattle.kept.proofs.Rows.{two-off, right-of}
+use Rattle.parts.specs.Parts.{Good, Part, Ready}
+use Rattle.parts.proofs.Good.{well-good, handle-part, part-weak, part-below}
+use Rattle.meet.specs.Meet.{meetOf, isaOf, Met}
+use Rattle.meet.proofs.Nice.{meet-nice}
+
+-- ---- types that no row turns back
+
+taken : {u : List ℕ} (h : ℕ) → Good u → starts u h ≡ true → isType (kindOn u h) ≡ true → Part u (length u) 33 1 11 h
+taken {u} h g is k = handle-part h g is (leb-true 1 (kindOn u h) (and-left (leb 1 (kindOn u h)) (leb (kindOn u h) 11) k)) (leb-true (kindOn u h) 11 (and-right (leb 1 (kindOn u h)) (leb (kindOn u h) 11) k))
+
+module _ (a b : ℕ) (u : List ℕ) (g : Good u) (q : typesRows (a ∷ b ∷ []) u ≡ 0) where
+  both-right : Right u isType (a ∷ b ∷ [])
+  unfolding typesRows
+  both-right = let f = two-off 1 2 (noEntry u (a ∷ b ∷ [])) (wrongKind u isType (a ∷ b ∷ [])) q in right-of u isType (a ∷ b ∷ []) (f .0) (f .1)
+
+  pub two-parts : Part u (length u) 33 1 11 a × Part u (length u) 33 1 11 b
+  unfolding all
+  two-parts =
+      let s = both-right .start in
+      let k = both-right .kinds in
+      let t = kindAt (word u) isType in
+      (taken a g (and-left (starts u a) (all (starts u) (b ∷ [])) s) (and-left (t a) (all t (b ∷ [])) k),
+      taken b g (and-left (starts u b) true (and-right (starts u a) (all (starts u) (b ∷ [])) s)) (and-left (t b) true (and-right (t a) (all t (b ∷ [])) k)))
+
+module _ (ws : List ℕ) (used a b : ℕ) (begun : Begun ws used) (q : typesRows (a ∷ b ∷ []) (take used ws) ≡ 0) where
+  abbrev u : List ℕ
+  u = take used ws
+
+  pub good : Good u
+  good = let e : usedWords ws ≡ u = rw (begun .is) in rw e at (well-good ws (begun .ok))
+
+  long : length u ≡ used
+  long = length-take-le used ws (begun .within)
+
+  parts : Part u (length u) 33 1 11 a × Part u (length u) 33 1 11 b
+  parts = two-parts a b u good q
+
+  -- the whole store is lent to be written
+  pub call-ready : Ready [] ws used 1 11 a b
+  call-ready = record {
+    over = omega arith;
+    within = omega (arith, begun .within);
+    small = omega (arith, tests ws (begun .ok) .most);
+    cut = begun .segments .cut;
+    near = omega (arith, parts .0 .earlier, long);
+    next = omega (arith, parts .1 .earlier, long);
+    good = good;
+    first = part-weak used 33 (omega (arith, long)) (omega arith) (parts .0);
+    second = part-weak used 33 (omega (arith, long)) (omega arith) (parts .1);
+  }
+
+  -- the used words alone are lent, to be read
+  read : take used (u ++ []) ≡ u
+  read = ap (take used) (append-nil u) ∙ take-take used used ws (omega arith)
+
+  pub ask-ready : Ready u [] used 1 11 a b
+  ask-ready = record {
+    over = omega (arith, long);
+    within = omega (arith, long);
+    small = omega (arith, long, begun .within, tests ws (begun .ok) .most);
+    cut = good .sound .full;
+    near = omega (arith, parts .0 .earlier, long);
+    next = omega (arith, parts .1 .earlier, long);
+    good = rw read good;
+    first = rw read (part-weak used 33 (omega (arith, long)) (omega arith) (parts .0));
+    second = rw read (part-weak used 33 (omega (arith, long)) (omega arith) (parts .1));
+  }
+
+  -- ---- what meet leaves of them
+
+  abbrev g : Grown
+  g = meetOf u a b
+
+  module _ (new′ : List ℕ) (r : Interned) (met : Met u [] used a b new′ r) where
+    ran : Ran used g (u ++ []) (u ++ new′) r
+    ran = let m = met .is (suc (max a b)) (omega arith) (omega arith) in rw read at m
+
+    pub isa-at : (h v : ℕ) → r ≡ At h v → eqb h b ≡ isaOf u a b
+    isa-at h v e = ap (λ (k : ℕ). eqb k b) (fitted used g (u ++ []) (u ++ new′) r ran h v e .handle)
+
+    pub isa-full : r ≡ Full → false ≡ isaOf u a b
+    isa-full e =
+        let more = overflowed used g (u ++ []) (u ++ new′) r ran e in
+        let n = ap length (append-nil u) in
+        let res = meet-nice (suc (max a b)) u a b 33 good (part-below (suc (max a b)) (omega arith) (parts .0)) (part-below (suc (max a b)) (omega arith) (parts .1)) in
+        ⊎-elim
+        (λ (same : g .words ≡ u). absurd (omega (arith, ap length same)))
+        (λ (late : length u ≤ g .handle). let ne : g .handle ≡ b → ⊥ = (λ z. absurd (omega (arith, parts .1 .earlier))) in sym (ne-eqb (g .handle) b ne))
+        (res .new)

@@ -1,0 +1,83 @@
+-- `ty_calls::isa_in` meets its contract, by the ways that a call that reads goes.
+use mathlib.Core.Path.{sym, ap, _∙_}
+use native.Mathlib.Omega.{arith}
+use lib.Seq.{length-take-le}
+use Rattle.call.specs.Call.{flag}
+use Rattle.call.proofs.Ways.{begun, unread, read-back, answered}
+use Rattle.ty_calls.proofs.Ready.{ask-ready, isa-at, isa-full}
+use borrow.Author.Needs.{needs}
+use borrow.Author.Needs.{needs}
+use Rattle.ty_calls.proofs.isa_in.Statement.{statement}
+use Rattle.ty_calls.proofs.isa_in.Tie as tie
+use Rattle.call.proofs.begin.Reads as begin-reads
+use Rattle.meet.proofs.meet_type.Reads as meet-type-reads
+use Rattle.rows.proofs.types_rows.Reads as types-rows-reads
+
+begin-requires : tie.Need-begin-requires
+begin-requires c κs = search needs
+
+same-length : tie.Need-same-length
+same-length c = search needs
+
+returns : tie.Need-returns
+returns c = unread _ _ _ _ (c .before .before .before .begin .ensures .is) (c .if1 .taken)
+
+slice-aggregate-types-rows : tie.Need-slice-aggregate-types-rows
+slice-aggregate-types-rows c = search needs
+
+types-rows-requires : tie.Need-types-rows-requires
+types-rows-requires c κs = c .before .before .before .before .before .begin .ensures .ready (c .before .before .if1 .left)
+
+same-length-2 : tie.Need-same-length-2
+same-length-2 c = search needs
+
+returns-2 : tie.Need-returns-2
+returns-2 c = read-back _ _ _ _ (c .before .before .before .before .before .before .before .begin .ensures .is) (c .before .before .before .before .if1 .left) _ (c .before .types-rows .ensures) (c .if2 .taken)
+
+slice-aggregate-meet-type : tie.Need-slice-aggregate-meet-type
+slice-aggregate-meet-type c = sym (length-take-le _ (c .before .before .before .before .before .before .before .before .before .before .before .before .args .words .now) (begun _ _ (c .before .before .before .before .before .before .before .before .begin .ensures .is) (c .before .before .before .before .before .if1 .left) .within))
+
+slice-aggregate-meet-type-2 : tie.Need-slice-aggregate-meet-type-2
+slice-aggregate-meet-type-2 c = search needs
+
+meet-type-requires : tie.Need-meet-type-requires
+meet-type-requires c κs =     ask-ready _ _ _ _ (begun _ _ (c .before .before .before .before .before .before .before .before .before .begin .ensures .is) (c .before .before .before .before .before .before .if1 .left)) (sym (c .before .before .before .types-rows .ensures) ∙ (c .before .before .if2 .left))
+
+enum-known-m : tie.Need-enum-known-m
+enum-known-m c = search needs
+
+enum-told : tie.Need-enum-told
+enum-told c = search needs
+
+same-length-3 : tie.Need-same-length-3
+same-length-3 c = search needs
+
+returns-3 : tie.Need-returns-3
+returns-3 c =     answered _ _ _ _ (c .before .before .before .before .before .before .before .before .before .before .before .before .before .before .begin .ensures .is) (c .before .before .before .before .before .before .before .before .before .before .before .if1 .left) (sym (c .before .before .before .before .before .before .before .before .types-rows .ensures) ∙ (c .before .before .before .before .before .before .before .if2 .left)) _ (ap flag (isa-at _ _ _ _ (begun _ _ (c .before .before .before .before .before .before .before .before .before .before .before .before .before .before .begin .ensures .is) (c .before .before .before .before .before .before .before .before .before .before .before .if1 .left)) (sym (c .before .before .before .before .before .before .before .before .types-rows .ensures) ∙ (c .before .before .before .before .before .before .before .if2 .left)) _ _ (c .before .before .before .before .meet-type .ensures) _ _ (c .before .m .given .1)))
+
+same-length-4 : tie.Need-same-length-4
+same-length-4 c = search needs
+
+returns-4 : tie.Need-returns-4
+returns-4 c =     answered _ _ _ _ (c .before .before .before .before .before .before .before .before .before .before .before .before .before .begin .ensures .is) (c .before .before .before .before .before .before .before .before .before .before .if1 .left) (sym (c .before .before .before .before .before .before .before .types-rows .ensures) ∙ (c .before .before .before .before .before .before .if2 .left)) _ (ap flag (isa-full _ _ _ _ (begun _ _ (c .before .before .before .before .before .before .before .before .before .before .before .before .before .begin .ensures .is) (c .before .before .before .before .before .before .before .before .before .before .if1 .left)) (sym (c .before .before .before .before .before .before .before .types-rows .ensures) ∙ (c .before .before .before .before .before .before .if2 .left)) _ _ (c .before .before .before .meet-type .ensures) (c .enum-told .given .1)))
+
+pub isa-in-spec : {M : Type 1} → statement M
+isa-in-spec =
+    tie.close
+    (tie.spec
+    begin-requires
+    same-length
+    returns
+    slice-aggregate-types-rows
+    types-rows-requires
+    same-length-2
+    returns-2
+    slice-aggregate-meet-type
+    slice-aggregate-meet-type-2
+    meet-type-requires
+    enum-known-m
+    enum-told
+    same-length-3
+    returns-3
+    same-length-4
+    returns-4)

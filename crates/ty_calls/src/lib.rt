@@ -1,0 +1,47 @@
+// The calls on types, on any words whatever. Each takes the bits that row 1 marks the entries in; `ty` lends them.
+use call::Flag;
+use call::Made;
+use words::Interned;
+ghost use mathlib.Core.Path.{_≡_};
+ghost use Prim.Native.Nat.{_*_, _≤_, min};
+ghost use lib.ListN.{length};
+ghost use Rattle.call.specs.Call.{left, made, said};
+ghost use Rattle.ty_calls.specs.Ty.{meetCall, isaCall};
+
+pub fn meet_in(words: &mut [u64], bits: &mut [u64], a: u64, b: u64) -> Made
+    requires { ⌜ min (length (now words)) 1048576 ≤ 64 * length (now bits) ⌝ }
+    ensures { λ r. ⌜ left (made r) (now (words .exit)) ≡ meetCall a b (now (words .entry)) ⌝ }
+{
+    let used = call::begin(words, bits);
+    if used == 0 {
+        return Made::Refused(1);
+    }
+    let no = rows::types_rows(words, used, bits, &[a, b]);
+    if no != 0 {
+        return Made::Refused(no);
+    }
+    let none = [0u64; 0];
+    let r = meet::meet_type(&none, words, used, a as usize, b as usize);
+    call::finish(words, used, r)
+}
+
+// The used words are lent to be read, with no word behind them: whatever would have to be appended does not fit, and is no old handle.
+pub fn isa_in(words: &[u64], bits: &mut [u64], a: u64, b: u64) -> Flag
+    requires { ⌜ min (length (now words)) 1048576 ≤ 64 * length (now bits) ⌝ }
+    ensures { λ r. ⌜ left (said r) (now (words .entry)) ≡ isaCall a b (now (words .entry)) ⌝ }
+{
+    let used = call::begin(words, bits);
+    if used == 0 {
+        return Flag::Refused(1);
+    }
+    let no = rows::types_rows(words, used, bits, &[a, b]);
+    if no != 0 {
+        return Flag::Refused(no);
+    }
+    let mut none = [0u64; 0];
+    let m = meet::meet_type(&words[..used], &mut none, used, a as usize, b as usize);
+    match m {
+        Interned::At(h, _) => Flag::Is(h as u64 == b),
+        Interned::Full => Flag::Is(false),
+    }
+}
