@@ -1,7 +1,5 @@
 // The lines of a script: each is read, and the call that it names is made.
 mod lists;
-mod makers;
-mod replies;
 mod run;
 
 pub use replies::Reply;

@@ -1,11 +1,10 @@
 // The lines about the list itself.
 ghost use Prim.Native.Nat.{_≤_};
-use crate::makers;
-use crate::replies::Reply;
-use crate::replies::arg;
-use crate::replies::done;
-use crate::replies::flag;
-use crate::replies::is;
+use replies::Reply;
+use replies::arg;
+use replies::done;
+use replies::flag;
+use replies::is;
 use script::Answer;
 
 // The length that a line gives the list, which has `len` words and room for `most`.
@@ -66,7 +65,7 @@ pub fn reply(name: &[u8], a: &[u64], words: &mut [u64]) -> Reply {
     if is(name, n, b"check", 0) {
         return flag(wellformed::well_formed(words));
     }
-    makers::reply(name, a, words)
+    ty_lines::reply(name, a, words)
 }
 
 // A list of n words, each the value. It has that many already, unless there is no room for them.

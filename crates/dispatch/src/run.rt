@@ -2,9 +2,8 @@
 ghost use Prim.Native.Nat.{_≤_};
 ghost use lib.ListN.{length};
 use crate::lists;
-use crate::makers;
-use crate::makers::Shape;
-use crate::replies::Reply;
+use maker_lines::Shape;
+use replies::Reply;
 use script::Count;
 
 // What a line answers, and the length that the list has then.
@@ -39,7 +38,7 @@ fn call(line: &[u8], words: &mut [u64], len: usize, numbers: &mut [u64], text: &
     ensures { λ r. ⌜ r .len ≤ length (now (words .exit)) ⌝ }
 {
     let stop = script::word_end(line, 0);
-    let shape = makers::behind(&line[0..stop]);
+    let shape = maker_lines::behind(&line[0..stop]);
     match shape {
         Shape::Text(k) => {
             let reply = with_text(line, stop, k, &mut words[0..len], numbers, text);
@@ -96,7 +95,7 @@ fn with_text(
     let size = script::rest(line, end, text);
     match count {
         Count::Of(n) => match size {
-            Count::Of(m) => makers::texts(&line[0..stop], &numbers[0..n], &text[0..m], words),
+            Count::Of(m) => maker_lines::texts(&line[0..stop], &numbers[0..n], &text[0..m], words),
             Count::Bad => Reply::Malformed,
         },
         Count::Bad => Reply::Malformed,

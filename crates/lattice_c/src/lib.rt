@@ -1,13 +1,15 @@
-// The calls for C and Rust: a static library. A slice is a pointer and a length there. The answer is one word: a handle, a number or 0, or
+// The calls for C and Rust: a static library. A slice is a pointer and a length there. The answer is one word: a handle, a number, 1 or 0 for yes or no, 0 for accepted, or
 // refusal n as 2 to the 63 + n.
 use call::Done;
+use call::Flag;
 use call::Made;
 use call::Number;
 ghost use mathlib.Core.Path.{_≡_};
 ghost use Prim.Native.Nat.{_+_};
-ghost use Rattle.call.specs.Call.{made, told, done};
+ghost use Rattle.call.specs.Call.{made, told, said, done};
 ghost use Rattle.wellformed.specs.Form.{wellFormed};
 ghost use Rattle.lattice_c.specs.Code.{code, Coded};
+ghost use Rattle.ty_calls.specs.Ty.{meetCall, isaCall};
 ghost use Rattle.makers.specs.Makers.{freshCall, kindCall, getBoolCall, getIntCall, makeIntCall, getFloatCall, makeFloatCall, getTupleCall, getStrCall, getStructCall, makeAryCall, makeStructFrefCall, getMemPtrCall, getMemCall};
 
 fn refusal(n: u8) -> u64
@@ -31,6 +33,20 @@ fn of_number(m: Number) -> u64
     match m {
         Number::Is(n) => n,
         Number::Refused(n) => refusal(n),
+    }
+}
+
+fn of_flag(m: Flag) -> u64
+    ensures { λ r. ⌜ r ≡ code (said m) ⌝ }
+{
+    match m {
+        Flag::Is(yes) => {
+            if yes {
+                return 1;
+            }
+            0
+        }
+        Flag::Refused(n) => refusal(n),
     }
 }
 
@@ -153,4 +169,18 @@ pub extern "C" fn ferigulan_get_mem(words: &mut [u64], alias: u64, t: u64) -> u6
     ensures { λ r. ⌜ Coded (getMemCall alias t (now (words .entry))) r (now (words .exit)) ⌝ }
 {
     of_made(types::get_mem(words, alias, t))
+}
+
+#[no_mangle]
+pub extern "C" fn ferigulan_meet(words: &mut [u64], a: u64, b: u64) -> u64
+    ensures { λ r. ⌜ Coded (meetCall a b (now (words .entry))) r (now (words .exit)) ⌝ }
+{
+    of_made(ty::meet(words, a, b))
+}
+
+#[no_mangle]
+pub extern "C" fn ferigulan_isa(words: &[u64], a: u64, b: u64) -> u64
+    ensures { λ r. ⌜ Coded (isaCall a b (now (words .entry))) r (now (words .entry)) ⌝ }
+{
+    of_flag(ty::isa(words, a, b))
 }

@@ -42,9 +42,10 @@ module _ (a b : ℕ) (u : List ℕ) (g : Good u) (q : typesRows (a ∷ b ∷ [])
   two-parts =
       let s = both-right .start in
       let k = both-right .kinds in
-      let t = kindAt (word u) isType in
-      (taken a g (and-left (starts u a) (all (starts u) (b ∷ [])) s) (and-left (t a) (all t (b ∷ [])) k),
-      taken b g (and-left (starts u b) true (and-right (starts u a) (all (starts u) (b ∷ [])) s)) (and-left (t b) true (and-right (t a) (all t (b ∷ [])) k)))
+      let t = kindAt (word u) isType in (
+        taken a g (and-left (starts u a) (all (starts u) (b ∷ [])) s) (and-left (t a) (all t (b ∷ [])) k),
+        taken b g (and-left (starts u b) true (and-right (starts u a) (all (starts u) (b ∷ [])) s)) (and-left (t b) true (and-right (t a) (all t (b ∷ [])) k)),
+      )
 
 module _ (ws : List ℕ) (used a b : ℕ) (begun : Begun ws used) (q : typesRows (a ∷ b ∷ []) (take used ws) ≡ 0) where
   abbrev u : List ℕ

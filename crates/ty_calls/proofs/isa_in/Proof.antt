@@ -41,7 +41,7 @@ slice-aggregate-meet-type-2 : tie.Need-slice-aggregate-meet-type-2
 slice-aggregate-meet-type-2 c = search needs
 
 meet-type-requires : tie.Need-meet-type-requires
-meet-type-requires c κs =     ask-ready _ _ _ _ (begun _ _ (c .before .before .before .before .before .before .before .before .before .begin .ensures .is) (c .before .before .before .before .before .before .if1 .left)) (sym (c .before .before .before .types-rows .ensures) ∙ (c .before .before .if2 .left))
+meet-type-requires c κs = ask-ready _ _ _ _ (begun _ _ (c .before .before .before .before .before .before .before .before .before .begin .ensures .is) (c .before .before .before .before .before .before .if1 .left)) (sym (c .before .before .before .types-rows .ensures) ∙ (c .before .before .if2 .left))
 
 enum-known-m : tie.Need-enum-known-m
 enum-known-m c = search needs
@@ -53,13 +53,13 @@ same-length-3 : tie.Need-same-length-3
 same-length-3 c = search needs
 
 returns-3 : tie.Need-returns-3
-returns-3 c =     answered _ _ _ _ (c .before .before .before .before .before .before .before .before .before .before .before .before .before .before .begin .ensures .is) (c .before .before .before .before .before .before .before .before .before .before .before .if1 .left) (sym (c .before .before .before .before .before .before .before .before .types-rows .ensures) ∙ (c .before .before .before .before .before .before .before .if2 .left)) _ (ap flag (isa-at _ _ _ _ (begun _ _ (c .before .before .before .before .before .before .before .before .before .before .before .before .before .before .begin .ensures .is) (c .before .before .before .before .before .before .before .before .before .before .before .if1 .left)) (sym (c .before .before .before .before .before .before .before .before .types-rows .ensures) ∙ (c .before .before .before .before .before .before .before .if2 .left)) _ _ (c .before .before .before .before .meet-type .ensures) _ _ (c .before .m .given .1)))
+returns-3 c = answered _ _ _ _ (c .before .before .before .before .before .before .before .before .before .before .before .before .before .before .begin .ensures .is) (c .before .before .before .before .before .before .before .before .before .before .before .if1 .left) (sym (c .before .before .before .before .before .before .before .before .types-rows .ensures) ∙ (c .before .before .before .before .before .before .before .if2 .left)) _ (ap flag (isa-at _ _ _ _ (begun _ _ (c .before .before .before .before .before .before .before .before .before .before .before .before .before .before .begin .ensures .is) (c .before .before .before .before .before .before .before .before .before .before .before .if1 .left)) (sym (c .before .before .before .before .before .before .before .before .types-rows .ensures) ∙ (c .before .before .before .before .before .before .before .if2 .left)) _ _ (c .before .before .before .before .meet-type .ensures) _ _ (c .before .m .given .1)))
 
 same-length-4 : tie.Need-same-length-4
 same-length-4 c = search needs
 
 returns-4 : tie.Need-returns-4
-returns-4 c =     answered _ _ _ _ (c .before .before .before .before .before .before .before .before .before .before .before .before .before .begin .ensures .is) (c .before .before .before .before .before .before .before .before .before .before .if1 .left) (sym (c .before .before .before .before .before .before .before .types-rows .ensures) ∙ (c .before .before .before .before .before .before .if2 .left)) _ (ap flag (isa-full _ _ _ _ (begun _ _ (c .before .before .before .before .before .before .before .before .before .before .before .before .before .begin .ensures .is) (c .before .before .before .before .before .before .before .before .before .before .if1 .left)) (sym (c .before .before .before .before .before .before .before .types-rows .ensures) ∙ (c .before .before .before .before .before .before .if2 .left)) _ _ (c .before .before .before .meet-type .ensures) (c .enum-told .given .1)))
+returns-4 c = answered _ _ _ _ (c .before .before .before .before .before .before .before .before .before .before .before .before .before .begin .ensures .is) (c .before .before .before .before .before .before .before .before .before .before .if1 .left) (sym (c .before .before .before .before .before .before .before .types-rows .ensures) ∙ (c .before .before .before .before .before .before .if2 .left)) _ (ap flag (isa-full _ _ _ _ (begun _ _ (c .before .before .before .before .before .before .before .before .before .before .before .before .before .begin .ensures .is) (c .before .before .before .before .before .before .before .before .before .before .if1 .left)) (sym (c .before .before .before .before .before .before .before .types-rows .ensures) ∙ (c .before .before .before .before .before .before .if2 .left)) _ _ (c .before .before .before .meet-type .ensures) (c .enum-told .given .1)))
 
 pub isa-in-spec : {M : Type 1} → statement M
 isa-in-spec =

@@ -44,7 +44,7 @@ slice-aggregate-meet-type : tie.Need-slice-aggregate-meet-type
 slice-aggregate-meet-type c = search needs
 
 meet-type-requires : tie.Need-meet-type-requires
-meet-type-requires c κs =     call-ready _ _ _ _ (begun _ _ (c .before .before .before .before .before .before .before .before .before .before .begin .ensures .is) (c .before .before .before .before .before .before .before .if1 .left)) (sym (c .before .before .before .types-rows .ensures) ∙ (c .before .before .if2 .left))
+meet-type-requires c κs = call-ready _ _ _ _ (begun _ _ (c .before .before .before .before .before .before .before .before .before .before .begin .ensures .is) (c .before .before .before .before .before .before .before .if1 .left)) (sym (c .before .before .before .types-rows .ensures) ∙ (c .before .before .if2 .left))
 
 finish-requires : tie.Need-finish-requires
 finish-requires c κs =
@@ -59,7 +59,7 @@ same-length-6 : tie.Need-same-length-6
 same-length-6 c = search needs
 
 returns-3 : tie.Need-returns-3
-returns-3 c =     ended _ _ _ _ (c .before .before .before .before .before .before .before .before .before .before .before .before .before .before .before .before .before .begin .ensures .is) (c .before .before .before .before .before .before .before .before .before .before .before .before .before .before .if1 .left) (sym (c .before .before .before .before .before .before .before .before .before .before .types-rows .ensures) ∙ (c .before .before .before .before .before .before .before .before .before .if2 .left)) _ _ (c .before .before .before .before .before .before .meet-type .kept .1 .0) (c .before .before .before .before .before .before .meet-type .ensures .is (suc (max (c .before .before .before .before .before .before .before .before .before .before .before .before .before .before .before .before .before .before .before .before .before .before .args .a) (c .before .before .before .before .before .before .before .before .before .before .before .before .before .before .before .before .before .before .before .before .before .before .args .b))) (omega arith) (omega arith)) _ (c .before .before .finish .ensures)
+returns-3 c = ended _ _ _ _ (c .before .before .before .before .before .before .before .before .before .before .before .before .before .before .before .before .before .begin .ensures .is) (c .before .before .before .before .before .before .before .before .before .before .before .before .before .before .if1 .left) (sym (c .before .before .before .before .before .before .before .before .before .before .types-rows .ensures) ∙ (c .before .before .before .before .before .before .before .before .before .if2 .left)) _ _ (c .before .before .before .before .before .before .meet-type .kept .1 .0) (c .before .before .before .before .before .before .meet-type .ensures .is (suc (max (c .before .before .before .before .before .before .before .before .before .before .before .before .before .before .before .before .before .before .before .before .before .before .args .a) (c .before .before .before .before .before .before .before .before .before .before .before .before .before .before .before .before .before .before .before .before .before .before .args .b))) (omega arith) (omega arith)) _ (c .before .before .finish .ensures)
 
 pub meet-in-spec : {M : Type 1} → statement M
 meet-in-spec =

@@ -1,9 +1,9 @@
 // The lines that make types.
-use crate::replies::Reply;
-use crate::replies::arg;
-use crate::replies::is;
-use crate::replies::made;
-use crate::replies::number;
+use replies::Reply;
+use replies::arg;
+use replies::is;
+use replies::made;
+use replies::number;
 
 // Whether a line has a text behind its numbers, and then how many numbers.
 pub enum Shape {

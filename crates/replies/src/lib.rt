@@ -1,5 +1,6 @@
 // What lines answer, and what the functions for each call share.
 use call::Done;
+use call::Flag;
 use call::Made;
 use call::Number;
 use script::Answer;
@@ -60,5 +61,12 @@ pub fn number(answer: Number) -> Reply {
     match answer {
         Number::Is(n) => Reply::Short(Answer::Number(n)),
         Number::Refused(n) => Reply::Short(Answer::Refused(n)),
+    }
+}
+
+pub fn said(answer: Flag) -> Reply {
+    match answer {
+        Flag::Is(yes) => flag(yes),
+        Flag::Refused(n) => Reply::Short(Answer::Refused(n)),
     }
 }
