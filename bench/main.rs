@@ -9,6 +9,10 @@ extern "C" {
     fn ferigulan_make_int(words: *mut u64, n: usize, min: u64, max: u64) -> u64;
     fn ferigulan_get_tuple(words: *mut u64, n: usize, types: *const u64, k: usize) -> u64;
     fn ferigulan_get_str(words: *mut u64, n: usize, name: *const u8, k: usize) -> u64;
+    fn ferigulan_get_struct(words: *mut u64, n: usize, name: u64, fields: *const u64, k: usize) -> u64;
+    fn ferigulan_get_mem_ptr(words: *mut u64, n: usize, to: u64, nil: u64) -> u64;
+    fn ferigulan_meet(words: *mut u64, n: usize, a: u64, b: u64) -> u64;
+    fn ferigulan_isa(words: *const u64, n: usize, a: u64, b: u64) -> u64;
 }
 
 fn store(len: usize) -> Vec<u64> {
@@ -59,6 +63,75 @@ fn time(mut f: impl FnMut()) -> f64 {
     best
 }
 
+// A store of nearly `len` words, made by calls, and its types that are met with each other; the script that makes the same.
+fn types(len: usize) -> (Vec<u64>, Vec<(u64, u64)>, String) {
+    let mut w = vec![0u64; len];
+    let p = w.as_mut_ptr();
+    assert_eq!(unsafe { ferigulan_fresh(p, len) }, 0);
+    let name = unsafe { ferigulan_get_str(p, len, b"S".as_ptr(), 1) };
+    let mut script = format!("fresh {len}\nstr 53\n");
+    let mut groups: Vec<[u64; 4]> = Vec::new();
+    let mut k = 100u64;
+    // a quarter of the room is left for the meets
+    while (w[0] as usize) < len - len / 4 - 40 {
+        unsafe {
+            let int = ferigulan_make_int(p, len, k, k + 7);
+            let pair = ferigulan_get_tuple(p, len, [int, 25].as_ptr(), 2);
+            let fields = [name, int, 1, 0, name, pair, 2, k % 2];
+            let st = ferigulan_get_struct(p, len, name, fields.as_ptr(), 8);
+            let ptr = ferigulan_get_mem_ptr(p, len, st, k % 2);
+            script += &format!("int {k} {}\ntuple {int} 25\nstruct {name} {name} {int} 1 0 {name} {pair} 2 {}\nptr {st} {}\n", k + 7, k % 2, k % 2);
+            groups.push([int, pair, st, ptr]);
+        }
+        k += 9;
+    }
+    // types of one kind, from places spread over the store
+    let mut pairs = Vec::new();
+    for i in 0..8 {
+        let (x, y) = (groups[i * (groups.len() - 1) / 16], groups[(16 - i) * (groups.len() - 1) / 16]);
+        for j in 0..4 {
+            pairs.push((x[j], y[j]));
+        }
+    }
+    (w, pairs, script)
+}
+
+// The Rust's nanoseconds a call, from the oracle's own clock around its functions.
+fn rust(oracle: &str, script: &str) -> Option<(f64, f64)> {
+    std::fs::write("target/bench-meets.txt", script).ok()?;
+    let out = std::process::Command::new(oracle).args(["time", "target/bench-meets.txt", "20"]).output().ok()?;
+    let text = String::from_utf8(out.stdout).ok()?;
+    let figure = |name: &str| text.lines().find(|l| l.starts_with(name)).and_then(|l| l.split_whitespace().nth(2)?.parse().ok());
+    Some((figure("meet ")?, figure("isa ")?))
+}
+
+// meet and isa of Ints, pairs, structs and pointers, beside a scan of the same words and beside the Rust.
+fn meets(oracle: Option<String>) {
+    println!("\n{:>9} {:>12} {:>22} {:>22} {:>14} {:>14}", "words", "scan ns", "meet", "isa", "Rust's meet", "Rust's isa");
+    for len in [1_000usize, 8_192, 65_536] {
+        let (mut w, pairs, mut script) = types(len);
+        for (a, b) in &pairs {
+            let h = unsafe { ferigulan_meet(w.as_mut_ptr(), len, *a, *b) };
+            assert!(h < 1 << 63);
+            script += &format!("meet {a} {b}\nisa {a} {b}\n");
+        }
+        let scan = time(|| {
+            let w = black_box(&w);
+            black_box(w.iter().fold(0u64, |a, b| a ^ b));
+        });
+        let n = pairs.len() as f64;
+        let meet = time(|| pairs.iter().for_each(|(a, b)| assert!(black_box(unsafe { ferigulan_meet(w.as_mut_ptr(), len, *a, *b) }) < 1 << 63))) / n;
+        let isa = time(|| pairs.iter().for_each(|(a, b)| assert!(black_box(unsafe { ferigulan_isa(w.as_ptr(), len, *a, *b) }) < 2))) / n;
+        let theirs = oracle.as_ref().and_then(|o| rust(o, &script));
+        let show = |x: f64| format!("{:.0} ns ({:.1}x)", x, x / scan);
+        let beside = |x: f64, y: Option<f64>| y.map_or("not run".to_string(), |y| format!("{:.0} ns ({:.0}x)", y, x / y));
+        println!(
+            "{:>9} {:>12.0} {:>22} {:>22} {:>14} {:>14}",
+            len, scan, show(meet), show(isa), beside(meet, theirs.map(|t| t.0)), beside(isa, theirs.map(|t| t.1))
+        );
+    }
+}
+
 fn main() {
     println!("{:>9} {:>12} {:>22} {:>22} {:>22} {:>22}", "words", "scan ns", "row 1", "Int found last", "new Int", "new name");
     for len in [110usize, 1_000, 8_192, 65_536, 1_048_576] {
@@ -93,4 +166,5 @@ fn main() {
         let show = |x: f64| format!("{:.0} ns ({:.1}x)", x, x / scan);
         println!("{:>9} {:>12.0} {:>22} {:>22} {:>22} {:>22}", len, scan, show(row1), show(found), show(new), show(name));
     }
+    meets(std::env::args().nth(1));
 }

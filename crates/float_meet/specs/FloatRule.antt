@@ -1,5 +1,5 @@
 -- Document 01, "meet, isa", its sentence on floats: which float two readings meet in.
-use mathlib.Core.Bool.{Bool, true, false, not, _&&_, _||_}
+use mathlib.Core.Bool.{Bool, false, not, _&&_}
 use Prim.Native.Nat.{ℕ, suc}
 use lib.IntN.{ℤ, pos, negsuc}
 use lib.Dec.{eqb}

@@ -10,7 +10,7 @@ use Rattle.words.specs.Made.{make}
 use Rattle.wellformed.specs.Fresh.{freshWords}
 use Rattle.wellformed.specs.Entry.{every, deepest}
 use Rattle.float_meet.specs.FloatRule.{floatRule}
-use Rattle.makers.specs.Entries.{intEntry, floatEntry, tupleEntry, structEntry, frefEntry, pointerEntry, memoryEntry, fieldWords}
+use Rattle.makers.specs.Entries.{intEntry, floatEntry, structEntry, frefEntry, memoryEntry, fieldWords}
 use Rattle.meet_rules.specs.Names.{sameWords, sameFields}
 use Rattle.meet_rules.specs.Rules.{pairRule, ruleFor, namedRule, structRule}
 use Rattle.structs.specs.Remade.{fieldsWith, remake}

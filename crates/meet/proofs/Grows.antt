@@ -1,7 +1,7 @@
 -- meet only ever appends to the used words. Assumes nothing.
 use mathlib.Core.List.{List, [], _∷_}
 use Prim.Native.Nat.{ℕ, zero, suc, _+_}
-use Rattle.words.specs.Made.{Grown, make}
+use Rattle.words.specs.Made.{Grown}
 use Rattle.words.proofs.Extend.{Extends, ext-same, ext-then}
 use Rattle.words.proofs.Placed.{make-extends}
 use Rattle.call.specs.Handles.{word}
@@ -13,7 +13,7 @@ use Rattle.meet_rules.specs.declared.StructRule.{StructRule}
 use Rattle.meet_rules.specs.declared.StructRule.the-variants.{Former, Latter, Lowest, Fields}
 use Rattle.structs.specs.Remade.{remake}
 use Rattle.meet_fields.specs.Fields.{meetFields}
-use Rattle.meet.specs.Meet.{Op, Many, led, meetEach, elements, tupleOf, types, structOf, followStruct, meetStruct, eitherNil, pointerOf, memoryOf, follow, meet}
+use Rattle.meet.specs.Meet.{Op, Many, meetEach, elements, tupleOf, types, structOf, followStruct, meetStruct, eitherNil, pointerOf, memoryOf, follow, meet}
 
 abbrev pub Grows : Op → Type 0
 Grows op = (u : List ℕ) (a b : ℕ) → Extends u (op u a b .words)

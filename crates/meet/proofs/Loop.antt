@@ -12,7 +12,7 @@ use Rattle.words.specs.Words.{fills}
 use Rattle.words.specs.Made.{Grown, Segments, Ran}
 use Rattle.words.specs.declared.Interned.{Interned}
 use Rattle.words.specs.declared.Interned.the-variants.{At, Full}
-use Rattle.words.proofs.Extend.{Extends, ext-same, ext-then, ext-length, ext-take}
+use Rattle.words.proofs.Extend.{Extends, ext-then, ext-take}
 use Rattle.words.proofs.Room.{Fit, fitted, fit-front, fit-length, then, stop}
 use Rattle.wellformed.specs.Entry.{every}
 use Rattle.call.specs.Handles.{word}

@@ -3,7 +3,7 @@ use mathlib.Core.Path.{_≡_, refl, sym, ap, _∙_}
 use mathlib.Core.Bool.{Bool, true, false, cond}
 use mathlib.Core.Logic.{_⊎_, inl, inr, ⊎-elim}
 use mathlib.Core.List.{List, [], _∷_}
-use Prim.Native.Nat.{ℕ, zero, suc, _+_, _≤_, _<_, max}
+use Prim.Native.Nat.{ℕ, zero, suc, _+_, _≤_, max}
 use native.Mathlib.Omega.{arith}
 use borrow.Author.Tests.{le-leb, leb-true}
 use lib.Dec.{eqb}
@@ -20,8 +20,8 @@ use Rattle.float_meet.specs.declared.FloatMeet.{FloatMeet}
 use Rattle.float_meet.specs.declared.FloatMeet.the-variants as FloatMeet-variants
 use Rattle.makers.specs.Entries.{intEntry}
 use Rattle.kept.proofs.Fits.{int-fits}
-use Rattle.parts.specs.Parts.{Good, Part, Name, All}
-use Rattle.parts.proofs.Parts.{few, flat, deep, TupleAt, StructAt, PointerAt, MemoryAt, of-tuple, of-struct, of-pointer, of-memory, all-map}
+use Rattle.parts.specs.Parts.{Good, Part, All}
+use Rattle.parts.proofs.Parts.{few, flat, deep, of-tuple, of-struct, of-pointer, of-memory, all-map}
 use Rattle.parts.proofs.Good.{bot-part, struct-bot-part, float-b32-part, float-bot-part, part-weak, part-used, adds-long, adds-word, good-adds, part-adds, Answers, old-answers, make-answers, Late, Any}
 use Rattle.meet_rules.specs.Rules.{typeRule, structRule, readingOn, floatHandle, sharedAlias}
 use Rattle.meet_rules.specs.declared.Rule.{Rule}
@@ -31,7 +31,7 @@ use Rattle.meet_rules.specs.declared.StructRule.the-variants.{Former, Latter, L
 use Rattle.meet_rules.proofs.Sure.{sure-tuples, sure-structs, sure-pointers, sure-memories, sure-fields}
 use Rattle.meet_fields.specs.Fields.{eitherFinal, flagsOn, meetFields}
 use Rattle.meet_fields.proofs.Finals.{every-length, either-length, either-flags}
-use Rattle.meet.specs.Meet.{Op, there, Many, led, meetEach, elements, tupleOf, types, structOf, followStruct, meetStruct, eitherNil, pointerOf, memoryOf, follow, meet}
+use Rattle.meet.specs.Meet.{Op, there, Many, meetEach, elements, types, followStruct, meetStruct, eitherNil, follow, meet}
 use Rattle.meet.proofs.Made.{tuple-answers, struct-answers, pointer-answers, memory-answers, answer-late}
 
 -- an operation that gives good answers on handles below k

@@ -11,8 +11,8 @@ use Rattle.words.specs.Words.{kindOf, countOf}
 use Rattle.words.specs.Made.{Grown, make, Segments, Ran, Runs}
 use Rattle.words.specs.declared.Interned.{Interned}
 use Rattle.words.specs.declared.Interned.the-variants.{At, Full}
-use Rattle.words.proofs.Extend.{Extends, ext-same}
-use Rattle.words.proofs.Room.{Fit, fit}
+use Rattle.words.proofs.Extend.{Extends}
+use Rattle.words.proofs.Room.{fit}
 use Rattle.wellformed.specs.Entry.{every, all, isAliasFinal}
 use Rattle.wellformed.proofs.Bools.{and-both}
 use Rattle.call.specs.Keep.{Adds}
@@ -23,7 +23,7 @@ use Rattle.makers.proofs.FloatSize.{size-word}
 use Rattle.float_meet.specs.FloatRule.{floatRule}
 use Rattle.parts.specs.Parts.{Good, Part, Name, All, Ready}
 use Rattle.parts.proofs.Parts.{few, flat, no-fields, of-tuple, of-struct, of-fref, of-pointer, of-memory, of-float, all-map}
-use Rattle.parts.proofs.Good.{part-weak, good-adds, part-adds, adds-word, part-used}
+use Rattle.parts.proofs.Good.{part-weak, part-adds, adds-word, part-used}
 use Rattle.meet_rules.specs.Names.{NamesBelow}
 use Rattle.meet_rules.specs.Rules.{typeRule, structRule, readingOn, floatHandle, sharedAlias}
 use Rattle.meet_rules.specs.declared.Rule.{Rule}
@@ -32,10 +32,10 @@ use Rattle.meet_rules.specs.declared.StructRule.{StructRule}
 use Rattle.meet_rules.specs.declared.StructRule.the-variants.{Former, Latter, Lowest, Fields}
 use Rattle.meet_rules.proofs.Sure.{sure-tuples, sure-structs, sure-pointers, sure-memories, sure-floats, sure-fields}
 use Rattle.meet_fields.specs.Fields.{flagsOn, meetFields}
-use Rattle.meet.specs.Meet.{there, Many, meetEach, elements, tupleOf, types, structOf, followStruct, meetStruct, eitherNil, pointerOf, memoryOf, meetInt, follow, meet, Met, MetStruct}
+use Rattle.meet.specs.Meet.{there, tupleOf, types, structOf, followStruct, meetStruct, eitherNil, pointerOf, memoryOf, meetInt, follow, meet, Met, MetStruct}
 use Rattle.meet.proofs.Grows.{meet-grows, tuple-grows, struct-grows, pointer-grows, memory-grows, structs-grow}
 use Rattle.meet.proofs.Nice.{meet-nice, structs-nice, narrow}
-use Rattle.meet.proofs.Loop.{Grew, grew-none, grew-ran, grew-words, grew-more, grew-stop, grew-segments, Going, going-begin, going-first, going-second, going-ready, going-stop, going-turn, going-end, going-segments}
+use Rattle.meet.proofs.Loop.{Grew, grew-none, grew-ran, grew-words, grew-more, grew-stop, grew-segments, Going, going-begin, going-first, going-second, going-ready, going-stop, going-turn, going-end}
 
 -- an answer that is there already
 old-ran : {old new : List ℕ} {used low high a b : ℕ} (h : ℕ) → Ready old new used low high a b → Ran used (there (take used (old ++ new)) h) (old ++ new) (old ++ new) (At h used)

@@ -3,8 +3,7 @@
 use meet_rules::Rule;
 use meet_rules::StructRule;
 use words::Interned;
-ghost use mathlib.Core.Path.{_≡_};
-ghost use Prim.Native.Nat.{_<_, _≤_};
+ghost use Prim.Native.Nat.{_<_};
 ghost use Rattle.parts.specs.Parts.{Ready};
 ghost use Rattle.meet.specs.Meet.{Met, MetStruct};
 

@@ -1,5 +1,5 @@
 -- Document 01, "meet, isa": which rule decides. The rules stand in the document's order. `u` is the used words, a and b are the operands.
-use mathlib.Core.Bool.{Bool, not, cond, _&&_}
+use mathlib.Core.Bool.{not, cond, _&&_}
 use mathlib.Core.List.{List}
 use Prim.Native.Nat.{ℕ, _+_}
 use lib.Dec.{eqb}

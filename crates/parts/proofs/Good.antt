@@ -3,11 +3,11 @@ use mathlib.Core.Path.{_≡_, refl, sym, ap, _∙_}
 use mathlib.Core.Bool.{true}
 use mathlib.Core.Logic.{_⊎_, inl, inr, ⊎-elim}
 use mathlib.Core.List.{List, [], _∷_, _++_}
-use Prim.Native.Nat.{ℕ, suc, _+_, _-_, _≤_, _<_}
+use Prim.Native.Nat.{ℕ, _+_, _-_, _≤_, _<_}
 use native.Mathlib.Omega.{arith}
-use lib.ListN.{length, take, drop, getD, length-append, length-take, length-drop, take-append-drop, List·getD-append}
-use lib.Seq.{length-take-le, getD-take, getD-drop, take-append-le, drop-append-le}
-use Rattle.words.specs.Words.{wordsAfter, sizeOf, fills, kindOf, depthOf, eqs}
+use lib.ListN.{length, drop, getD, length-append, length-take, length-drop, take-append-drop, List·getD-append}
+use lib.Seq.{getD-take, getD-drop, take-append-le, drop-append-le}
+use Rattle.words.specs.Words.{wordsAfter, sizeOf, fills, kindOf, depthOf}
 use Rattle.words.specs.Table.{Row, rows, entries, starts, isAt, findIn}
 use Rattle.words.specs.declared.Found.{Found}
 use Rattle.words.specs.declared.Found.the-variants.{At, Nothing}
@@ -22,7 +22,7 @@ use Rattle.wellformed.specs.Fresh.{freshWords}
 use Rattle.wellformed.specs.Form.{wellFormed, usedWords}
 use Rattle.wellformed.proofs.Before.{tests}
 use Rattle.call.specs.Handles.{word, kindOn}
-use Rattle.call.specs.Keep.{Sound, Fitting, Adds}
+use Rattle.call.specs.Keep.{Fitting, Adds}
 use Rattle.call.proofs.Sound.{make-adds, adds-none, adds-then, in-used, start-used}
 use Rattle.call.proofs.Keep.{well-sound}
 use Rattle.parts.specs.Parts.{Good, Part, Name, All, Ready}

@@ -2,14 +2,14 @@
 use mathlib.Core.Path.{_≡_, refl, sym, ap, _∙_}
 use mathlib.Core.Bool.{Bool, true, false, cond, _||_}
 use mathlib.Core.List.{List, [], _∷_}
-use Prim.Native.Nat.{ℕ, suc, _+_, _*_, _/_, _%_, _≤_, _<_}
+use Prim.Native.Nat.{ℕ, suc, _+_, _≤_, _<_}
 use native.Mathlib.Omega.{arith}
 use borrow.Author.Tests.{ne-eqb}
 use lib.Dec.{eqb}
-use lib.ListN.{length, getD}
+use lib.ListN.{getD}
 use Rattle.words.specs.Words.{kindOf, depthOf, countOf}
 use Rattle.words.specs.Table.{Row, entries, starts, In}
-use Rattle.wellformed.specs.Entry.{kind, depth, count, mostOf, every, namesIn, typesIn, isType, isStruct, takes, kindIn, kindAt, isFlag, isAlias, isAliasFinal, floatOk, all, deepest, depthFor, valuesOk}
+use Rattle.wellformed.specs.Entry.{kind, depth, count, mostOf, every, namesIn, typesIn, isType, isStruct, takes, kindIn, kindAt, isFlag, isAlias, isAliasFinal, floatOk, all, deepest, valuesOk}
 use Rattle.wellformed.specs.Form.{headsAt}
 use Rattle.wellformed.proofs.Sizes.{tuple-in, struct-in, fref-name, float-2, pointer-2, memory-2}
 use Rattle.call.specs.Handles.{word, kindOn, depthOn, countOn}

@@ -1,6 +1,5 @@
 -- `ty_calls::isa_in` meets its contract, by the ways that a call that reads goes.
 use mathlib.Core.Path.{sym, ap, _∙_}
-use native.Mathlib.Omega.{arith}
 use lib.Seq.{length-take-le}
 use Rattle.call.specs.Call.{flag}
 use Rattle.call.proofs.Ways.{begun, unread, read-back, answered}
@@ -9,9 +8,6 @@ use borrow.Author.Needs.{needs}
 use borrow.Author.Needs.{needs}
 use Rattle.ty_calls.proofs.isa_in.Statement.{statement}
 use Rattle.ty_calls.proofs.isa_in.Tie as tie
-use Rattle.call.proofs.begin.Reads as begin-reads
-use Rattle.meet.proofs.meet_type.Reads as meet-type-reads
-use Rattle.rows.proofs.types_rows.Reads as types-rows-reads
 
 begin-requires : tie.Need-begin-requires
 begin-requires c κs = search needs

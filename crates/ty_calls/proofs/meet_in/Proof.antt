@@ -8,10 +8,6 @@ use borrow.Author.Needs.{needs}
 use borrow.Author.Needs.{needs}
 use Rattle.ty_calls.proofs.meet_in.Statement.{statement}
 use Rattle.ty_calls.proofs.meet_in.Tie as tie
-use Rattle.call.proofs.begin.Reads as begin-reads
-use Rattle.call.proofs.finish.Reads as finish-reads
-use Rattle.meet.proofs.meet_type.Reads as meet-type-reads
-use Rattle.rows.proofs.types_rows.Reads as types-rows-reads
 
 begin-requires : tie.Need-begin-requires
 begin-requires c κs = search needs
