@@ -1,15 +1,16 @@
 -- The lent fields of a struct: words that stand four apart, and the words that are written for them. Assumes nothing.
 use mathlib.Core.Path.{_≡_, refl, sym, ap, _∙_}
 use mathlib.Core.Bool.{Bool, true}
-use mathlib.Core.List.{List, [], _∷_, _++_, append-nil, append-assoc}
+use mathlib.Core.List.{List, [], _∷_, _++_, append-nil}
 use Prim.Native.Nat.{ℕ, zero, suc, _+_, _-_, _*_, _/_, _≤_, _<_, max}
 use native.Mathlib.Omega.{arith}
-use native.Mathlib.Numerals.{add-one}
+use native.Mathlib.Nat.{sub-zero}
 use borrow.Author.Tests.{leb-true}
 use borrow.Rule.Slice.PartMut.{putMid}
 use lib.ListN.{length, take, drop, getD, set, length-drop, drop-of-length-le}
-use lib.Seq.{take-all, take-at, drop-at, drop-drop}
+use lib.Seq.{take-all}
 use Rattle.words.specs.Words.{depthOf}
+use Rattle.words.proofs.Written.{written-on, written-all}
 use Rattle.words.specs.Made.{make, Ran}
 use Rattle.words.specs.declared.Interned.{Interned}
 use Rattle.wellformed.specs.Entry.{every, all, isFlag, isAlias, deepest}
@@ -82,43 +83,40 @@ fields-length (suc n) p fs = omega (arith, fields-length n (p + 4) fs)
 abbrev third : ℕ → List ℕ → List ℕ
 third p fs = getD fs p 0 ∷ getD fs (p + 1) 0 ∷ (2 * getD fs (p + 2) 0 + getD fs (p + 3) 0) ∷ []
 
-fields-snoc : (i p : ℕ) (fs : List ℕ) → fieldWords (suc i) p fs ≡ fieldWords i p fs ++ third (p + 4 * i) fs
-unfolding fieldWords
-fields-snoc zero p fs = let q : p + 4 * 0 ≡ p = omega arith in rw q
-fields-snoc (suc i) p fs =
-    let q : p + 4 + 4 * i ≡ p + 4 * suc i = omega arith in
-    let ih = rw q at (fields-snoc i (p + 4) fs) in
-    ap (λ (l : List ℕ). getD fs p 0 ∷ getD fs (p + 1) 0 ∷ (2 * getD fs (p + 2) 0 + getD fs (p + 3) 0) ∷ l) ih
-
-pub fields-none : (d fs : List ℕ) → d ≡ fieldWords 0 0 fs ++ drop (3 * 0) d
-unfolding fieldWords
-fields-none d fs = refl
-
 -- an entry that was written into a list from position a on
 pub put-at : (w e x : List ℕ) (a : ℕ) → x ≡ e ++ drop (length e) (take (length w - a) (drop a w)) → putMid a (length w - a) w x ≡ take a w ++ (e ++ drop (length e) (drop a w))
 put-at w e x a q =
     let h : length (drop a w) ≤ length w - a = omega (arith, length-drop a w) in
     rw (q, take-all (length w - a) (drop a w) h, drop-of-length-le (drop a w) h, append-nil)
 
--- a loop that writes them
-module _ (fs d₀ d : List ℕ) (i : ℕ) (is : d ≡ fieldWords i 0 fs ++ drop (3 * i) d₀) where
-  pub fields-on : (e : List ℕ) → e ≡ third (4 * i) fs ++ drop 3 (take (length d - 3 * i) (drop (3 * i) d))
-      → putMid (3 * i) (length d - 3 * i) d e ≡ fieldWords (i + 1) 0 fs ++ drop (3 * (i + 1)) d₀
-  fields-on e q =
-      let a = 3 * i in
-      let F = fieldWords i 0 fs in
-      let E : List ℕ = third (4 * i) fs in
-      let R = drop (3 * (i + 1)) d₀ in
-      let n : length F ≡ a = fields-length i 0 fs in
-      let front : take a d ≡ F = rw is (take-at F (drop a d₀) a n) in
-      let m : a + 3 ≡ 3 * (i + 1) = omega arith in
-      let back : drop 3 (drop a d) ≡ R = rw is (ap (drop 3) (drop-at F (drop a d₀) a n) ∙ drop-drop 3 a d₀ ∙ ap (λ (k : ℕ). drop k d₀) m) in
-      let z : 0 + 4 * i ≡ 4 * i = omega arith in
-      let snoc : fieldWords (i + 1) 0 fs ≡ F ++ E = ap (λ (k : ℕ). fieldWords k 0 fs) (add-one i) ∙ fields-snoc i 0 fs ∙ ap (λ (k : ℕ). F ++ third k fs) z in
-      put-at d E e a q ∙ ap (λ (l : List ℕ). l ++ (E ++ drop 3 (drop a d))) front ∙ ap (λ (l : List ℕ). F ++ (E ++ l)) back ∙ sym (append-assoc F E R) ∙ ap (λ (l : List ℕ). l ++ R) (sym snoc)
+-- a loop that writes them: what is left when i of n fields are written
+abbrev pub fields-left : ℕ → List ℕ → ℕ → List ℕ
+fields-left n fs i = fieldWords (n - i) (4 * i) fs
 
-  pub fields-all : (n : ℕ) → i ≤ n → n ≤ i → d ≡ fieldWords n 0 fs ++ drop (3 * n) d₀
-  fields-all n low high = let q : n ≡ i = omega arith in rw q is
+pub fields-begin : (n : ℕ) (fs : List ℕ) → fields-left n fs 0 ≡ fieldWords n 0 fs
+fields-begin n fs = rw (sub-zero n)
+
+module _ (n : ℕ) (fs d₀ d : List ℕ) (i : ℕ) (sum : take (3 * i) d ++ fields-left n fs i ≡ fieldWords n 0 fs) (rest : drop (3 * i) d ≡ drop (3 * i) d₀) where
+  pub fields-on : i < n → 3 * n ≤ length d₀ → length d ≡ length d₀ → (e : List ℕ) → e ≡ third (4 * i) fs ++ drop 3 (take (length d - 3 * i) (drop (3 * i) d))
+      → (take (3 * (i + 1)) (putMid (3 * i) (length d - 3 * i) d e) ++ fields-left n fs (i + 1) ≡ fieldWords n 0 fs)
+      × (drop (3 * (i + 1)) (putMid (3 * i) (length d - 3 * i) d e) ≡ drop (3 * (i + 1)) d₀)
+  unfolding fieldWords
+  fields-on more room size e is =
+      let E : List ℕ = third (4 * i) fs in
+      let h : 3 * i ≤ length d = omega arith in
+      let m : 3 * (i + 1) ≡ 3 * i + 3 = omega arith in
+      let p : 4 * (i + 1) ≡ 4 * i + 4 = omega arith in
+      let k : n - i ≡ suc (n - (i + 1)) = omega arith in
+      let next : fields-left n fs i ≡ E ++ fields-left n fs (i + 1) = rw (k, p) in
+      written-on d₀ d _ _ (3 * i) sum rest E (putMid (3 * i) (length d - 3 * i) d e) _ (3 * (i + 1)) h m (put-at d E e (3 * i) is) next
+
+  pub fields-all : i ≤ n → n ≤ i → d ≡ fieldWords n 0 fs ++ drop (3 * n) d₀
+  unfolding fieldWords
+  fields-all low high =
+      let q : 3 * n ≡ 3 * i = omega arith in
+      let z : n - i ≡ 0 = omega arith in
+      let none : fields-left n fs i ≡ [] = rw z in
+      written-all d₀ d _ _ (3 * i) sum rest none (3 * n) q
 
 -- the head and the name before them
 struct-all : (dst list d : List ℕ) (head name n : ℕ) → n ≡ length list → 2 + n ≤ length dst → d ≡ list ++ drop n (take (length dst - 2) (drop 2 dst))

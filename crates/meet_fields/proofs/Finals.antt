@@ -17,7 +17,7 @@ use Rattle.call.specs.Handles.{word}
 use Rattle.makers.proofs.Built.{front-of}
 use Rattle.makers.proofs.Fields.{every-first}
 use Rattle.structs.specs.Remade.{remake}
-use Rattle.structs.proofs.Written.{written-on, written-all}
+use Rattle.words.proofs.Written.{written-on, written-all}
 use Rattle.meet_fields.specs.Fields.{eitherFinal, meetFields}
 
 pub every-length : (s n p : ℕ) (u : List ℕ) → length (every s n p u) ≡ n

@@ -18,7 +18,7 @@ use Rattle.makers.proofs.Built.{front-of}
 use Rattle.makers.proofs.Fields.{put-at}
 use Rattle.structs.specs.Remade.{fieldsWith, remake}
 use Rattle.structs.proofs.Columns.{with-length, with-count, with-values}
-use Rattle.structs.proofs.Written.{written-on, written-all}
+use Rattle.words.proofs.Written.{written-on, written-all}
 
 -- ---- a loop that writes them
 

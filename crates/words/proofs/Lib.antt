@@ -9,3 +9,4 @@ pub mod Extend
 pub mod Room
 pub mod Placed
 pub mod Kept
+pub mod Written

@@ -1,24 +1,25 @@
--- `makers::field_words` meets its contract. The invariant: the words of i fields stand at the front, and behind them is what was there.
+-- `makers::field_words` meets its contract. The invariant: what stands at the front and the fields that are left are the whole, and behind is
+-- what was there.
 use mathlib.Core.Path.{_≡_, refl}
 use mathlib.Core.List.{_++_}
 use denote.Ref.{now}
 use Prim.Native.Nat.{_+_, _*_, _≤_, _-_}
 use native.Mathlib.Omega.{arith}
-use lib.ListN.{length, drop}
+use lib.ListN.{length, take, drop}
 use Rattle.makers.specs.Entries.{fieldWords}
-use Rattle.makers.proofs.Fields.{alias-fits, final-fits, fields-none, fields-on, fields-all}
+use Rattle.makers.proofs.Fields.{alias-fits, final-fits, fields-left, fields-begin, fields-on, fields-all}
 use borrow.Author.Needs.{needs}
 use Rattle.makers.proofs.field_words.Statement.{statement}
 use Rattle.makers.proofs.field_words.Tie as tie
 
 abbrev Inv-loop : tie.InvT-loop
-Inv-loop dst₀ fields n i₀ dst i = (i ≤ n) × (length dst ≡ length dst₀) × (dst ≡ fieldWords i 0 fields ++ drop (3 * i) dst₀)
+Inv-loop dst₀ fields n i₀ dst i = (i ≤ n) × (length dst ≡ length dst₀) × (take (3 * i) dst ++ fields-left n fields i ≡ fieldWords n 0 fields) × (drop (3 * i) dst ≡ drop (3 * i) dst₀)
 
 abbrev μ-loop : tie.MeasureT-loop
 μ-loop dst₀ fields n i₀ dst i = n - i
 
 loop-holds : tie.Need-loop-holds Inv-loop μ-loop
-loop-holds c = (search needs, refl, fields-none _ _)
+loop-holds c = (search needs, refl, fields-begin _ _, refl)
 
 mul-at : tie.Need-mul-at Inv-loop μ-loop
 mul-at c = search needs
@@ -96,7 +97,10 @@ loop-less : tie.Need-loop-less Inv-loop μ-loop
 loop-less c = search needs
 
 loop-again : tie.Need-loop-again Inv-loop μ-loop
-loop-again c = (search needs, search needs, fields-on _ _ _ _ (c .before .before .before .before .before .before .before .before .before .before .loop .inv .2) _ (c .before .before .write .ensures))
+loop-again c =
+    let l = c .before .before .before .before .before .before .before .before .before .before .loop .inv in
+    let next = fields-on _ _ _ _ _ (l .2) (l .3) (c .before .before .before .before .before .before .before .before .before .loop-test .taken) (omega arith) (l .1) _ (c .before .before .write .ensures) in
+    (search needs, search needs, next .0, next .1)
 
 same-length : tie.Need-same-length Inv-loop μ-loop
 same-length c = search needs
