@@ -2,9 +2,8 @@
 use mathlib.Core.Path.{_≡_, refl, sym, ap, _∙_}
 use mathlib.Core.Bool.{true}
 use mathlib.Core.List.{List, [], _∷_, _++_, append-nil}
-use Prim.Native.Nat.{ℕ, suc, _+_, _-_, _*_, _≤_, _<_, max}
+use Prim.Native.Nat.{ℕ, _+_, _-_, _*_, _≤_, _<_, max}
 use native.Mathlib.Omega.{arith}
-use native.Mathlib.Nat.{sub-zero}
 use native.Mathlib.Numerals.{add-one}
 use lib.ListN.{length, take, drop, getD, set, length-append, take-append-drop}
 use lib.Seq.{take-suc-set, append-snoc, length-take-le, take-take}
@@ -15,11 +14,11 @@ use Rattle.words.specs.declared.Interned.the-variants.{At, Full}
 use Rattle.words.proofs.Extend.{Extends, ext-then, ext-take}
 use Rattle.words.proofs.Room.{Fit, fitted, fit-front, fit-length, then, stop}
 use Rattle.wellformed.specs.Entry.{every}
-use Rattle.call.specs.Handles.{word}
 use Rattle.call.specs.Keep.{Adds}
 use Rattle.call.proofs.Sound.{adds-none, adds-then}
 use Rattle.parts.specs.Parts.{Good, Part, All, Ready}
 use Rattle.parts.proofs.Good.{part-weak, good-adds, part-adds, adds-long}
+use Rattle.parts.proofs.Left.{every-zero, every-next}
 use Rattle.meet.specs.Meet.{there, Many, led, meetEach, meet, Met}
 use Rattle.meet.proofs.Grows.{meet-grows, each-grows}
 use Rattle.meet.proofs.Nice.{meet-nice, any-handle}
@@ -113,16 +112,6 @@ pub record Going (s : ℕ) (old new : List ℕ) (used a b n p₀ q₀ : ℕ) (no
   pub second : All (Part (take used (old ++ new)) b 33 1 11) (every s (n - i) (q₀ + s * i) (take used (old ++ new)))
   pub is : (k : ℕ) → a ≤ k → b ≤ k → meetEach (meet k) (take used (old ++ new)) (every s n p₀ (take used (old ++ new))) (every s n q₀ (take used (old ++ new))) ≡ joined (take i parts) (meetEach (meet k) (take v (old ++ now)) (every s (n - i) (p₀ + s * i) (take used (old ++ new))) (every s (n - i) (q₀ + s * i) (take used (old ++ new))))
 
-every-zero : (s n p : ℕ) (u : List ℕ) → every s (n - 0) (p + s * 0) u ≡ every s n p u
-every-zero s n p u = let e : p + s * 0 ≡ p = omega arith in rw (sub-zero n, e)
-
-every-next : (s n p i : ℕ) (u : List ℕ) → i < n → every s (n - i) (p + s * i) u ≡ word u (p + s * i) ∷ every s (n - (i + 1)) (p + s * (i + 1)) u
-unfolding every
-every-next s n p i u h =
-    let a : n - i ≡ suc (n - (i + 1)) = omega arith in
-    let b : p + s * i + s ≡ p + s * (i + 1) = omega arith in
-    rw (a, b)
-
 pub going-begin : (s : ℕ) (old new : List ℕ) (used a b n p₀ q₀ : ℕ) (parts : List ℕ) {low high : ℕ} → Ready old new used low high a b
     → All (Part (take used (old ++ new)) a 33 1 11) (every s n p₀ (take used (old ++ new))) → All (Part (take used (old ++ new)) b 33 1 11) (every s n q₀ (take used (old ++ new))) → Going s old new used a b n p₀ q₀ new parts used 0
 going-begin s old new used a b n p₀ q₀ parts rd pa pb =
@@ -139,7 +128,7 @@ going-begin s old new used a b n p₀ q₀ parts rd pa pb =
       is = λ k ka kb. rw (x, y);
     }
 
-abbrev others : ℕ → ℕ → ℕ → ℕ → List ℕ → List ℕ
+abbrev pub others : ℕ → ℕ → ℕ → ℕ → List ℕ → List ℕ
 others s n p i u = every s (n - (i + 1)) (p + s * (i + 1)) u
 
 module _ {s : ℕ} {old new : List ℕ} {used a b n p₀ q₀ : ℕ} {now parts : List ℕ} {v i : ℕ} (J : Going s old new used a b n p₀ q₀ now parts v i) where

@@ -50,7 +50,7 @@ pub any-handle : {u : List ℕ} {g : Grown} (h : ℕ) → Adds u g → Adds u (t
 any-handle h a = record { sound = a .sound; more = a .more; is = a .is; extra = a .extra; rows = a .rows; own = a .own }
 
 -- a struct or a forward reference is a type
-wide : {u : List ℕ} {d : ℕ} {g : Grown} → Answers u d 8 9 g → Answers u d 1 11 g
+pub wide : {u : List ℕ} {d : ℕ} {g : Grown} → Answers u d 8 9 g → Answers u d 1 11 g
 wide r = let p = r .part in record { adds = r .adds; part = record { entry = p .entry; earlier = p .earlier; least = omega (arith, p .least); most = omega (arith, p .most); shallow = p .shallow }; new = r .new }
 
 pub narrow : {u : List ℕ} {k d low high h : ℕ} (low′ high′ : ℕ) → Part u k d low high h → low′ ≤ kindOn u h → kindOn u h ≤ high′ → Part u k d low′ high′ h
@@ -76,7 +76,7 @@ float-answers u k a b d g pa pb FloatMeet-variants.Single = old-answers g (float
 float-answers u k a b d g pa pb FloatMeet-variants.Double = old-answers g (float-bot-part g d (omega (arith, deep (g .sound) pa (omega arith), pa .shallow)))
 
 -- words u that grew to w for a part h, and then to v for the parts hs
-late-on : (u w v : List ℕ) (h : ℕ) (hs : List ℕ) → length u ≤ length w → (w ≡ u) ⊎ (length u ≤ h) → Late w v hs → Late u v (h ∷ hs)
+pub late-on : (u w v : List ℕ) (h : ℕ) (hs : List ℕ) → length u ≤ length w → (w ≡ u) ⊎ (length u ≤ h) → Late w v hs → Late u v (h ∷ hs)
 late-on u w v h hs l first others =
     ⊎-elim
     (λ (q : v ≡ w). ⊎-elim (λ (p : w ≡ u). inl (q ∙ p)) (λ (k : length u ≤ h). inr (inl k)) first)

@@ -8,7 +8,7 @@ use lib.Dec.{eqb, leb}
 use Rattle.wellformed.specs.Entry.{isStruct}
 use Rattle.wellformed.proofs.Bools.{and-left, and-right}
 use Rattle.call.specs.Handles.{word, kindOn, countOn}
-use Rattle.rules.specs.Column.{_⇒_∣_}
+use Rattle.rules.proofs.Column.{rule}
 use Rattle.meet_rules.specs.Names.{sameName, sameFields}
 use Rattle.meet_rules.specs.Rules.{memRule, pairRule, ruleFor, typeRule, namedRule, structRule}
 use Rattle.meet_rules.specs.declared.Rule.{Rule}
@@ -16,12 +16,8 @@ use Rattle.meet_rules.specs.declared.Rule.the-variants.{First, Second, B
 use Rattle.meet_rules.specs.declared.StructRule.{StructRule}
 use Rattle.meet_rules.specs.declared.StructRule.the-variants.{Former, Latter, Lowest, Fields}
 
--- what holds of a column's answer: of the first answer where its test holds, and of the rest where it does not
+-- what holds of a choice: of its first answer where the test holds, and of the other anyway
 module _ {A : Type 0} (P : A → Type 0) where
-  rule : (t : Bool) {x rest : A} → (t ≡ true → P x) → (t ≡ false → P rest) → P (t ⇒ x ∣ rest)
-  rule true f g = f refl
-  rule false f g = g refl
-
   chosen : (t : Bool) {x y : A} → (t ≡ true → P x) → P y → P (cond t x y)
   chosen true f g = f refl
   chosen false f g = g

@@ -25,7 +25,7 @@ use Rattle.call.specs.Handles.{word, kindOn}
 use Rattle.call.specs.Keep.{Fitting, Adds}
 use Rattle.call.proofs.Sound.{make-adds, adds-none, adds-then, in-used, start-used}
 use Rattle.call.proofs.Keep.{well-sound}
-use Rattle.parts.specs.Parts.{Good, Part, Name, All, Ready}
+use Rattle.parts.specs.Parts.{Good, Part, Name, All, Ready, ReadyOne}
 use Rattle.parts.proofs.Spot.{at-more, row-starts, entry-head}
 use Rattle.parts.proofs.Parts.{types-earlier, flat}
 
@@ -71,6 +71,34 @@ module _ {u : List ℕ} (g : Good u) (d : ℕ) (some : 1 < d) where
   pub bot-part : Part u 94 d 1 11 5
   unfolding rows isAt sizeOf wordsAfter freshWords
   bot-part = fresh-part g 5 d 1 11 257 refl (omega arith) (omega arith) refl (omega arith) (omega arith) (omega arith)
+
+  pub top-part : Part u 94 d 1 11 6
+  unfolding rows isAt sizeOf wordsAfter freshWords
+  top-part = fresh-part g 6 d 1 11 258 refl (omega arith) (omega arith) refl (omega arith) (omega arith) (omega arith)
+
+  pub ctrl-part : Part u 94 d 1 11 7
+  unfolding rows isAt sizeOf wordsAfter freshWords
+  ctrl-part = fresh-part g 7 d 1 11 259 refl (omega arith) (omega arith) refl (omega arith) (omega arith) (omega arith)
+
+  pub xctrl-part : Part u 94 d 1 11 8
+  unfolding rows isAt sizeOf wordsAfter freshWords
+  xctrl-part = fresh-part g 8 d 1 11 260 refl (omega arith) (omega arith) refl (omega arith) (omega arith) (omega arith)
+
+  pub struct-top-part : Part u 94 d 8 9 18
+  unfolding rows isAt sizeOf wordsAfter freshWords
+  struct-top-part = fresh-part g 18 d 8 9 264 refl (omega arith) (omega arith) refl (omega arith) (omega arith) (omega arith)
+
+  pub int-top-part : Part u 94 d 1 11 22
+  unfolding rows isAt sizeOf wordsAfter freshWords
+  int-top-part = fresh-part g 22 d 1 11 261 refl (omega arith) (omega arith) refl (omega arith) (omega arith) (omega arith)
+
+  pub int-bot-part : Part u 94 d 1 11 25
+  unfolding rows isAt sizeOf wordsAfter freshWords
+  int-bot-part = fresh-part g 25 d 1 11 261 refl (omega arith) (omega arith) refl (omega arith) (omega arith) (omega arith)
+
+  pub float-top-part : Part u 94 d 1 11 49
+  unfolding rows isAt sizeOf wordsAfter freshWords
+  float-top-part = fresh-part g 49 d 1 11 262 refl (omega arith) (omega arith) refl (omega arith) (omega arith) (omega arith)
 
   pub struct-bot-part : Part u 94 d 8 9 20
   unfolding rows isAt sizeOf wordsAfter freshWords
@@ -207,3 +235,6 @@ make-answers {u} {w} {h} d low high from g e f late a b c =
 
 pub ready-segments : {old new : List ℕ} {used low high a b : ℕ} → Ready old new used low high a b → Segments old new used
 ready-segments r = record { low = omega (arith, r .near); over = r .over; high = r .within; cut = r .cut; full = r .good .sound .full }
+
+pub one-segments : {old new : List ℕ} {used a : ℕ} → ReadyOne old new used a → Segments old new used
+one-segments r = record { low = omega (arith, r .near); over = r .over; high = r .within; cut = r .cut; full = r .good .sound .full }

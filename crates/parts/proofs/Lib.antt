@@ -2,3 +2,4 @@ pub mod Spot
 pub mod Checked
 pub mod Parts
 pub mod Good
+pub mod Left

@@ -45,3 +45,13 @@ pub record Ready (old new : List ℕ) (used low high a b : ℕ) : Type 0 where
   pub good : Good (take used (old ++ new))
   pub first : Part (take used (old ++ new)) used 33 low high a
   pub second : Part (take used (old ++ new)) used 33 low high b
+
+-- the same with one type
+pub record ReadyOne (old new : List ℕ) (used a : ℕ) : Type 0 where
+  pub over : length old ≤ used
+  pub within : used ≤ length old + length new
+  pub small : length old + length new ≤ 1048576
+  pub cut : fills 0 (drop 1 old) ≡ true
+  pub near : a < used
+  pub good : Good (take used (old ++ new))
+  pub first : Part (take used (old ++ new)) used 33 1 11 a

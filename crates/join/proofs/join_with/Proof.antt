@@ -1,0 +1,44 @@
+-- `join::join_with` meets its contract.
+use Rattle.join.proofs.Steps.{with-full, with-ready, with-made}
+use borrow.Author.Needs.{needs}
+use Rattle.join.proofs.join_with.Statement.{statement}
+use Rattle.join.proofs.join_with.Tie as tie
+use Rattle.join.proofs.dual_of_meet.Reads as dual-of-meet-reads
+use Rattle.walk.proofs.walk_type.Reads as walk-type-reads
+
+walk-type-requires : tie.Need-walk-type-requires
+walk-type-requires c κs = search needs
+
+enum-known-m : tie.Need-enum-known-m
+enum-known-m c = search needs
+
+dual-of-meet-requires : tie.Need-dual-of-meet-requires
+dual-of-meet-requires c κs = with-ready _ _ _ _ _ (c .before .before .before .before .before .before .before .before .before .before .pre) _ _ (c .before .before .before .before .before .before .walk-type .ensures) _ _ (c .before .before .m .given .1)
+
+enum-told : tie.Need-enum-told
+enum-told c = search needs
+
+same-length : tie.Need-same-length
+same-length c = search needs
+
+returns : tie.Need-returns
+returns c = with-made _ _ _ _ _ (c .before .before .before .before .before .before .before .before .before .before .before .before .before .pre) _ _ (c .before .before .before .before .before .before .before .before .before .walk-type .ensures) _ _ (c .before .before .before .before .before .m .given .1) _ _ (c .before .before .dual-of-meet .ensures)
+
+same-length-2 : tie.Need-same-length-2
+same-length-2 c = search needs
+
+returns-2 : tie.Need-returns-2
+returns-2 c = with-full _ _ _ _ _ (c .before .before .before .before .before .before .before .before .pre) _ _ (c .before .before .before .before .walk-type .ensures) (c .enum-told .given .1)
+
+pub join-with-spec : {M : Type 1} → statement M
+join-with-spec =
+    tie.close
+    (tie.spec
+    walk-type-requires
+    enum-known-m
+    dual-of-meet-requires
+    enum-told
+    same-length
+    returns
+    same-length-2
+    returns-2)

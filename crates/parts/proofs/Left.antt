@@ -1,0 +1,18 @@
+-- Words that stand s apart, of which a loop has gone through i: those that are left. Assumes nothing.
+use mathlib.Core.Path.{_≡_}
+use mathlib.Core.List.{List, _∷_}
+use Prim.Native.Nat.{ℕ, suc, _+_, _-_, _*_, _<_}
+use native.Mathlib.Omega.{arith}
+use native.Mathlib.Nat.{sub-zero}
+use Rattle.wellformed.specs.Entry.{every}
+use Rattle.call.specs.Handles.{word}
+
+pub every-zero : (s n p : ℕ) (u : List ℕ) → every s (n - 0) (p + s * 0) u ≡ every s n p u
+every-zero s n p u = let e : p + s * 0 ≡ p = omega arith in rw (sub-zero n, e)
+
+pub every-next : (s n p i : ℕ) (u : List ℕ) → i < n → every s (n - i) (p + s * i) u ≡ word u (p + s * i) ∷ every s (n - (i + 1)) (p + s * (i + 1)) u
+unfolding every
+every-next s n p i u h =
+    let a : n - i ≡ suc (n - (i + 1)) = omega arith in
+    let b : p + s * i + s ≡ p + s * (i + 1) = omega arith in
+    rw (a, b)

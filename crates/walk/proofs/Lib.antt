@@ -1,0 +1,5 @@
+pub mod Examples
+pub mod Grows
+pub mod Nice
+pub mod Loop
+pub mod Ways

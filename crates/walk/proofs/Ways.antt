@@ -1,0 +1,230 @@
+-- Each way through the walk gives what the definition gives. Assumes nothing.
+use mathlib.Core.Path.{_≡_, refl, sym, ap, _∙_}
+use mathlib.Core.Bool.{true}
+use mathlib.Core.List.{List, _++_}
+use Prim.Native.Nat.{ℕ, zero, suc, _+_, _*_, _/_, _≤_, _<_}
+use native.Mathlib.Omega.{arith}
+use borrow.Author.Tests.{leb-true}
+use lib.ListN.{length, take, getD, set}
+use Rattle.words.specs.Words.{kindOf, countOf}
+use Rattle.words.specs.Made.{Grown, make, Segments, Ran, Runs}
+use Rattle.words.specs.declared.Interned.{Interned}
+use Rattle.words.specs.declared.Interned.the-variants.{At, Full}
+use Rattle.words.proofs.Extend.{Extends}
+use Rattle.words.proofs.Room.{fit}
+use Rattle.wellformed.specs.Entry.{every, all, isAliasFinal}
+use Rattle.call.specs.Keep.{Adds}
+use Rattle.call.specs.Handles.{word, kindOn, depthOn, countOn}
+use Rattle.makers.specs.Entries.{tupleEntry, pointerEntry, memoryEntry}
+use Rattle.makers.proofs.FloatSize.{size-word}
+use Rattle.type_float.specs.Float.{isSizeWord}
+use Rattle.parts.specs.Parts.{Good, Part, All, ReadyOne}
+use Rattle.parts.proofs.Parts.{few, flat, of-tuple, of-struct, of-pointer, of-memory, of-float, all-map}
+use Rattle.parts.proofs.Good.{part-weak, part-adds, adds-word, part-used}
+use Rattle.meet.specs.Meet.{there, tupleOf, pointerOf, memoryOf}
+use Rattle.meet.proofs.Grows.{tuple-grows, pointer-grows, memory-grows}
+use Rattle.meet.proofs.Nice.{wide, narrow}
+use Rattle.meet.proofs.Loop.{Grew, grew-none, grew-ran, grew-words, grew-more, grew-stop, grew-segments}
+use Rattle.walk_rules.specs.Tables.{formFor, intOf, floatOf, nilOf, fieldsOf}
+use Rattle.walk_rules.specs.declared.Walk.{Walk}
+use Rattle.walk_rules.specs.declared.Form.{Form}
+use Rattle.walk_rules.specs.declared.Form.the-variants.{Is, Ints, Floats, Tuples, Fields, Pointers, Memories}
+use Rattle.walk_rules.proofs.Sure.{form-floats, form-tuples, form-fields, form-pointers, form-memories}
+use Rattle.walk.specs.Walked.{elements, types, structOf, followForm, walkWithin, Walked}
+use Rattle.walk.proofs.Grows.{walk-grows, struct-grows}
+use Rattle.walk.proofs.Nice.{walk-nice}
+use Rattle.walk.proofs.Loop.{Going₁, going-begin, going-first, going-ready, going-stop, going-turn, going-end}
+
+module _ (walk : Walk) (old new : List ℕ) (used a : ℕ) (rd : ReadyOne old new used a) (r : Form) (er : r ≡ formFor walk a (kindOn (take used (old ++ new)) a)) where
+  abbrev u : List ℕ
+  u = take used (old ++ new)
+
+  grew : Grew old new used new used
+  grew = grew-none (rd .good) (rd .within)
+
+  by-form : (X : Form) → r ≡ X → (new′ : List ℕ) (m : Interned) → ((k : ℕ) → a ≤ k → Ran used (followForm walk (walkWithin walk k) u a X) (old ++ new) (old ++ new′) m) → Walked walk old new used a new′ m
+  unfolding walkWithin
+  by-form X e new′ m f = record { is = go }
+    where
+      go : (n : ℕ) → a < n → Ran used (walkWithin walk n (take used (old ++ new)) a) (old ++ new) (old ++ new′) m
+      go zero h = absurd (omega arith)
+      go (suc n) h = rw (sym er ∙ e) (f n (omega arith))
+
+  pub walked-is : (h : ℕ) → r ≡ Is h → Walked walk old new used a new (At h used)
+  unfolding followForm
+  walked-is h e =
+      let f = grew .fits in
+      by-form (Is h) e new (At h used) (λ k ka. fit used (there u h) (old ++ new) (old ++ new) h used (record { handle = refl; end = f .end; room = f .room; words = f .words }))
+
+  pub walked-ints : r ≡ Ints → (new′ : List ℕ) (m : Interned) → Runs (intOf walk a) old new used new′ m → Walked walk old new used a new′ m
+  unfolding followForm
+  walked-ints e new′ m t = by-form Ints e new′ m (λ k ka. t)
+
+  pub float-size : r ≡ Floats → isSizeWord (word u (a + 1)) ≡ true
+  float-size e = size-word (word u (a + 1)) (word u (a + 2)) (of-float (rd .good .sound) (rd .first) (form-floats walk a (kindOn u a) (sym er ∙ e)))
+
+  pub walked-floats : r ≡ Floats → (new′ : List ℕ) (m : Interned) → Runs (floatOf walk a) old new used new′ m → Walked walk old new used a new′ m
+  unfolding followForm
+  walked-floats e new′ m t = by-form Floats e new′ m (λ k ka. t)
+
+  -- an entry around one part x, which F makes of the part's walk
+  module _ (X : Form) (e : r ≡ X) (x : ℕ) (px : Part u a 33 1 11 x) (F : Grown → Grown) (is : (k : ℕ) → followForm walk (walkWithin walk k) u a X ≡ F (walkWithin walk k u x)) (F-grows : (g : Grown) → Extends (g .words) (F g .words)) where
+    around-next : (x < a) × ReadyOne old new used x
+    around-next = (
+      px .earlier,
+      record {
+        over = rd .over;
+        within = rd .within;
+        small = rd .small;
+        cut = rd .cut;
+        near = omega (arith, px .earlier, rd .near);
+        good = rd .good;
+        first = part-weak used 33 (omega (arith, rd .near)) (omega arith) px;
+      },
+    )
+
+    module _ (now : List ℕ) (m : Interned) (t : Walked walk old new used x now m) where
+      abbrev part : ℕ → Grown
+      part k = walkWithin walk k u x
+
+      told : (k : ℕ) → a ≤ k → Ran used (part k) (old ++ new) (old ++ now) m
+      told k ka = t .is k (omega (arith, px .earlier))
+
+      around-full : m ≡ Full → Walked walk old new used a now Full
+      around-full f = by-form X e now Full (λ k ka. rw (is k) (grew-stop grew (part k) now m (walk-grows walk k u x) (told k ka) f (F (part k)) (F-grows (part k))))
+
+      module _ (h v : ℕ) (f : m ≡ At h v) where
+        on : Grew old new used now v
+        on = grew-more grew (part a) now m (walk-grows walk a u x) (told a (omega arith)) h v f (walk-nice walk a .types u x 33 (rd .good) px .adds)
+
+        around-segments : Segments old now v
+        around-segments = grew-segments on (omega (arith, rd .near)) (rd .over) (rd .cut)
+
+        around-made : (now₂ : List ℕ) (o : Interned) → Ran v (F (there (take v (old ++ now)) h)) (old ++ now) (old ++ now₂) o → Walked walk old new used a now₂ o
+        around-made now₂ o l = by-form X e now₂ o (λ k ka.
+            let s = grew-words grew (part k) now m (walk-grows walk k u x) (told k ka) h v f in
+            let d : Ran v (F (part k)) (old ++ now) (old ++ now₂) o = rw (s .1, s .0) at l in
+            rw (is k) (grew-ran on (F (part k)) now₂ o (rw (s .1) (F-grows (part k))) d))
+
+  -- pointers
+  module _ (e : r ≡ Pointers) where
+    pub pointer-flag : (q : ℕ) → q ≡ getD (take used (old ++ new)) (a + 2) 0 → q ≤ 1
+    pointer-flag q eq = rw eq (leb-true (word u (a + 2)) 1 (of-pointer (rd .good .sound) (rd .first) (form-pointers walk a (kindOn u a) (sym er ∙ e)) .flag))
+
+    module _ (x : ℕ) (ex : x ≡ getD (take used (old ++ new)) (a + 1) 0) where
+      to-struct : Part u a 33 1 11 x
+      to-struct =
+          let t = of-pointer (rd .good .sound) (rd .first) (form-pointers walk a (kindOn u a) (sym er ∙ e)) in
+          let s = t .to in
+          rw ex (narrow 1 11 (part-weak a 33 (omega arith) (omega (arith, flat (rd .good .sound) (rd .first))) s) (omega (arith, s .least)) (omega (arith, s .most)))
+
+      abbrev pointing : Grown → Grown
+      pointing = pointerOf (nilOf walk (word u (a + 2)))
+
+      is-pointer : (k : ℕ) → followForm walk (walkWithin walk k) u a Pointers ≡ pointing (walkWithin walk k u x)
+      unfolding followForm
+      is-pointer k = rw ex
+
+      pub pointer-next : (x < a) × ReadyOne old new used x
+      pointer-next = around-next Pointers e x to-struct pointing is-pointer (pointer-grows (nilOf walk (word u (a + 2))))
+
+      module _ (now : List ℕ) (m : Interned) (t : Walked walk old new used x now m) where
+        pub pointer-full : m ≡ Full → Walked walk old new used a now Full
+        pointer-full = around-full Pointers e x to-struct pointing is-pointer (pointer-grows (nilOf walk (word u (a + 2)))) now m t
+
+        module _ (h v : ℕ) (f : m ≡ At h v) where
+          pub pointer-segments : Segments old now v
+          pointer-segments = around-segments Pointers e x to-struct pointing is-pointer (pointer-grows (nilOf walk (word u (a + 2)))) now m t h v f
+
+          pub walked-pointers : (q nil : ℕ) → q ≡ getD (take used (old ++ new)) (a + 2) 0 → nil ≡ nilOf walk q → (now₂ : List ℕ) (o : Interned) → Runs (λ z. make z (pointerEntry h nil z)) old now v now₂ o → Walked walk old new used a now₂ o
+          walked-pointers q nil eq en now₂ o l =
+              let n : nil ≡ nilOf walk (word u (a + 2)) = en ∙ rw eq in
+              around-made Pointers e x to-struct pointing is-pointer (pointer-grows (nilOf walk (word u (a + 2)))) now m t h v f now₂ o (rw n at l)
+
+  -- memories
+  module _ (e : r ≡ Memories) (x : ℕ) (ex : x ≡ getD (take used (old ++ new)) (a + 2) 0) where
+    to-type : Part u a 33 1 11 x
+    to-type =
+        let t = of-memory (rd .good .sound) (rd .first) (form-memories walk a (kindOn u a) (sym er ∙ e) (rd .first .most)) in
+        rw ex (part-weak a 33 (omega arith) (omega (arith, flat (rd .good .sound) (rd .first))) (t .to))
+
+    abbrev keeping : Grown → Grown
+    keeping = memoryOf (word u (a + 1))
+
+    is-memory : (k : ℕ) → followForm walk (walkWithin walk k) u a Memories ≡ keeping (walkWithin walk k u x)
+    unfolding followForm
+    is-memory k = rw ex
+
+    pub memory-next : (x < a) × ReadyOne old new used x
+    memory-next = around-next Memories e x to-type keeping is-memory (memory-grows (word u (a + 1)))
+
+    module _ (now : List ℕ) (m : Interned) (t : Walked walk old new used x now m) where
+      pub memory-full : m ≡ Full → Walked walk old new used a now Full
+      memory-full = around-full Memories e x to-type keeping is-memory (memory-grows (word u (a + 1))) now m t
+
+      module _ (h v : ℕ) (f : m ≡ At h v) where
+        pub memory-segments : Segments old now v
+        memory-segments = around-segments Memories e x to-type keeping is-memory (memory-grows (word u (a + 1))) now m t h v f
+
+        pub walked-memories : (alias : ℕ) → alias ≡ getD (take used (old ++ new)) (a + 1) 0 → (now₂ : List ℕ) (o : Interned) → Runs (λ z. make z (memoryEntry alias h z)) old now v now₂ o → Walked walk old new used a now₂ o
+        walked-memories alias eq now₂ o l = around-made Memories e x to-type keeping is-memory (memory-grows (word u (a + 1))) now m t h v f now₂ o (rw eq at l)
+
+  -- parts below 33
+  shallower : (hs : List ℕ) → All (Part u a (depthOn u a) 1 11) hs → All (Part u a 33 1 11) hs
+  shallower hs = all-map (λ z q. part-weak a 33 (omega arith) (omega (arith, flat (rd .good .sound) (rd .first))) q) hs
+
+  module _ (x : ℕ) (ex : x ≡ getD (take used (old ++ new)) a 0) where
+    pub walk-few : x / 65536 ≤ 255
+    walk-few = rw ex (few (rd .good .sound) (rd .first))
+
+    -- tuples
+    module _ (e : r ≡ Tuples) where
+      pub tuple-begin : (parts : List ℕ) → Going₁ walk 1 old new used a (x / 65536) (a + 1) new parts used 0
+      tuple-begin parts =
+          going-begin walk 1 old new used a (x / 65536) (a + 1) parts rd
+          (rw ex (shallower (every 1 (countOn u a) (a + 1) u) (of-tuple (rd .good .sound) (rd .first) (form-tuples walk a (kindOn u a) (sym er ∙ e)) .types)))
+
+      module _ (now parts : List ℕ) (v i : ℕ) (J : Going₁ walk 1 old new used a (x / 65536) (a + 1) now parts v i) where
+        pub tuple-stop : (more : i < x / 65536) (p : ℕ) → p ≡ getD (take used (old ++ now)) (a + 1 + i) 0 → (now₂ : List ℕ) (m : Interned) → Walked walk old now v p now₂ m → m ≡ Full → Walked walk old new used a now₂ Full
+        unfolding followForm
+        tuple-stop more p ep now₂ m t f = by-form Tuples e now₂ Full (λ k ka. rw (← ex) (going-stop J more (a + 1 + i) p (omega arith) ep t f tupleOf tuple-grows k ka))
+
+        pub tuple-end : x / 65536 ≤ i → i ≤ x / 65536 → (now₂ : List ℕ) (m : Interned) → Runs (λ z. make z (tupleEntry (take (x / 65536) parts) z)) old now v now₂ m → Walked walk old new used a now₂ m
+        unfolding followForm
+        tuple-end lo hi now₂ m t = by-form Tuples e now₂ m (λ k ka. rw (← ex) (going-end J lo hi tupleOf tuple-grows now₂ m t k ka))
+
+    -- structs
+    module _ (e : r ≡ Fields) where
+      is-struct : kindOn u a ≡ 8
+      is-struct = form-fields walk a (kindOn u a) (sym er ∙ e)
+
+      pub struct-begin : (parts : List ℕ) → Going₁ walk 3 old new used a (x / 65536) (a + 3) new parts used 0
+      struct-begin parts =
+          going-begin walk 3 old new used a (x / 65536) (a + 3) parts rd
+          (rw ex (shallower (every 3 (countOn u a) (a + 3) u) (of-struct (rd .good .sound) (rd .first) is-struct .types)))
+
+      module _ (now parts : List ℕ) (v i : ℕ) (J : Going₁ walk 3 old new used a (x / 65536) (a + 3) now parts v i) where
+        pub struct-stop : (more : i < x / 65536) (p : ℕ) → p ≡ getD (take used (old ++ now)) (a + 3 + 3 * i) 0 → (now₂ : List ℕ) (m : Interned) → Walked walk old now v p now₂ m → m ≡ Full → Walked walk old new used a now₂ Full
+        unfolding followForm
+        struct-stop more p ep now₂ m t f = by-form Fields e now₂ Full (λ k ka. rw (← ex) (going-stop J more (a + 3 + 3 * i) p refl ep t f (structOf walk a) (struct-grows walk a) k ka))
+
+        pub struct-end : x / 65536 ≤ i → i ≤ x / 65536 → (now₂ : List ℕ) (m : Interned) → Runs (fieldsOf walk a (take (x / 65536) parts)) old now v now₂ m → Walked walk old new used a now₂ m
+        unfolding followForm
+        struct-end lo hi now₂ m t = by-form Fields e now₂ m (λ k ka. rw (← ex) (going-end J lo hi (structOf walk a) (struct-grows walk a) now₂ m t k ka))
+
+        -- the aliases of a are still there
+        pub struct-values : all isAliasFinal (every 3 (x / 65536) (a + 4) (take v (old ++ now))) ≡ true
+        struct-values =
+            let g = J .grew in
+            let head : word (take v (old ++ now)) a ≡ word u a = adds-word (g .start) (g .adds) a (part-used (g .start) (rd .first)) in
+            let s = of-struct (g .adds .sound) (part-adds (g .start) (g .adds) (rd .first)) (ap kindOf head ∙ is-struct) in
+            let n : x / 65536 ≡ countOn (take v (old ++ now)) a = ap countOf (ex ∙ sym head) in
+            rw n (s .values)
+
+-- the next part, p₀ words behind a and s apart
+module _ (walk : Walk) (s off : ℕ) (old new : List ℕ) (used a n : ℕ) (now parts : List ℕ) (v i : ℕ) (J : Going₁ walk s old new used a n (a + off) now parts v i) (more : i < n) (at p : ℕ) (ea : at ≡ a + off + s * i) (ep : p ≡ getD (take used (old ++ now)) at 0) where
+  pub part-next : (p < a) × ReadyOne old now v p
+  part-next = (going-first J more at p ea ep, going-ready J more at p ea ep)
+
+  pub part-turn : {now₂ : List ℕ} {m : Interned} → Walked walk old now v p now₂ m → (h v′ : ℕ) → m ≡ At h v′ → i < length parts → Going₁ walk s old new used a n (a + off) now₂ (set parts i h) v′ (i + 1)
+  part-turn t = going-turn J more at p ea ep t

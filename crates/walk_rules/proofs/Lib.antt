@@ -1,0 +1,4 @@
+pub mod Chosen
+pub mod Answers
+pub mod Finals
+pub mod Sure
