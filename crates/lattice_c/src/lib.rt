@@ -9,7 +9,7 @@ ghost use Prim.Native.Nat.{_+_};
 ghost use Rattle.call.specs.Call.{made, told, said, done};
 ghost use Rattle.wellformed.specs.Form.{wellFormed};
 ghost use Rattle.lattice_c.specs.Code.{code, Coded};
-ghost use Rattle.ty_calls.specs.Ty.{meetCall, isaCall};
+ghost use Rattle.ty_calls.specs.Ty.{meetCall, isaCall, dualCall, joinCall, glbCall, lubCall, isFinalCall};
 ghost use Rattle.makers.specs.Makers.{freshCall, kindCall, getBoolCall, getIntCall, makeIntCall, getFloatCall, makeFloatCall, getTupleCall, getStrCall, getStructCall, makeAryCall, makeStructFrefCall, getMemPtrCall, getMemCall};
 
 fn refusal(n: u8) -> u64
@@ -183,4 +183,39 @@ pub extern "C" fn ferigulan_isa(words: &[u64], a: u64, b: u64) -> u64
     ensures { λ r. ⌜ Coded (isaCall a b (now (words .entry))) r (now (words .entry)) ⌝ }
 {
     of_flag(ty::isa(words, a, b))
+}
+
+#[no_mangle]
+pub extern "C" fn ferigulan_dual(words: &mut [u64], a: u64) -> u64
+    ensures { λ r. ⌜ Coded (dualCall a (now (words .entry))) r (now (words .exit)) ⌝ }
+{
+    of_made(ty::dual(words, a))
+}
+
+#[no_mangle]
+pub extern "C" fn ferigulan_join(words: &mut [u64], a: u64, b: u64) -> u64
+    ensures { λ r. ⌜ Coded (joinCall a b (now (words .entry))) r (now (words .exit)) ⌝ }
+{
+    of_made(ty::join(words, a, b))
+}
+
+#[no_mangle]
+pub extern "C" fn ferigulan_glb(words: &mut [u64], a: u64) -> u64
+    ensures { λ r. ⌜ Coded (glbCall a (now (words .entry))) r (now (words .exit)) ⌝ }
+{
+    of_made(ty::glb(words, a))
+}
+
+#[no_mangle]
+pub extern "C" fn ferigulan_lub(words: &mut [u64], a: u64) -> u64
+    ensures { λ r. ⌜ Coded (lubCall a (now (words .entry))) r (now (words .exit)) ⌝ }
+{
+    of_made(ty::lub(words, a))
+}
+
+#[no_mangle]
+pub extern "C" fn ferigulan_is_final(words: &[u64], a: u64) -> u64
+    ensures { λ r. ⌜ Coded (isFinalCall a (now (words .entry))) r (now (words .entry)) ⌝ }
+{
+    of_flag(ty::is_final(words, a))
 }

@@ -1,12 +1,13 @@
 // The calls on types, on any words whatever. Each takes the bits that row 1 marks the entries in; `ty` lends them.
 use call::Flag;
 use call::Made;
+use walk_rules::Walk;
 use words::Interned;
 ghost use mathlib.Core.Path.{_≡_};
 ghost use Prim.Native.Nat.{_*_, _≤_, min};
 ghost use lib.ListN.{length};
 ghost use Rattle.call.specs.Call.{left, made, said};
-ghost use Rattle.ty_calls.specs.Ty.{meetCall, isaCall};
+ghost use Rattle.ty_calls.specs.Ty.{meetCall, isaCall, walkCall, joinCall, isFinalCall};
 
 pub fn meet_in(words: &mut [u64], bits: &mut [u64], a: u64, b: u64) -> Made
     requires { ⌜ min (length (now words)) 1048576 ≤ 64 * length (now bits) ⌝ }
@@ -44,4 +45,54 @@ pub fn isa_in(words: &[u64], bits: &mut [u64], a: u64, b: u64) -> Flag
         Interned::At(h, _) => Flag::Is(h as u64 == b),
         Interned::Full => Flag::Is(false),
     }
+}
+
+// dual, glb and lub.
+pub fn walk_in(words: &mut [u64], bits: &mut [u64], op: Walk, a: u64) -> Made
+    requires { ⌜ min (length (now words)) 1048576 ≤ 64 * length (now bits) ⌝ }
+    ensures { λ r. ⌜ left (made r) (now (words .exit)) ≡ walkCall op a (now (words .entry)) ⌝ }
+{
+    let used = call::begin(words, bits);
+    if used == 0 {
+        return Made::Refused(1);
+    }
+    let no = rows::types_rows(words, used, bits, &[a]);
+    if no != 0 {
+        return Made::Refused(no);
+    }
+    let none = [0u64; 0];
+    let r = walk::walk_type(op, &none, words, used, a as usize);
+    call::finish(words, used, r)
+}
+
+pub fn join_in(words: &mut [u64], bits: &mut [u64], a: u64, b: u64) -> Made
+    requires { ⌜ min (length (now words)) 1048576 ≤ 64 * length (now bits) ⌝ }
+    ensures { λ r. ⌜ left (made r) (now (words .exit)) ≡ joinCall a b (now (words .entry)) ⌝ }
+{
+    let used = call::begin(words, bits);
+    if used == 0 {
+        return Made::Refused(1);
+    }
+    let no = rows::types_rows(words, used, bits, &[a, b]);
+    if no != 0 {
+        return Made::Refused(no);
+    }
+    let none = [0u64; 0];
+    let r = join::join(&none, words, used, a as usize, b as usize);
+    call::finish(words, used, r)
+}
+
+pub fn is_final_in(words: &[u64], bits: &mut [u64], a: u64) -> Flag
+    requires { ⌜ min (length (now words)) 1048576 ≤ 64 * length (now bits) ⌝ }
+    ensures { λ r. ⌜ left (said r) (now (words .entry)) ≡ isFinalCall a (now (words .entry)) ⌝ }
+{
+    let used = call::begin(words, bits);
+    if used == 0 {
+        return Flag::Refused(1);
+    }
+    let no = rows::types_rows(words, used, bits, &[a]);
+    if no != 0 {
+        return Flag::Refused(no);
+    }
+    Flag::Is(finals::is_final(words, used, a as usize))
 }

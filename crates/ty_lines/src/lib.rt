@@ -16,5 +16,20 @@ pub fn reply(name: &[u8], a: &[u64], words: &mut [u64]) -> Reply {
     if is(name, n, b"isa", 2) {
         return said(ty::isa(words, x, y));
     }
+    if is(name, n, b"dual", 1) {
+        return made(ty::dual(words, x));
+    }
+    if is(name, n, b"join", 2) {
+        return made(ty::join(words, x, y));
+    }
+    if is(name, n, b"glb", 1) {
+        return made(ty::glb(words, x));
+    }
+    if is(name, n, b"lub", 1) {
+        return made(ty::lub(words, x));
+    }
+    if is(name, n, b"is_final", 1) {
+        return said(ty::is_final(words, x));
+    }
     maker_lines::reply(name, a, words)
 }
