@@ -1,5 +1,4 @@
 -- join adds good entries to good used words, and its answer is a type at most as deep as a type may be. Assumes nothing.
-use mathlib.Core.Path.{_≡_, refl}
 use mathlib.Core.Bool.{Bool, true, false, cond}
 use mathlib.Core.List.{List}
 use Prim.Native.Nat.{ℕ, suc, max}

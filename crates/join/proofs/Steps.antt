@@ -1,27 +1,26 @@
 -- One operation after another, where the second takes the first's answer; and the steps of join. Assumes nothing.
-use mathlib.Core.Path.{_≡_, refl, sym, ap, _∙_}
-use mathlib.Core.Bool.{Bool, true, false, cond}
+use mathlib.Core.Path.{_≡_, refl, ap}
+use mathlib.Core.Bool.{true}
 use mathlib.Core.List.{List, _++_}
-use Prim.Native.Nat.{ℕ, suc, _+_, _≤_, _<_, max}
+use Prim.Native.Nat.{ℕ, suc, _+_, _≤_, max}
 use native.Mathlib.Omega.{arith}
 use borrow.Author.Tests.{eq-eqb, ne-eqb}
-use lib.Dec.{eqb}
 use lib.ListN.{length, take, drop, length-append}
 use lib.Seq.{length-take-le}
 use Rattle.words.specs.Words.{fills}
 use Rattle.words.specs.Made.{Grown, Ran, Runs}
 use Rattle.words.specs.declared.Interned.{Interned}
 use Rattle.words.specs.declared.Interned.the-variants.{At, Full}
-use Rattle.words.proofs.Extend.{Extends, ext-same, ext-then}
+use Rattle.words.proofs.Extend.{Extends, ext-then}
 use Rattle.words.proofs.Room.{fit}
 use Rattle.parts.specs.Parts.{Good, Part, Ready, ReadyOne}
 use Rattle.parts.proofs.Good.{part-weak, part-below, good-adds, part-adds, Answers}
-use Rattle.meet.specs.Meet.{there, meet, meetOf, Met}
+use Rattle.meet.specs.Meet.{there, meetOf, Met}
 use Rattle.meet.proofs.Grows.{meet-grows}
 use Rattle.meet.proofs.Nice.{meet-nice}
 use Rattle.meet.proofs.Loop.{Grew, grew-none, grew-long, grew-up, grew-high, grew-ran, grew-words, grew-more, grew-stop}
 use Rattle.walk_rules.specs.declared.Walk.the-variants.{Dual}
-use Rattle.walk.specs.Walked.{walkWithin, dualOf, Walked}
+use Rattle.walk.specs.Walked.{dualOf, Walked}
 use Rattle.walk.proofs.Grows.{walk-grows}
 use Rattle.walk.proofs.Nice.{walk-nice}
 use Rattle.join.specs.Join.{dualOfMeet, joinWith, joinOf}

@@ -1,9 +1,6 @@
 -- Document 01, "dual, join": "join: itself for one handle, else dual, dual, meet, dual, each made." `u` is the used words.
 use mathlib.Core.Bool.{cond}
-use mathlib.Core.List.{List}
-use Prim.Native.Nat.{ℕ}
 use lib.Dec.{eqb}
-use Rattle.words.specs.Made.{Grown}
 use Rattle.meet.specs.Meet.{Op, there, meetOf}
 use Rattle.walk.specs.Walked.{dualOf}
 

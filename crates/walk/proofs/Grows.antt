@@ -1,10 +1,9 @@
 -- A walk only ever appends to the used words. Assumes nothing.
-use mathlib.Core.Path.{_≡_, refl}
 use mathlib.Core.Bool.{Bool, true, false, cond}
 use mathlib.Core.List.{List, [], _∷_}
 use Prim.Native.Nat.{ℕ, zero, suc, _+_, _-_}
 use lib.Dec.{eqb}
-use Rattle.words.specs.Made.{Grown, make}
+use Rattle.words.specs.Made.{make}
 use Rattle.words.proofs.Extend.{Extends, ext-same, ext-then}
 use Rattle.words.proofs.Placed.{make-extends}
 use Rattle.call.specs.Handles.{word, kindOn}

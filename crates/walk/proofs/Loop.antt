@@ -1,5 +1,5 @@
 -- The loop that walks parts one after another, for tuples and for structs. Assumes nothing.
-use mathlib.Core.Path.{_≡_, refl, sym, ap, _∙_}
+use mathlib.Core.Path.{_≡_, ap, _∙_}
 use mathlib.Core.Bool.{true}
 use mathlib.Core.List.{List, [], _∷_, _++_, append-nil}
 use Prim.Native.Nat.{ℕ, _+_, _-_, _*_, _≤_, _<_}
@@ -13,7 +13,7 @@ use Rattle.words.specs.declared.Interned.{Interned}
 use Rattle.words.specs.declared.Interned.the-variants.{At, Full}
 use Rattle.words.proofs.Extend.{Extends, ext-then}
 use Rattle.wellformed.specs.Entry.{every}
-use Rattle.parts.specs.Parts.{Good, Part, All, ReadyOne}
+use Rattle.parts.specs.Parts.{Part, All, ReadyOne}
 use Rattle.parts.proofs.Good.{part-weak, good-adds, part-adds}
 use Rattle.parts.proofs.Left.{every-zero, every-next}
 use Rattle.meet.specs.Meet.{Many, led}

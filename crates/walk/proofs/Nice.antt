@@ -2,18 +2,17 @@
 -- is one again. Assumes nothing.
 use mathlib.Core.Path.{_≡_, refl, sym, ap, _∙_}
 use mathlib.Core.Bool.{Bool, true, false, cond}
-use mathlib.Core.Logic.{_⊎_, inl, inr, ⊎-elim}
+use mathlib.Core.Logic.{inl}
 use mathlib.Core.List.{List, [], _∷_}
 use Prim.Native.Nat.{ℕ, zero, suc, _+_, _-_, _≤_}
 use native.Mathlib.Omega.{arith}
 use lib.Dec.{eqb}
 use lib.ListN.{length}
 use Rattle.words.specs.Words.{kindOf, countOf}
-use Rattle.words.specs.Made.{Grown, make}
+use Rattle.words.specs.Made.{make}
 use Rattle.wellformed.specs.Entry.{every, floatOk}
 use Rattle.call.specs.Handles.{word, kindOn, depthOn, countOn}
 use Rattle.call.proofs.Sound.{adds-none, adds-then}
-use Rattle.type_float.specs.Float.{isSizeWord}
 use Rattle.type_float.proofs.Size.{each-word}
 use Rattle.makers.specs.Entries.{intEntry, floatEntry}
 use Rattle.makers.proofs.FloatSize.{size-word}
@@ -22,7 +21,7 @@ use Rattle.parts.specs.Parts.{Good, Part, All}
 use Rattle.parts.proofs.Parts.{few, flat, deep, of-tuple, of-struct, of-pointer, of-memory, of-float, all-map}
 use Rattle.parts.proofs.Good.{bot-part, top-part, ctrl-part, xctrl-part, struct-top-part, struct-bot-part, int-top-part, int-bot-part, float-top-part, float-bot-part, part-weak, part-used, adds-long, adds-word, good-adds, part-adds, Answers, old-answers, make-answers}
 use Rattle.meet_fields.proofs.Finals.{every-length}
-use Rattle.meet.specs.Meet.{there, Many}
+use Rattle.meet.specs.Meet.{there}
 use Rattle.meet.proofs.Made.{tuple-answers, struct-answers, pointer-answers, memory-answers, answer-late}
 use Rattle.meet.proofs.Nice.{EachAnswers, late-on, wide, narrow}
 use Rattle.walk_rules.specs.Tables.{formFor, intOf, floatOf, nilOf, finalsOf, fieldsOf}

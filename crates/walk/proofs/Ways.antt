@@ -13,24 +13,23 @@ use Rattle.words.specs.declared.Interned.the-variants.{At, Full}
 use Rattle.words.proofs.Extend.{Extends}
 use Rattle.words.proofs.Room.{fit}
 use Rattle.wellformed.specs.Entry.{every, all, isAliasFinal}
-use Rattle.call.specs.Keep.{Adds}
 use Rattle.call.specs.Handles.{word, kindOn, depthOn, countOn}
 use Rattle.makers.specs.Entries.{tupleEntry, pointerEntry, memoryEntry}
 use Rattle.makers.proofs.FloatSize.{size-word}
 use Rattle.type_float.specs.Float.{isSizeWord}
-use Rattle.parts.specs.Parts.{Good, Part, All, ReadyOne}
+use Rattle.parts.specs.Parts.{Part, All, ReadyOne}
 use Rattle.parts.proofs.Parts.{few, flat, of-tuple, of-struct, of-pointer, of-memory, of-float, all-map}
 use Rattle.parts.proofs.Good.{part-weak, part-adds, adds-word, part-used}
 use Rattle.meet.specs.Meet.{there, tupleOf, pointerOf, memoryOf}
 use Rattle.meet.proofs.Grows.{tuple-grows, pointer-grows, memory-grows}
-use Rattle.meet.proofs.Nice.{wide, narrow}
+use Rattle.meet.proofs.Nice.{narrow}
 use Rattle.meet.proofs.Loop.{Grew, grew-none, grew-ran, grew-words, grew-more, grew-stop, grew-segments}
 use Rattle.walk_rules.specs.Tables.{formFor, intOf, floatOf, nilOf, fieldsOf}
 use Rattle.walk_rules.specs.declared.Walk.{Walk}
 use Rattle.walk_rules.specs.declared.Form.{Form}
 use Rattle.walk_rules.specs.declared.Form.the-variants.{Is, Ints, Floats, Tuples, Fields, Pointers, Memories}
 use Rattle.walk_rules.proofs.Sure.{form-floats, form-tuples, form-fields, form-pointers, form-memories}
-use Rattle.walk.specs.Walked.{elements, types, structOf, followForm, walkWithin, Walked}
+use Rattle.walk.specs.Walked.{types, structOf, followForm, walkWithin, Walked}
 use Rattle.walk.proofs.Grows.{walk-grows, struct-grows}
 use Rattle.walk.proofs.Nice.{walk-nice}
 use Rattle.walk.proofs.Loop.{Going₁, going-begin, going-first, going-ready, going-stop, going-turn, going-end}

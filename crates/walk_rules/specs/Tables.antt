@@ -1,6 +1,6 @@
 -- Document 01, "dual, join" and "glb, lub, is_final, make_ro": dual, glb and lub are one walk of a type, and differ in the tables below. `u` is
 -- the used words, a the operand.
-use mathlib.Core.Bool.{Bool, true, false, cond, _||_}
+use mathlib.Core.Bool.{cond}
 use mathlib.Core.List.{List, [], _∷_}
 use Prim.Native.Nat.{ℕ, _+_, _-_, _%_}
 use lib.Dec.{eqb, leb}
@@ -8,7 +8,7 @@ use lib.ListN.{length}
 use Rattle.words.specs.Kinds.{Bot, Top, Ctrl, XCtrl, Int, Float, Tuple, Struct, Fref, MemPtr}
 use Rattle.words.specs.Made.{Grown, make}
 use Rattle.wellformed.specs.Entry.{every}
-use Rattle.call.specs.Handles.{word, kindOn}
+use Rattle.call.specs.Handles.{word}
 use Rattle.makers.specs.Entries.{intEntry, floatEntry}
 use Rattle.rules.specs.Column.{_⇒_∣_}
 use Rattle.structs.specs.Remade.{remake}

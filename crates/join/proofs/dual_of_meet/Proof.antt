@@ -3,8 +3,6 @@ use Rattle.join.proofs.Steps.{meet-full, meet-ready, meet-dualled}
 use borrow.Author.Needs.{needs}
 use Rattle.join.proofs.dual_of_meet.Statement.{statement}
 use Rattle.join.proofs.dual_of_meet.Tie as tie
-use Rattle.meet.proofs.meet_type.Reads as meet-type-reads
-use Rattle.walk.proofs.walk_type.Reads as walk-type-reads
 
 meet-type-requires : tie.Need-meet-type-requires
 meet-type-requires c κs = search needs

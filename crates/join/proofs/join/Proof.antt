@@ -3,8 +3,6 @@ use Rattle.join.proofs.Steps.{join-same, join-full, join-ready, join-ma
 use borrow.Author.Needs.{needs}
 use Rattle.join.proofs.join.Statement.{statement}
 use Rattle.join.proofs.join.Tie as tie
-use Rattle.join.proofs.join_with.Reads as join-with-reads
-use Rattle.walk.proofs.walk_type.Reads as walk-type-reads
 
 returns : tie.Need-returns
 returns c = join-same _ _ _ _ _ (c .before .before .before .pre) (c .if1 .taken)

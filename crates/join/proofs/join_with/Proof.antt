@@ -3,8 +3,6 @@ use Rattle.join.proofs.Steps.{with-full, with-ready, with-made}
 use borrow.Author.Needs.{needs}
 use Rattle.join.proofs.join_with.Statement.{statement}
 use Rattle.join.proofs.join_with.Tie as tie
-use Rattle.join.proofs.dual_of_meet.Reads as dual-of-meet-reads
-use Rattle.walk.proofs.walk_type.Reads as walk-type-reads
 
 walk-type-requires : tie.Need-walk-type-requires
 walk-type-requires c κs = search needs

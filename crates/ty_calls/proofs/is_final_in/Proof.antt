@@ -8,9 +8,6 @@ use Rattle.ty_calls.proofs.Ready.{read-ready}
 use borrow.Author.Needs.{needs}
 use Rattle.ty_calls.proofs.is_final_in.Statement.{statement}
 use Rattle.ty_calls.proofs.is_final_in.Tie as tie
-use Rattle.call.proofs.begin.Reads as begin-reads
-use Rattle.finals.proofs.is_final.Reads as is-final-reads
-use Rattle.rows.proofs.types_rows.Reads as types-rows-reads
 
 begin-requires : tie.Need-begin-requires
 begin-requires c κs = search needs

@@ -6,10 +6,6 @@ use Rattle.ty_calls.proofs.Ready.{call-ready}
 use borrow.Author.Needs.{needs}
 use Rattle.ty_calls.proofs.join_in.Statement.{statement}
 use Rattle.ty_calls.proofs.join_in.Tie as tie
-use Rattle.call.proofs.begin.Reads as begin-reads
-use Rattle.call.proofs.finish.Reads as finish-reads
-use Rattle.join.proofs.join.Reads as join-reads
-use Rattle.rows.proofs.types_rows.Reads as types-rows-reads
 
 begin-requires : tie.Need-begin-requires
 begin-requires c κs = search needs

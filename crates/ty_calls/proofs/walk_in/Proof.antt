@@ -7,10 +7,6 @@ use Rattle.ty_calls.proofs.Ready.{one-ready}
 use borrow.Author.Needs.{needs}
 use Rattle.ty_calls.proofs.walk_in.Statement.{statement}
 use Rattle.ty_calls.proofs.walk_in.Tie as tie
-use Rattle.call.proofs.begin.Reads as begin-reads
-use Rattle.call.proofs.finish.Reads as finish-reads
-use Rattle.rows.proofs.types_rows.Reads as types-rows-reads
-use Rattle.walk.proofs.walk_type.Reads as walk-type-reads
 
 begin-requires : tie.Need-begin-requires
 begin-requires c κs = search needs
