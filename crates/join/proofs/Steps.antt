@@ -1,5 +1,5 @@
 -- One operation after another, where the second takes the first's answer; and the steps of join. Assumes nothing.
-use mathlib.Core.Path.{_≡_, refl, ap}
+use mathlib.Core.Path.{_≡_, ap}
 use mathlib.Core.Bool.{true}
 use mathlib.Core.List.{List, _++_}
 use Prim.Native.Nat.{ℕ, suc, _+_, _≤_, max}
@@ -12,13 +12,12 @@ use Rattle.words.specs.Made.{Grown, Ran, Runs}
 use Rattle.words.specs.declared.Interned.{Interned}
 use Rattle.words.specs.declared.Interned.the-variants.{At, Full}
 use Rattle.words.proofs.Extend.{Extends, ext-then}
-use Rattle.words.proofs.Room.{fit}
 use Rattle.parts.specs.Parts.{Good, Part, Ready, ReadyOne}
 use Rattle.parts.proofs.Good.{part-weak, part-below, good-adds, part-adds, Answers}
-use Rattle.meet.specs.Meet.{there, meetOf, Met}
+use Rattle.meet.specs.Meet.{meetOf, Met}
 use Rattle.meet.proofs.Grows.{meet-grows}
 use Rattle.meet.proofs.Nice.{meet-nice}
-use Rattle.meet.proofs.Loop.{Grew, grew-none, grew-long, grew-up, grew-high, grew-ran, grew-words, grew-more, grew-stop}
+use Rattle.parts.proofs.Grew.{Grew, grew-none, grew-there, grew-long, grew-up, grew-high, grew-words, grew-more, grew-stop, then-made}
 use Rattle.walk_rules.specs.declared.Walk.the-variants.{Dual}
 use Rattle.walk.specs.Walked.{dualOf, Walked}
 use Rattle.walk.proofs.Grows.{walk-grows}
@@ -65,9 +64,7 @@ module _ {old new : List ℕ} {used : ℕ} {g₁ : Grown} {now : List ℕ} {m : 
     are = grew-words first g₁ now m (F .grows) (F .ran) h v f
 
     step-made : (op : List ℕ → ℕ → Grown) → ((w : List ℕ) (k : ℕ) → Extends w (op w k .words)) → (now₂ : List ℕ) (o : Interned) → Ran v (op (take v (old ++ now)) h) (old ++ now) (old ++ now₂) o → Ran used (op (g₁ .words) (g₁ .handle)) (old ++ new) (old ++ now₂) o
-    step-made op op-grows now₂ o l =
-        let d : Ran v (op (g₁ .words) (g₁ .handle)) (old ++ now) (old ++ now₂) o = rw (are .1, are .0) at l in
-        grew-ran on (op (g₁ .words) (g₁ .handle)) now₂ o (rw (are .1) (op-grows (g₁ .words) (g₁ .handle))) d
+    step-made op op-grows now₂ o l = then-made first g₁ now m (F .grows) (F .ran) h v f on op op-grows now₂ o l
 
     -- the answer, and an operand of the first, in the words that grew
     new-long : v ≡ length (g₁ .words)
@@ -162,10 +159,7 @@ module _ (old new : List ℕ) (used a b : ℕ) (rd : Ready old new used 1 11 a b
 
   -- "itself for one handle"
   pub join-same : a ≡ b → Runs (λ w. joinOf w a b) old new used new (At a used)
-  join-same e =
-      let w : Grew old new used new used = grew-none (rd .good) (rd .within) in
-      let f = w .fits in
-      rw (eq-eqb a b e) (fit used (there u a) (old ++ new) (old ++ new) a used (record { handle = refl; end = f .end; room = f .room; words = f .words }))
+  join-same e = let w : Grew old new used new used = grew-none (rd .good) (rd .within) in rw (eq-eqb a b e) (grew-there a w)
 
   -- the first dual, then those
   module _ (ne : a ≡ b → ⊥) (now : List ℕ) (m : Interned) (t : Walked Dual old new used a now m) where

@@ -1,105 +1,29 @@
 -- The loop that meets parts one after another, for tuples and for structs. Assumes nothing.
-use mathlib.Core.Path.{_≡_, refl, sym, ap, _∙_}
+use mathlib.Core.Path.{_≡_, ap, _∙_}
 use mathlib.Core.Bool.{true}
 use mathlib.Core.List.{List, [], _∷_, _++_, append-nil}
 use Prim.Native.Nat.{ℕ, _+_, _-_, _*_, _≤_, _<_, max}
 use native.Mathlib.Omega.{arith}
 use native.Mathlib.Numerals.{add-one}
-use lib.ListN.{length, take, drop, getD, set, length-append, take-append-drop}
-use lib.Seq.{take-suc-set, append-snoc, length-take-le, take-take}
+use lib.ListN.{length, take, drop, getD, set}
+use lib.Seq.{take-suc-set, append-snoc}
 use Rattle.words.specs.Words.{fills}
 use Rattle.words.specs.Made.{Grown, Segments, Ran}
 use Rattle.words.specs.declared.Interned.{Interned}
 use Rattle.words.specs.declared.Interned.the-variants.{At, Full}
-use Rattle.words.proofs.Extend.{Extends, ext-then, ext-take}
-use Rattle.words.proofs.Room.{Fit, fitted, fit-front, fit-length, then, stop}
+use Rattle.words.proofs.Extend.{Extends, ext-then}
 use Rattle.wellformed.specs.Entry.{every}
-use Rattle.call.specs.Keep.{Adds}
-use Rattle.call.proofs.Sound.{adds-none, adds-then}
-use Rattle.parts.specs.Parts.{Good, Part, All, Ready}
-use Rattle.parts.proofs.Good.{part-weak, good-adds, part-adds, adds-long}
+use Rattle.parts.specs.Parts.{Part, All, Ready}
+use Rattle.parts.proofs.Good.{part-weak, good-adds, part-adds}
 use Rattle.parts.proofs.Left.{every-zero, every-next}
-use Rattle.meet.specs.Meet.{there, Many, led, meetEach, meet, Met}
+use Rattle.parts.proofs.Grew.{Grew, grew-none, grew-long, grew-up, grew-high, grew-kept, grew-ran, grew-words, grew-more, grew-stop, grew-segments}
+use Rattle.meet.specs.Meet.{Many, led, meetEach, meet, Met}
 use Rattle.meet.proofs.Grows.{meet-grows, each-grows}
-use Rattle.meet.proofs.Nice.{meet-nice, any-handle}
+use Rattle.meet.proofs.Nice.{meet-nice}
 
 -- handles before those of others
 abbrev pub joined : List ℕ → Many → Many
 joined acc m = record { words = m .words; handles = acc ++ m .handles }
-
--- ---- a store on the way: entries were added to the used words, and they fit
-
-pub record Grew (old new : List ℕ) (used : ℕ) (now : List ℕ) (v : ℕ) : Type 0 where
-  pub start : Good (take used (old ++ new))
-  pub adds : Adds (take used (old ++ new)) (there (take v (old ++ now)) 0)
-  pub fits : Fit (there (take v (old ++ now)) 0) (old ++ new) (old ++ now) 0 v
-  pub within : used ≤ length (old ++ new)
-
-pub grew-none : {old new : List ℕ} {used : ℕ} → Good (take used (old ++ new)) → used ≤ length old + length new → Grew old new used new used
-grew-none {old} {new} {used} g h =
-    let l = length-append old new in
-    let n = length-take-le used (old ++ new) (omega (arith, l)) in
-    record {
-      start = g;
-      adds = adds-none (take used (old ++ new)) 0 (g .sound);
-      fits = record { handle = refl; end = sym n; room = omega (arith, n, l); words = rw n (sym (take-append-drop used (old ++ new))) };
-      within = omega (arith, l);
-    }
-
-module _ {old new : List ℕ} {used : ℕ} {now : List ℕ} {v : ℕ} (w : Grew old new used now v) where
-  abbrev u₀ : List ℕ
-  u₀ = take used (old ++ new)
-
-  abbrev u : List ℕ
-  u = take v (old ++ now)
-
-  pub grew-long : length now ≡ length new
-  grew-long = omega (arith, fit-length (there u 0) (old ++ new) (old ++ now) 0 v (w .fits), length-append old new, length-append old now)
-
-  pub grew-up : used ≤ v
-  grew-up = omega (arith, adds-long (w .start) (w .adds), length-take-le used (old ++ new) (w .within), w .fits .end)
-
-  pub grew-high : v ≤ length old + length new
-  grew-high = omega (arith, w .fits .end, w .fits .room, length-append old new)
-
-  ext : Extends u₀ u
-  ext = record { more = w .adds .more; is = w .adds .is }
-
-  pub grew-kept : take used (old ++ now) ≡ u₀
-  grew-kept =
-      sym (take-take used v (old ++ now) grew-up) ∙ ap (λ (k : ℕ). take k u) (sym (length-take-le used (old ++ new) (w .within))) ∙ ext-take u₀ u ext
-
-  -- an operation more
-  module _ (g : Grown) (now′ : List ℕ) (r : Interned) (grows : Extends u (g .words)) (ran : Ran v g (old ++ now) (old ++ now′) r) where
-    pub grew-ran : Ran used g (old ++ new) (old ++ now′) r
-    grew-ran = then (there u 0) (old ++ new) (old ++ now) 0 v (w .fits) used ext (w .within) g (old ++ now′) r grows ran
-
-    pub grew-words : (h v′ : ℕ) → r ≡ At h v′ → (h ≡ g .handle) × (take v′ (old ++ now′) ≡ g .words)
-    grew-words h v′ e =
-        let f = fitted used g (old ++ new) (old ++ now′) r grew-ran h v′ e in
-        (f .handle, fit-front g (old ++ new) (old ++ now′) h v′ f)
-
-    pub grew-more : (h v′ : ℕ) → r ≡ At h v′ → Adds u g → Grew old new used now′ v′
-    grew-more h v′ e a =
-        let f = fitted used g (old ++ new) (old ++ now′) r grew-ran h v′ e in
-        let q = fit-front g (old ++ new) (old ++ now′) h v′ f in
-        record {
-          start = w .start;
-          adds = rw q (adds-then u₀ (there u 0) (there (g .words) 0) (w .adds) (any-handle 0 a));
-          fits = rw q (record { handle = refl; end = f .end; room = f .room; words = f .words });
-          within = w .within;
-        }
-
-    pub grew-stop : r ≡ Full → (g₂ : Grown) → Extends (g .words) (g₂ .words) → Ran used g₂ (old ++ new) (old ++ now′) Full
-    grew-stop e g₂ x = stop used g g₂ (old ++ new) (old ++ now′) x (rw e at grew-ran)
-
--- what the maker of the whole requires
-pub grew-segments : {old new : List ℕ} {used : ℕ} {now : List ℕ} {v : ℕ} → Grew old new used now v → 1 ≤ used → length old ≤ used → fills 0 (drop 1 old) ≡ true → Segments old now v
-grew-segments w low over cut =
-    let up = grew-up w in
-    record { low = omega arith; over = omega arith; high = omega (arith, grew-high w, grew-long w); cut = cut; full = w .adds .sound .full }
-
--- ---- the loop
 
 -- after i of n parts, s words apart from p₀ and q₀ on: what is left gives what all of them give
 pub record Going (s : ℕ) (old new : List ℕ) (used a b n p₀ q₀ : ℕ) (now parts : List ℕ) (v i : ℕ) : Type 0 where

@@ -45,10 +45,6 @@ pub record EachAnswers (u : List ℕ) (d n : ℕ) (m : Many) : Type 0 where
   pub long : length (m .handles) ≡ n
   pub new : Late u (m .words) (m .handles)
 
--- the handle of what was added says nothing
-pub any-handle : {u : List ℕ} {g : Grown} (h : ℕ) → Adds u g → Adds u (there (g .words) h)
-any-handle h a = record { sound = a .sound; more = a .more; is = a .is; extra = a .extra; rows = a .rows; own = a .own }
-
 -- a struct or a forward reference is a type
 pub wide : {u : List ℕ} {d : ℕ} {g : Grown} → Answers u d 8 9 g → Answers u d 1 11 g
 wide r = let p = r .part in record { adds = r .adds; part = record { entry = p .entry; earlier = p .earlier; least = omega (arith, p .least); most = omega (arith, p .most); shallow = p .shallow }; new = r .new }

@@ -12,7 +12,6 @@ use Rattle.words.specs.Made.{Grown, make, Segments, Ran, Runs}
 use Rattle.words.specs.declared.Interned.{Interned}
 use Rattle.words.specs.declared.Interned.the-variants.{At, Full}
 use Rattle.words.proofs.Extend.{Extends}
-use Rattle.words.proofs.Room.{fit}
 use Rattle.wellformed.specs.Entry.{every, all, isAliasFinal}
 use Rattle.wellformed.proofs.Bools.{and-both}
 use Rattle.call.specs.Keep.{Adds}
@@ -35,14 +34,12 @@ use Rattle.meet_fields.specs.Fields.{flagsOn, meetFields}
 use Rattle.meet.specs.Meet.{there, tupleOf, types, structOf, followStruct, meetStruct, eitherNil, pointerOf, memoryOf, meetInt, follow, meet, Met, MetStruct}
 use Rattle.meet.proofs.Grows.{meet-grows, tuple-grows, struct-grows, pointer-grows, memory-grows, structs-grow}
 use Rattle.meet.proofs.Nice.{meet-nice, structs-nice, narrow}
-use Rattle.meet.proofs.Loop.{Grew, grew-none, grew-ran, grew-words, grew-more, grew-stop, grew-segments, Going, going-begin, going-first, going-second, going-ready, going-stop, going-turn, going-end}
+use Rattle.parts.proofs.Grew.{Grew, grew-none, grew-there, grew-more, grew-stop, grew-segments, then-made}
+use Rattle.meet.proofs.Loop.{Going, going-begin, going-first, going-second, going-ready, going-stop, going-turn, going-end}
 
 -- an answer that is there already
 old-ran : {old new : List ℕ} {used low high a b : ℕ} (h : ℕ) → Ready old new used low high a b → Ran used (there (take used (old ++ new)) h) (old ++ new) (old ++ new) (At h used)
-old-ran {old} {new} {used} h rd =
-    let w : Grew old new used new used = grew-none (rd .good) (rd .within) in
-    let f = w .fits in
-    fit used (there (take used (old ++ new)) h) (old ++ new) (old ++ new) h used (record { handle = refl; end = f .end; room = f .room; words = f .words })
+old-ran {old} {new} {used} h rd = let w : Grew old new used new used = grew-none (rd .good) (rd .within) in grew-there h w
 
 -- parts below 33
 shallower : {u : List ℕ} {top low high h : ℕ} → Good u → Part u top 33 low high h → (hs : List ℕ) → All (Part u h (depthOn u h) 1 11) hs → All (Part u h 33 1 11) hs
@@ -130,10 +127,7 @@ module _ (old new : List ℕ) (used a b : ℕ) (rd : Ready old new used 1 11 a b
       around-segments = grew-segments on (omega (arith, rd .near)) (rd .over) (rd .cut)
 
       around-made : (now₂ : List ℕ) (o : Interned) → Ran v (F (there (take v (old ++ now)) h)) (old ++ now) (old ++ now₂) o → Met old new used a b now₂ o
-      around-made now₂ o l = by-rule X e now₂ o (λ k ka kb.
-          let s = grew-words grew (part k) now m (grows k) (told k ka kb) h v f in
-          let d : Ran v (F (part k)) (old ++ now) (old ++ now₂) o = rw (s .1, s .0) at l in
-          rw (is k) (grew-ran on (F (part k)) now₂ o (rw (s .1) (F-grows (part k))) d))
+      around-made now₂ o l = by-rule X e now₂ o (λ k ka kb. rw (is k) (then-made grew (part k) now m (grows k) (told k ka kb) h v f on (λ w n. F (there w n)) (λ w n. F-grows (there w n)) now₂ o l))
 
   -- pointers
   module _ (e : r ≡ Pointers) (x y : ℕ) (ex : x ≡ getD (take used (old ++ new)) (a + 1) 0) (ey : y ≡ getD (take used (old ++ new)) (b + 1) 0) where

@@ -3,3 +3,4 @@ pub mod Checked
 pub mod Parts
 pub mod Good
 pub mod Left
+pub mod Grew

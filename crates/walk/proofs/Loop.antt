@@ -17,7 +17,8 @@ use Rattle.parts.specs.Parts.{Part, All, ReadyOne}
 use Rattle.parts.proofs.Good.{part-weak, good-adds, part-adds}
 use Rattle.parts.proofs.Left.{every-zero, every-next}
 use Rattle.meet.specs.Meet.{Many, led}
-use Rattle.meet.proofs.Loop.{joined, Grew, grew-none, grew-long, grew-up, grew-high, grew-kept, grew-ran, grew-words, grew-more, grew-stop, grew-segments, others}
+use Rattle.parts.proofs.Grew.{Grew, grew-none, grew-long, grew-up, grew-high, grew-kept, grew-ran, grew-words, grew-more, grew-stop, grew-segments}
+use Rattle.meet.proofs.Loop.{joined, others}
 use Rattle.walk_rules.specs.declared.Walk.{Walk}
 use Rattle.walk.specs.Walked.{walkEach, walkWithin, Walked}
 use Rattle.walk.proofs.Grows.{walk-grows, each-grows}

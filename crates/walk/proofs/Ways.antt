@@ -11,7 +11,6 @@ use Rattle.words.specs.Made.{Grown, make, Segments, Ran, Runs}
 use Rattle.words.specs.declared.Interned.{Interned}
 use Rattle.words.specs.declared.Interned.the-variants.{At, Full}
 use Rattle.words.proofs.Extend.{Extends}
-use Rattle.words.proofs.Room.{fit}
 use Rattle.wellformed.specs.Entry.{every, all, isAliasFinal}
 use Rattle.call.specs.Handles.{word, kindOn, depthOn, countOn}
 use Rattle.makers.specs.Entries.{tupleEntry, pointerEntry, memoryEntry}
@@ -23,7 +22,7 @@ use Rattle.parts.proofs.Good.{part-weak, part-adds, adds-word, part-used}
 use Rattle.meet.specs.Meet.{there, tupleOf, pointerOf, memoryOf}
 use Rattle.meet.proofs.Grows.{tuple-grows, pointer-grows, memory-grows}
 use Rattle.meet.proofs.Nice.{narrow}
-use Rattle.meet.proofs.Loop.{Grew, grew-none, grew-ran, grew-words, grew-more, grew-stop, grew-segments}
+use Rattle.parts.proofs.Grew.{Grew, grew-none, grew-there, grew-more, grew-stop, grew-segments, then-made}
 use Rattle.walk_rules.specs.Tables.{formFor, intOf, floatOf, nilOf, fieldsOf}
 use Rattle.walk_rules.specs.declared.Walk.{Walk}
 use Rattle.walk_rules.specs.declared.Form.{Form}
@@ -51,9 +50,7 @@ module _ (walk : Walk) (old new : List ℕ) (used a : ℕ) (rd : ReadyOne old ne
 
   pub walked-is : (h : ℕ) → r ≡ Is h → Walked walk old new used a new (At h used)
   unfolding followForm
-  walked-is h e =
-      let f = grew .fits in
-      by-form (Is h) e new (At h used) (λ k ka. fit used (there u h) (old ++ new) (old ++ new) h used (record { handle = refl; end = f .end; room = f .room; words = f .words }))
+  walked-is h e = by-form (Is h) e new (At h used) (λ k ka. grew-there h grew)
 
   pub walked-ints : r ≡ Ints → (new′ : List ℕ) (m : Interned) → Runs (intOf walk a) old new used new′ m → Walked walk old new used a new′ m
   unfolding followForm
@@ -100,10 +97,7 @@ module _ (walk : Walk) (old new : List ℕ) (used a : ℕ) (rd : ReadyOne old ne
         around-segments = grew-segments on (omega (arith, rd .near)) (rd .over) (rd .cut)
 
         around-made : (now₂ : List ℕ) (o : Interned) → Ran v (F (there (take v (old ++ now)) h)) (old ++ now) (old ++ now₂) o → Walked walk old new used a now₂ o
-        around-made now₂ o l = by-form X e now₂ o (λ k ka.
-            let s = grew-words grew (part k) now m (walk-grows walk k u x) (told k ka) h v f in
-            let d : Ran v (F (part k)) (old ++ now) (old ++ now₂) o = rw (s .1, s .0) at l in
-            rw (is k) (grew-ran on (F (part k)) now₂ o (rw (s .1) (F-grows (part k))) d))
+        around-made now₂ o l = by-form X e now₂ o (λ k ka. rw (is k) (then-made grew (part k) now m (walk-grows walk k u x) (told k ka) h v f on (λ w n. F (there w n)) (λ w n. F-grows (there w n)) now₂ o l))
 
   -- pointers
   module _ (e : r ≡ Pointers) where

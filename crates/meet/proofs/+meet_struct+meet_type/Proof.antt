@@ -7,7 +7,8 @@ use lib.Seq.{length-take-le}
 use native.Mathlib.Omega.{arith}
 use borrow.Author.Needs.{needs}
 use Rattle.parts.proofs.Good.{ready-segments}
-use Rattle.meet.proofs.Loop.{Going, going-segments, grew-long, grew-high, grew-up}
+use Rattle.parts.proofs.Grew.{grew-long, grew-high, grew-up}
+use Rattle.meet.proofs.Loop.{Going, going-segments}
 use Rattle.meet.proofs.Ways.{met-first, met-second, met-bottom, met-ints, float-sizes, met-floats, ready-structs, met-structs, pointer-next, pointer-full, pointer-segments, met-pointers, memory-next, memory-full, memory-segments, met-memories, tuple-few, tuple-begin, tuple-stop, tuple-end, tuple-next, tuple-turn, names-below, met-former, met-latter, met-lowest, struct-few, struct-begin, struct-stop, struct-end, struct-values, struct-next, struct-turn}
 use Prim.Native.Nat.{ℕ, _<_}
 use borrow.Fn.Kinds.{In}

@@ -7,7 +7,7 @@ use lib.Seq.{length-take-le}
 use native.Mathlib.Omega.{arith}
 use borrow.Author.Needs.{needs}
 use Rattle.parts.proofs.Good.{one-segments}
-use Rattle.meet.proofs.Loop.{grew-long, grew-high, grew-up}
+use Rattle.parts.proofs.Grew.{grew-long, grew-high, grew-up}
 use Rattle.walk.proofs.Loop.{Going₁, going-segments}
 use Rattle.walk.proofs.Ways.{walked-is, walked-ints, float-size, walked-floats, pointer-flag, pointer-next, pointer-full, pointer-segments, walked-pointers, memory-next, memory-full, memory-segments, walked-memories, walk-few, tuple-begin, tuple-stop, tuple-end, struct-begin, struct-stop, struct-end, struct-values, part-next, part-turn}
 use Prim.Native.Nat.{ℕ, _<_}
