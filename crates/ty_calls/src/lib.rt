@@ -22,8 +22,8 @@ pub fn meet_in(words: &mut [u64], bits: &mut [u64], a: u64, b: u64) -> Made
         return Made::Refused(no);
     }
     let none = [0u64; 0];
-    let r = meet::meet_type(&none, words, used, a as usize, b as usize);
-    call::finish(words, used, r)
+    let met = meet::meet_type(&none, words, used, a as usize, b as usize);
+    call::finish(words, used, met)
 }
 
 // The used words are lent to be read, with no word behind them: whatever would have to be appended does not fit, and is no old handle.
