@@ -12,7 +12,8 @@ use Rattle.rules.specs.Column.{_⇒_∣_}
 use Rattle.type_float.specs.declared.Reading.the-variants.{Constant, Sized}
 use Rattle.float_meet.specs.declared.FloatMeet.{FloatMeet}
 use Rattle.float_meet.specs.declared.FloatMeet.the-variants.{First, Second, Single, Double}
-use Rattle.float_meet.specs.FloatRule.{holdsSingle, plus, minus, floatRule}
+use Rattle.type_float.specs.Single.{holdsSingle}
+use Rattle.float_meet.specs.FloatRule.{plus, minus, floatRule}
 use Rattle.float_meet.proofs.SizeTest.{tests}
 
 -- ---- two sizes, with the bits a and b

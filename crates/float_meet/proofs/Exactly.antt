@@ -4,8 +4,7 @@ use mathlib.Core.Bool.{Bool, true, false}
 use lib.Ieee.{Float, nan, fits, isNan, binary64, ofBits, toBits, ne}
 use lib.Ieee.Bits.{ofBits-toBits}
 use lib.Ieee.Compare.{differs-from-itself}
-use Rattle.type_float.specs.Single.{isSingle}
-use Rattle.float_meet.specs.FloatRule.{holdsSingle}
+use Rattle.type_float.specs.Single.{holdsSingle, isSingle}
 
 module _ (x : Float) where
   pub nan-not : ne x x ≡ true → false ≡ holdsSingle x

@@ -3,16 +3,12 @@ use mathlib.Core.Bool.{Bool, false, not, _&&_}
 use Prim.Native.Nat.{ℕ, suc}
 use lib.IntN.{ℤ, pos, negsuc}
 use lib.Dec.{eqb}
-use lib.Ieee.{Float as F64, fits, isNan, binary32}
 use Rattle.rules.specs.Column.{_⇒_∣_}
+use Rattle.type_float.specs.Single.{holdsSingle}
 use Rattle.type_float.specs.declared.Reading.{Reading}
 use Rattle.type_float.specs.declared.Reading.the-variants.{Constant, Sized}
 use Rattle.float_meet.specs.declared.FloatMeet.{FloatMeet}
 use Rattle.float_meet.specs.declared.FloatMeet.the-variants.{First, Second, Single, Double}
-
--- a constant "is single precision if binary32 holds its value exactly: infinities and both zeros yes, NaN no"
-abbrev pub holdsSingle : F64 → Bool
-holdsSingle x = fits binary32 x && not (isNan x)
 
 -- the number n, and the number -n
 abbrev isPlus : ℕ → ℤ → Bool

@@ -4,7 +4,8 @@ use type_float::Reading;
 ghost use mathlib.Core.Path.{_≡_};
 ghost use Rattle.type_float.specs.Float.{readingOf};
 ghost use Rattle.type_float.specs.declared.Reading.the-variants.{Constant, Sized};
-ghost use Rattle.float_meet.specs.FloatRule.{holdsSingle, floatRule};
+ghost use Rattle.type_float.specs.Single.{holdsSingle};
+ghost use Rattle.float_meet.specs.FloatRule.{floatRule};
 
 // The answer of a meet: an operand, or size 32 or 64.
 pub enum FloatMeet {

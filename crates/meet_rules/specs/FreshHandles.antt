@@ -5,12 +5,32 @@ use Prim.Native.Nat.{ℕ}
 abbrev pub bot : ℕ
 bot = 5
 
+abbrev pub top : ℕ
+top = 6
+
+abbrev pub ctrl : ℕ
+ctrl = 7
+
+abbrev pub xctrl : ℕ
+xctrl = 8
+
 -- "$BOT and $TOP are handles 20 and 18"
 abbrev pub structTop : ℕ
 structTop = 18
 
 abbrev pub structBot : ℕ
 structBot = 20
+
+-- "Ints 22 top (largest..smallest), 25 bot (smallest..largest)"
+abbrev pub intTop : ℕ
+intTop = 22
+
+abbrev pub intBot : ℕ
+intBot = 25
+
+-- the Float of size -64
+abbrev pub floatTop : ℕ
+floatTop = 49
 
 -- "answers 64 and 32 are handles 61 and 58"
 abbrev pub floatB32 : ℕ

@@ -12,32 +12,11 @@ use Rattle.call.specs.Handles.{word}
 use Rattle.makers.specs.Entries.{intEntry, floatEntry}
 use Rattle.rules.specs.Column.{_⇒_∣_}
 use Rattle.structs.specs.Remade.{remake}
-use Rattle.meet_rules.specs.FreshHandles.{bot, structTop, structBot, floatBot}
+use Rattle.meet_rules.specs.FreshHandles.{bot, top, ctrl, xctrl, structTop, structBot, intTop, intBot, floatTop, floatBot}
 use Rattle.walk_rules.specs.declared.Walk.{Walk}
 use Rattle.walk_rules.specs.declared.Walk.the-variants.{Dual, Glb, Lub}
 use Rattle.walk_rules.specs.declared.Form.{Form}
 use Rattle.walk_rules.specs.declared.Form.the-variants.{Is, Ints, Floats, Tuples, Fields, Pointers, Memories}
-
--- ---- the fresh types that answers name, besides those of meet
-
-abbrev pub top : ℕ
-top = 6
-
-abbrev pub ctrl : ℕ
-ctrl = 7
-
-abbrev pub xctrl : ℕ
-xctrl = 8
-
-abbrev pub intTop : ℕ
-intTop = 22
-
-abbrev pub intBot : ℕ
-intBot = 25
-
--- the Float of size -64
-abbrev pub floatTop : ℕ
-floatTop = 49
 
 -- ---- Bot, Top, Ctrl and XCtrl
 
