@@ -1,4 +1,5 @@
--- A call whose operation adds sound entries keeps the store well formed, its words and that no two entries are equal. Assumes nothing.
+-- A call whose operation adds sound entries keeps the store well formed, its words, that no two entries are equal, and that the ends of
+-- Ints are 64-bit words. Assumes nothing.
 use mathlib.Core.Path.{_≡_, refl, sym, ap, _∙_}
 use mathlib.Core.Bool.{Bool, true, false, _&&_}
 use mathlib.Core.List.{List, [], _∷_, _++_, append-nil}
@@ -83,6 +84,10 @@ module _ (ws : List ℕ) (g : Grown) (ok : wellFormed ws ≡ true) (a : Adds (us
   unfolding entries
   entries-are = ap (rows 1 0) used-same
 
+  -- the used words, once word 0 counts them
+  pub used-grown : usedWords (stored g ws) ≡ set (g .words) 0 n
+  used-grown = ap (λ (k : ℕ). take k (stored g ws)) count ∙ used-are
+
   front : take 94 l ≡ take 94 ws
   front =
       let h : 94 ≤ length (usedWords ws) = omega (arith, long, t .enough) in
@@ -133,11 +138,12 @@ module _ (ws : List ℕ) (g : Grown) (ok : wellFormed ws ≡ true) (a : Adds (us
     extra = a .extra;
     rows = rw count (entries-are ∙ a .rows);
     own = λ o. rw (count, entries-are) (a .own o);
+    ends = λ e. rw (count, entries-are) (a .ends e);
   }
 
 -- a call that is turned back
 pub same-keeps : (ws : List ℕ) (r : Reply) → wellFormed ws ≡ true → Keeps ws (record { reply = r; words = ws })
-same-keeps ws r ok = record { well = ok; words = λ i low high. refl; extra = []; rows = sym (append-nil (entries (usedWords ws))); own = λ o. o }
+same-keeps ws r ok = record { well = ok; words = λ i low high. refl; extra = []; rows = sym (append-nil (entries (usedWords ws))); own = λ o. o; ends = λ e. e }
 
 -- every call
 module _ (rows : List ℕ → ℕ) (op : List ℕ → Grown) (ws : List ℕ) (ok : wellFormed ws ≡ true) where

@@ -1,7 +1,8 @@
 -- Operations keep the used words sound: making an entry that row 1 accepts, and one operation after another. Assumes nothing.
 use mathlib.Core.Path.{_≡_, refl, sym, _∙_}
 use mathlib.Core.Bool.{true}
-use mathlib.Core.List.{List, [], _∷_, _++_, append-nil, append-assoc}
+use mathlib.Core.Logic.{⊎-elim}
+use mathlib.Core.List.{List, [], _∷_, _++_, append-nil, append-assoc, List·Memᴰ·append-cases, List·Memᴰ·eq-of-singleton}
 use Prim.Native.Nat.{ℕ, _+_, _-_, _≤_, _<_}
 use native.Mathlib.Omega.{arith}
 use lib.ListN.{length, drop, getD, length-drop, List·getD-append}
@@ -15,7 +16,7 @@ use Rattle.words.proofs.Extend.{ext-length}
 use Rattle.bitset.specs.Bitset.{nowhere}
 use Rattle.wellformed.specs.Entry.{okEntry}
 use Rattle.wellformed.specs.Form.{headsAt, okRows}
-use Rattle.call.specs.Keep.{Sound, Fitting, Adds}
+use Rattle.call.specs.Keep.{Sound, Ends, Fitting, Adds}
 use Rattle.call.proofs.Agree.{heads-same, rows-same, rows-behind, starts-only, rows-bound, at-row}
 
 -- a row of the used words stands in them, past word 0
@@ -43,6 +44,12 @@ module _ (u e : List ℕ) (s : Sound u) (f : Fitting u e) where
       rw (heads-same (u ++ e) u (starts u) (λ h z. still h (start-used u (s .low) h z .1))) (f .ok) in
       rw (entries-append u e (s .low) (s .full) (f .sized), rows-behind (u ++ e) (entries u) (record { at = length u; words = e } ∷ []) nowhere, old, starts-only (entries u), new)
 
+  ends-behind : Ends (entries u) → Ends (entries (u ++ e))
+  ends-behind n r m =
+      let new : Row = record { at = length u; words = e } in
+      let i : In r (entries u ++ (new ∷ [])) = rw (entries-append u e (s .low) (s .full) (f .sized)) at m in
+      ⊎-elim (λ (old : In r (entries u)). n r old) (λ (j : In r (new ∷ [])). rw (List·Memᴰ·eq-of-singleton j) (f .ends n)) (List·Memᴰ·append-cases (entries u) i)
+
   pub make-adds : Adds u (make u e)
   make-adds =
       let k = make-appends u e (s .low) (s .full) (f .sized) in
@@ -53,15 +60,20 @@ module _ (u e : List ℕ) (s : Sound u) (f : Fitting u e) where
         extra = k .extra;
         rows = k .rows;
         own = k .own;
+        ends = λ n. still-ends n (findIn u e) refl;
       }
     where
       go : (t : Found) → findIn u e ≡ t → okRows (make u e .words) nowhere (entries (make u e .words)) ≡ true
       go (At h) q = rw (make-there u e h q) (s .right)
       go Nothing q = rw (make-new u e q) right-behind
 
+      still-ends : Ends (entries u) → (t : Found) → findIn u e ≡ t → Ends (entries (make u e .words))
+      still-ends n (At h) q = rw (make-there u e h q) n
+      still-ends n Nothing q = rw (make-new u e q) (ends-behind n)
+
 -- an operation that makes nothing
 pub adds-none : (u : List ℕ) (h : ℕ) → Sound u → Adds u (record { words = u; handle = h })
-adds-none u h s = record { sound = s; more = []; is = sym (append-nil u); extra = []; rows = sym (append-nil (entries u)); own = λ o. o }
+adds-none u h s = record { sound = s; more = []; is = sym (append-nil u); extra = []; rows = sym (append-nil (entries u)); own = λ o. o; ends = λ n. n }
 
 -- one operation after another
 pub adds-then : (u : List ℕ) (g g₂ : Grown) → Adds u g → Adds (g .words) g₂ → Adds u g₂
@@ -72,4 +84,5 @@ adds-then u g g₂ a b = record {
   extra = a .extra ++ b .extra;
   rows = b .rows ∙ rw (a .rows) (append-assoc (entries u) (a .extra) (b .extra));
   own = λ o. b .own (a .own o);
+  ends = λ n. b .ends (a .ends n);
 }

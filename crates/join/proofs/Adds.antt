@@ -5,12 +5,12 @@ use Prim.Native.Nat.{ℕ, suc, max}
 use native.Mathlib.Omega.{arith}
 use lib.Dec.{eqb}
 use lib.ListN.{length}
-use Rattle.words.specs.Made.{Grown}
+use Rattle.words.specs.Made.{Grown, there}
 use Rattle.call.specs.Keep.{Adds}
 use Rattle.call.proofs.Sound.{adds-none, adds-then}
 use Rattle.parts.specs.Parts.{Good, Part}
 use Rattle.parts.proofs.Good.{part-weak, part-below, adds-long, good-adds, part-adds, Answers}
-use Rattle.meet.specs.Meet.{there, meetOf}
+use Rattle.meet.specs.Meet.{meetOf}
 use Rattle.meet.proofs.Nice.{meet-nice}
 use Rattle.walk_rules.specs.declared.Walk.the-variants.{Dual}
 use Rattle.walk.specs.Walked.{dualOf}
@@ -18,17 +18,17 @@ use Rattle.walk.proofs.Nice.{walk-nice}
 use Rattle.join.specs.Join.{dualOfMeet, joinWith, joinOf}
 
 -- a type among the used words
-abbrev Type-in : List ℕ → ℕ → Type 0
+abbrev pub Type-in : List ℕ → ℕ → Type 0
 Type-in u h = Part u (length u) 33 1 11 h
 
-record Given (u : List ℕ) (g : Grown) : Type 0 where
+pub record Given (u : List ℕ) (g : Grown) : Type 0 where
   pub adds : Adds u g
   pub part : Type-in (g .words) (g .handle)
 
-answered : {u : List ℕ} {g : Grown} → Answers u 33 1 11 g → Given u g
+pub answered : {u : List ℕ} {g : Grown} → Answers u 33 1 11 g → Given u g
 answered r = record { adds = r .adds; part = r .part }
 
-dualled : (u : List ℕ) (h : ℕ) → Good u → Type-in u h → Given u (dualOf u h)
+pub dualled : (u : List ℕ) (h : ℕ) → Good u → Type-in u h → Given u (dualOf u h)
 dualled u h g p = answered (walk-nice Dual (suc h) .types u h 33 g (part-below (suc h) (omega arith) p))
 
 -- one operation after another
@@ -51,12 +51,15 @@ with-given u a b g pa pb =
     let r = dualled u b g pb in
     after d (dualOfMeet (d .words) a (d .handle)) r (meet-dualled (d .words) a (d .handle) (good-adds g (r .adds)) (later a g r pa) (r .part))
 
-pub join-adds : (u : List ℕ) (a b : ℕ) → Good u → Type-in u a → Type-in u b → Adds u (joinOf u a b)
-join-adds u a b g pa pb = go (eqb a b)
+pub join-given : (u : List ℕ) (a b : ℕ) → Good u → Type-in u a → Type-in u b → Given u (joinOf u a b)
+join-given u a b g pa pb = go (eqb a b)
   where
-    go : (t : Bool) → Adds u (cond t (there u a) (let d = dualOf u a in joinWith (d .words) (d .handle) b))
-    go true = adds-none u a (g .sound)
+    go : (t : Bool) → Given u (cond t (there u a) (let d = dualOf u a in joinWith (d .words) (d .handle) b))
+    go true = record { adds = adds-none u a (g .sound); part = pa }
     go false =
         let d = dualOf u a in
         let r = dualled u a g pa in
-        after d (joinWith (d .words) (d .handle) b) r (with-given (d .words) (d .handle) b (good-adds g (r .adds)) (r .part) (later b g r pb)) .adds
+        after d (joinWith (d .words) (d .handle) b) r (with-given (d .words) (d .handle) b (good-adds g (r .adds)) (r .part) (later b g r pb))
+
+pub join-adds : (u : List ℕ) (a b : ℕ) → Good u → Type-in u a → Type-in u b → Adds u (joinOf u a b)
+join-adds u a b g pa pb = join-given u a b g pa pb .adds

@@ -1,7 +1,8 @@
 -- Document 01, "dual, join": "join: itself for one handle, else dual, dual, meet, dual, each made." `u` is the used words.
 use mathlib.Core.Bool.{cond}
 use lib.Dec.{eqb}
-use Rattle.meet.specs.Meet.{Op, there, meetOf}
+use Rattle.words.specs.Made.{there}
+use Rattle.meet.specs.Meet.{Op, meetOf}
 use Rattle.walk.specs.Walked.{dualOf}
 
 -- meet, then dual

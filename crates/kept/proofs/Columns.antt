@@ -24,7 +24,7 @@ module _ (fs : List ℕ) where
   value p = 2 * getD fs (p + 2) 0 + getD fs (p + 3) 0
 
   -- the first field's word, and the column of the others
-  column : (j n p : ℕ) → every 3 (suc n) j (fieldWords (suc n) p fs) ≡ getD (fieldWords (suc n) p fs) j 0 ∷ every 3 n j (fieldWords n (p + 4) fs)
+  pub column : (j n p : ℕ) → every 3 (suc n) j (fieldWords (suc n) p fs) ≡ getD (fieldWords (suc n) p fs) j 0 ∷ every 3 n j (fieldWords n (p + 4) fs)
   unfolding every fieldWords
   column j n p =
       let l = fieldWords n (p + 4) fs in

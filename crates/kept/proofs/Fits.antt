@@ -2,18 +2,18 @@
 use mathlib.Core.Path.{_≡_, refl, sym, ap, _∙_}
 use mathlib.Core.Bool.{Bool, true}
 use mathlib.Core.List.{List, [], _∷_}
-use Prim.Native.Nat.{ℕ, suc, _+_, _≤_}
+use Prim.Native.Nat.{ℕ, suc, _+_, _^_, _≤_, _<_}
 use native.Mathlib.Omega.{arith}
 use borrow.Author.Tests.{le-leb, eq-eqb, ne-eqb}
 use lib.ListN.{length}
-use Rattle.words.specs.Kinds.{Tuple, Struct, Fref, MemPtr, Mem, lastKind}
+use Rattle.words.specs.Kinds.{Int, Tuple, Struct, Fref, MemPtr, Mem, lastKind}
 use Rattle.words.specs.Words.{sizeOf, wordsAfter}
-use Rattle.words.specs.Table.{starts, Sized}
+use Rattle.words.specs.Table.{entries, starts, Sized}
 use Rattle.words.proofs.Sizes.{tuple-size, struct-size}
 use Rattle.wellformed.specs.Entry.{kind, depth, count, mostOf, deepestAllowed, every, namesIn, typesIn, isName, isType, isFlag, isAlias, isAliasFinal, takes, kindAt, all, deepest, floatOk, valuesOk, okEntry}
 use Rattle.wellformed.proofs.Bools.{and-left}
 use Rattle.call.specs.Handles.{word, headAround}
-use Rattle.call.specs.Keep.{Fitting}
+use Rattle.call.specs.Keep.{Ends, Fitting}
 use Rattle.makers.specs.Entries.{intEntry, floatEntry, tupleEntry, frefEntry, pointerEntry, memoryEntry, fieldCount, fieldNames, fieldTypes, fieldWords, ValuesFit, structEntry}
 use Rattle.makers.proofs.Fields.{every-shift, fields-length}
 use Rattle.kept.proofs.Columns.{every-all, names-apart, types-apart, values-apart}
@@ -63,9 +63,9 @@ module _ (u : List ℕ) (k n : ℕ) (names types : List ℕ) where
     pub depth-is : depth e ≡ d
     depth-is = head-depth k d n (omega (arith, p .high)) (omega (arith, p .flat))
 
-    pub around-fits : Sized e → namesIn e ≡ names → typesIn e ≡ types → valuesOk e ≡ true → Fitting u e
+    pub around-fits : (k ≡ Int → ⊥) → Sized e → namesIn e ≡ names → typesIn e ≡ types → valuesOk e ≡ true → Fitting u e
     unfolding okEntry
-    around-fits sized names-are types-are values =
+    around-fits no-int sized names-are types-are values =
         let no : (k ≡ 0 → ⊥) = λ z. absurd (omega (arith, p .low)) in
         let types-read = start-heads u types (p .typed .start) (takes k) in
         let names-read = start-heads u names (p .named .start) isName in
@@ -90,24 +90,25 @@ module _ (u : List ℕ) (k n : ℕ) (names types : List ℕ) where
                 eq-eqb d d refl,
                 le-leb d deepestAllowed (p .flat),
               );
+          ends = λ _ is. absurd (no-int (sym kind-is ∙ is));
         }
 
 -- ---- Int, Float and forward reference: entries without types
 
-pub int-fits : (u : List ℕ) (min max : ℕ) → Fitting u (intEntry min max)
+pub int-fits : (u : List ℕ) (min max : ℕ) → (Ends (entries u) → (min < 2 ^ 64) × (max < 2 ^ 64)) → Fitting u (intEntry min max)
 unfolding okEntry mostOf namesIn typesIn all deepest valuesOk sizeOf wordsAfter
-int-fits u min max = record { sized = refl; ok = refl }
+int-fits u min max small = record { sized = refl; ok = refl; ends = λ old _. small old }
 
 pub float-fits : (u : List ℕ) (size bits : ℕ) → floatOk size bits ≡ true → Fitting u (floatEntry size bits)
 unfolding okEntry mostOf namesIn typesIn all deepest valuesOk sizeOf wordsAfter
-float-fits u size bits ok = record { sized = refl; ok = ok }
+float-fits u size bits ok = record { sized = refl; ok = ok; ends = λ _ is. absurd (omega arith) }
 
 pub fref-fits : (u : List ℕ) (name : ℕ) → Right u isName (name ∷ []) → Fitting u (frefEntry name)
 unfolding mostOf namesIn typesIn deepest valuesOk sizeOf wordsAfter
 fref-fits u name r =
     around-fits u Fref 0 (name ∷ []) [] (name ∷ [])
     record { low = omega arith; high = omega arith; few = omega arith; flat = omega arith; named = r; typed = right-none u isType }
-    refl refl refl refl
+    (omega arith) refl refl refl refl
 
 -- ---- Tuple
 
@@ -125,7 +126,7 @@ module _ (types u : List ℕ) (p : Parts u Tuple (length types) [] types) where
       let head = headAround u Tuple n types in
       let k = kind-is u Tuple n [] types types p in
       let size : suc n ≡ sizeOf head = sym (tuple-size head k ∙ omega (arith, count-is u Tuple n [] types types p)) in
-      around-fits u Tuple n [] types types p size (rw k) tuple-types (rw k)
+      around-fits u Tuple n [] types types p (omega arith) size (rw k) tuple-types (rw k)
 
 -- ---- MemPtr and Mem: entries around one type
 
@@ -138,7 +139,7 @@ module _ (to nil : ℕ) (u : List ℕ) (p : Parts u MemPtr 0 [] (to ∷ [])) whe
   unfolding namesIn valuesOk sizeOf wordsAfter
   pointer-fits flag =
       let k = kind-is u MemPtr 0 [] (to ∷ []) (to ∷ nil ∷ []) p in
-      around-fits u MemPtr 0 [] (to ∷ []) (to ∷ nil ∷ []) p (rw k) (rw k) pointer-types (rw k flag)
+      around-fits u MemPtr 0 [] (to ∷ []) (to ∷ nil ∷ []) p (omega arith) (rw k) (rw k) pointer-types (rw k flag)
 
 module _ (alias t : ℕ) (u : List ℕ) (p : Parts u Mem 0 [] (t ∷ [])) where
   pub memory-types : typesIn (memoryEntry alias t u) ≡ t ∷ []
@@ -149,7 +150,7 @@ module _ (alias t : ℕ) (u : List ℕ) (p : Parts u Mem 0 [] (t ∷ [])) where
   unfolding namesIn valuesOk sizeOf wordsAfter
   memory-fits fits =
       let k = kind-is u Mem 0 [] (t ∷ []) (alias ∷ t ∷ []) p in
-      around-fits u Mem 0 [] (t ∷ []) (alias ∷ t ∷ []) p (rw k) (rw k) memory-types (rw k fits)
+      around-fits u Mem 0 [] (t ∷ []) (alias ∷ t ∷ []) p (omega arith) (rw k) (rw k) memory-types (rw k fits)
 
 -- ---- Struct
 
@@ -164,7 +165,7 @@ module _ (name : ℕ) (fs u : List ℕ) where
   StructParts = Parts u Struct n (name ∷ fieldNames fs) (fieldTypes fs)
 
   -- the fields' words stand behind the head and the name
-  behind : (j : ℕ) → every 3 n (suc (suc j)) (headAround u Struct n (fieldTypes fs) ∷ name ∷ words) ≡ every 3 n j words
+  pub behind : (j : ℕ) → every 3 n (suc (suc j)) (headAround u Struct n (fieldTypes fs) ∷ name ∷ words) ≡ every 3 n j words
   behind j = every-shift 3 n (suc j) (headAround u Struct n (fieldTypes fs)) (name ∷ words) ∙ every-shift 3 n j name words
 
   module _ (p : StructParts) where
@@ -182,7 +183,7 @@ module _ (name : ℕ) (fs u : List ℕ) where
         let k = kind-is u Struct n names (fieldTypes fs) (name ∷ words) p in
         let c = count-is u Struct n names (fieldTypes fs) (name ∷ words) p in
         let size : suc (suc (length words)) ≡ sizeOf head = sym (struct-size head k ∙ omega (arith, c, fields-length n 0 fs)) in
-        around-fits u Struct n names (fieldTypes fs) (name ∷ words) p size
+        around-fits u Struct n names (fieldTypes fs) (name ∷ words) p (omega arith) size
         (rw (k, c) (ap (λ (l : List ℕ). name ∷ l) (behind 0 ∙ names-apart fs n)))
         struct-types
         (rw (k, c) (ap (all isAliasFinal) (behind 2) ∙ values-apart fs n 0 (v .aliases) (v .finals)))

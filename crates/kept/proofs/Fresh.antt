@@ -1,13 +1,14 @@
--- The fresh words are document 01's entries, a fresh store of every length is well formed, and no two of its entries are equal. Assumes nothing.
+-- The fresh words are document 01's entries, a fresh store of every length is well formed, no two of its entries are equal, and the ends of
+-- its Ints are 64-bit words. Assumes nothing.
 use mathlib.Core.Path.{_≡_, refl, ap}
 use mathlib.Core.Bool.{Bool, true, false, _&&_}
 use mathlib.Core.Logic.{⊎-elim}
 use mathlib.Core.List.{List, [], _∷_, List·Memᴰ·not-nil, List·Memᴰ·cases-cons}
-use Prim.Native.Nat.{ℕ, zero, suc, _-_, _≤_}
+use Prim.Native.Nat.{ℕ, zero, suc, _-_, _^_, _≤_}
 use native.Mathlib.Omega.{arith}
-use borrow.Author.Tests.{eqb-true, le-leb}
-use lib.Dec.{eqb}
-use lib.ListN.{length, replicate, length-append, length-replicate}
+use borrow.Author.Tests.{eqb-true, ltb-true, le-leb}
+use lib.Dec.{eqb, ltb}
+use lib.ListN.{length, getD, replicate, length-append, length-replicate}
 use Rattle.words.specs.Words.{wordsAfter, sizeOf, fills, eqs}
 use Rattle.words.specs.Table.{Row, rows, entries, firstOf, In, Own}
 use Rattle.words.specs.declared.Found.{Found}
@@ -18,6 +19,7 @@ use Rattle.wellformed.specs.Entry.{mostOf, every, namesIn, typesIn, all, deepes
 use Rattle.wellformed.specs.Form.{allZero, headsAt, okRows, wellFormed, usedWords}
 use Rattle.wellformed.proofs.Before.{passes}
 use Rattle.wellformed.proofs.Bools.{and-left, and-right}
+use Rattle.call.specs.Keep.{Ends}
 use Rattle.names.specs.Name.{number, packed, nameEntry}
 use Rattle.makers.specs.Entries.{fieldWords}
 use Rattle.makers.specs.Makers.{freshStore, freshCall}
@@ -58,30 +60,49 @@ pub fresh-call : (ws : List ℕ) → 94 ≤ length ws → length ws ≤ 1048576 
 unfolding freshCall
 fresh-call ws low high = rw (le-leb _ _ low, le-leb _ _ high) (fresh-any (length ws) low high)
 
+-- ---- what a test says that each of its rows passes
+
+passed : (Row → Bool) → List Row → Bool
+passed t [] = true
+passed t (r ∷ rs) = t r && passed t rs
+
+each : (t : Row → Bool) (rs : List Row) → passed t rs ≡ true → (r : Row) → In r rs → t r ≡ true
+unfolding passed
+each t [] o r m = absurd (List·Memᴰ·not-nil m)
+each t (q ∷ rs) o r m =
+    ⊎-elim
+    (λ (e : r ≡ q). rw e (and-left (t q) (passed t rs) o))
+    (λ (i : In r rs). each t rs (and-right (t q) (passed t rs) o) r i)
+    (List·Memᴰ·cases-cons m)
+
 -- ---- no two of its entries are equal
 
 found : Found → ℕ → Bool
 found (At h) at = eqb h at
 found Nothing at = false
 
--- each of some rows is the first with its words
-owns : List Row → List Row → Bool
-owns rs [] = true
-owns rs (r ∷ ss) = found (firstOf rs (r .words)) (r .at) && owns rs ss
-
-owns-each : (rs ss : List Row) → owns rs ss ≡ true → (r : Row) → In r ss → firstOf rs (r .words) ≡ At (r .at)
-unfolding owns found
-owns-each rs [] o r m = absurd (List·Memᴰ·not-nil m)
-owns-each rs (q ∷ ss) o r m =
-    ⊎-elim
-    (λ (e : r ≡ q). rw e (go (firstOf rs (q .words)) (and-left (found (firstOf rs (q .words)) (q .at)) (owns rs ss) o)))
-    (λ (i : In r ss). owns-each rs ss (and-right (found (firstOf rs (q .words)) (q .at)) (owns rs ss) o) r i)
-    (List·Memᴰ·cases-cons m)
-  where
-    go : (f : Found) → found f (q .at) ≡ true → f ≡ At (q .at)
-    go (At h) e = ap At (eqb-true h (q .at) e)
-    go Nothing e = let z : _≡_ {A = ℕ} 0 1 = cc in absurd (omega arith)
+-- the row is the first with its words
+isOwn : Row → Bool
+isOwn r = found (firstOf (entries freshUsed) (r .words)) (r .at)
 
 pub fresh-own : (n : ℕ) → Own (entries (usedWords (freshStore n)))
-unfolding owns found firstOf eqs entries rows sizeOf wordsAfter freshWords
-fresh-own n = owns-each (entries freshUsed) (entries freshUsed) refl
+unfolding passed isOwn found firstOf eqs entries rows sizeOf wordsAfter freshWords
+fresh-own n r m = go (firstOf (entries freshUsed) (r .words)) (each isOwn (entries freshUsed) refl r m)
+  where
+    go : (f : Found) → found f (r .at) ≡ true → f ≡ At (r .at)
+    go (At h) e = ap At (eqb-true h (r .at) e)
+    go Nothing e = let z : _≡_ {A = ℕ} 0 1 = cc in absurd (omega arith)
+
+-- ---- the ends of its Ints are 64-bit words
+
+-- the second and third words of the row are, whatever its kind
+isSmall : Row → Bool
+isSmall r = ltb (getD (r .words) 1 0) (2 ^ 64) && ltb (getD (r .words) 2 0) (2 ^ 64)
+
+pub fresh-ends : (n : ℕ) → Ends (entries (usedWords (freshStore n)))
+unfolding passed isSmall entries rows sizeOf wordsAfter freshWords
+fresh-ends n r m is =
+    let a = ltb (getD (r .words) 1 0) (2 ^ 64) in
+    let b = ltb (getD (r .words) 2 0) (2 ^ 64) in
+    let small : (a && b) ≡ true = each isSmall (entries freshUsed) refl r m in
+    (ltb-true (getD (r .words) 1 0) (2 ^ 64) (and-left a b small), ltb-true (getD (r .words) 2 0) (2 ^ 64) (and-right a b small))

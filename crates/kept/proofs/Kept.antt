@@ -2,7 +2,7 @@
 use mathlib.Core.Path.{_≡_, refl}
 use mathlib.Core.Bool.{true, not}
 use mathlib.Core.List.{List}
-use Prim.Native.Nat.{ℕ, _<_}
+use Prim.Native.Nat.{ℕ, _^_, _<_}
 use native.Mathlib.Omega.{arith}
 use borrow.Author.Tests.{ltb-false, not-false}
 use lib.Dec.{ltb}
@@ -34,8 +34,9 @@ module _ (rows : List ℕ → ℕ) (entry : List ℕ → List ℕ) (fits : (u : 
       let u = usedWords ws in
       call-keeps rows (λ v. make v (entry v)) ws ok (λ s q. make-adds u (entry u) s (fits u q))
 
-pub int-keeps : (min max : ℕ) (ws : List ℕ) → wellFormed ws ≡ true → Keeps ws (makeIntCall min max ws)
-int-keeps min max = maker-keeps (λ u. 0) (λ u. intEntry min max) (λ u q. int-fits u min max)
+-- the ends of an Int are 64-bit words
+pub int-keeps : (min max : ℕ) → min < 2 ^ 64 → max < 2 ^ 64 → (ws : List ℕ) → wellFormed ws ≡ true → Keeps ws (makeIntCall min max ws)
+int-keeps min max low high = maker-keeps (λ u. 0) (λ u. intEntry min max) (λ u q. int-fits u min max (λ _. (low, high)))
 
 pub float-keeps : (sz bits : ℕ) (ws : List ℕ) → wellFormed ws ≡ true → Keeps ws (makeFloatCall sz bits ws)
 float-keeps sz bits =

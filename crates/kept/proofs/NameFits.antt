@@ -64,4 +64,4 @@ unfolding okEntry mostOf namesIn typesIn all valuesOk
 name-fits heads bs few small = rw (is-name bs, is-flat bs, counts bs, le-leb _ 255 few, filled bs small)
 
 pub name-fitting : (u bs : List ℕ) → length bs ≤ 255 → ((i : ℕ) → getD bs i 0 < 256) → Fitting u (nameEntry bs)
-name-fitting u bs few small = record { sized = name-sized bs; ok = name-fits (headsAt (starts u) u) bs few small }
+name-fitting u bs few small = record { sized = name-sized bs; ok = name-fits (headsAt (starts u) u) bs few small; ends = λ _ is. absurd (omega (arith, is-name bs)) }

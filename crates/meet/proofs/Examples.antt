@@ -6,7 +6,7 @@ use Prim.Native.Nat.{ℕ, _^_}
 use lib.Ieee.{fits, ofBits, isNan}
 use Rattle.words.specs.Words.{wordsAfter, sizeOf, eqs}
 use Rattle.words.specs.Table.{rows, entries, firstOf, findIn}
-use Rattle.words.specs.Made.{make}
+use Rattle.words.specs.Made.{there, make}
 use Rattle.wellformed.specs.Fresh.{freshWords}
 use Rattle.wellformed.specs.Entry.{every, deepest}
 use Rattle.float_meet.specs.FloatRule.{floatRule}
@@ -15,7 +15,7 @@ use Rattle.meet_rules.specs.Names.{sameWords, sameFields}
 use Rattle.meet_rules.specs.Rules.{pairRule, ruleFor, namedRule, structRule}
 use Rattle.structs.specs.Remade.{fieldsWith, remake}
 use Rattle.meet_fields.specs.Fields.{eitherFinal, meetFields}
-use Rattle.meet.specs.Meet.{there, meetEach, followStruct, meetStruct, follow, meet, meetOf, isaOf}
+use Rattle.meet.specs.Meet.{meetEach, followStruct, meetStruct, follow, meet, meetOf, isaOf}
 
 abbrev fresh : List ℕ
 fresh = 94 ∷ freshWords

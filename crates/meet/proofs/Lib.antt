@@ -2,5 +2,6 @@ pub mod Grows
 pub mod Examples
 pub mod Made
 pub mod Nice
+pub mod InTurn
 pub mod Loop
 pub mod Ways

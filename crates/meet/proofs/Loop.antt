@@ -1,59 +1,51 @@
 -- The loop that meets parts one after another, for tuples and for structs. Assumes nothing.
-use mathlib.Core.Path.{_≡_, ap, _∙_}
-use mathlib.Core.Bool.{true}
-use mathlib.Core.List.{List, [], _∷_, _++_, append-nil}
+use mathlib.Core.Path.{_≡_, _∙_}
+use mathlib.Core.List.{List, _++_}
 use Prim.Native.Nat.{ℕ, _+_, _-_, _*_, _≤_, _<_, max}
 use native.Mathlib.Omega.{arith}
-use native.Mathlib.Numerals.{add-one}
-use lib.ListN.{length, take, drop, getD, set}
-use lib.Seq.{take-suc-set, append-snoc}
-use Rattle.words.specs.Words.{fills}
+use lib.ListN.{length, take, getD, set}
 use Rattle.words.specs.Made.{Grown, Segments, Ran}
 use Rattle.words.specs.declared.Interned.{Interned}
 use Rattle.words.specs.declared.Interned.the-variants.{At, Full}
-use Rattle.words.proofs.Extend.{Extends, ext-then}
+use Rattle.words.proofs.Extend.{Extends}
 use Rattle.wellformed.specs.Entry.{every}
+use Rattle.call.specs.Handles.{word}
 use Rattle.parts.specs.Parts.{Part, All, Ready}
-use Rattle.parts.proofs.Good.{part-weak, good-adds, part-adds}
-use Rattle.parts.proofs.Left.{every-zero, every-next}
-use Rattle.parts.proofs.Grew.{Grew, grew-none, grew-long, grew-up, grew-high, grew-kept, grew-ran, grew-words, grew-more, grew-stop, grew-segments}
-use Rattle.meet.specs.Meet.{Many, led, meetEach, meet, Met}
+use Rattle.parts.proofs.Good.{good-adds}
+use Rattle.parts.proofs.Left.{every-zero, every-next, every-at}
+use Rattle.parts.proofs.Grew.{grew-kept}
+use Rattle.meet.specs.Meet.{Many, meetEach, meet, Met}
 use Rattle.meet.proofs.Grows.{meet-grows, each-grows}
 use Rattle.meet.proofs.Nice.{meet-nice}
+use Rattle.meet.proofs.InTurn.{Sequence, InTurn, turn-begin, turn-part, turn-ready, turn-stop, turn-on, turn-end, turn-segments}
 
--- handles before those of others
-abbrev pub joined : List ℕ → Many → Many
-joined acc m = record { words = m .words; handles = acc ++ m .handles }
+-- n parts of one entry with n of another, s words apart from p and q on
+pub pairs : (s n p q : ℕ) (u : List ℕ) → Sequence n
+unfolding meetEach every
+pairs s n p q u = record {
+  step = λ k i w. meet k w (word u (p + s * i)) (word u (q + s * i));
+  rest = λ k i w. meetEach (meet k) w (every s (n - i) (p + s * i) u) (every s (n - i) (q + s * i) u);
+  next = λ k i w more. rw (every-next s n p i u more, every-next s n q i u more);
+  last = λ k w. let z : n - n ≡ 0 = omega arith in rw z;
+  step-grows = λ k i w. meet-grows k w (word u (p + s * i)) (word u (q + s * i));
+  rest-grows = λ k i w. each-grows (meet k) (meet-grows k) w (every s (n - i) (p + s * i) u) (every s (n - i) (q + s * i) u);
+}
 
--- after i of n parts, s words apart from p₀ and q₀ on: what is left gives what all of them give
+-- after i of n parts
 pub record Going (s : ℕ) (old new : List ℕ) (used a b n p₀ q₀ : ℕ) (now parts : List ℕ) (v i : ℕ) : Type 0 where
-  pub over : length old ≤ used
-  pub small : length old + length new ≤ 1048576
-  pub cut : fills 0 (drop 1 old) ≡ true
-  pub grew : Grew old new used now v
+  pub turn : InTurn (pairs s n p₀ q₀ (take used (old ++ new))) (max a b) old new used now parts v i
   pub inside : (a < used) × (b < used)
-  pub first : All (Part (take used (old ++ new)) a 33 1 11) (every s (n - i) (p₀ + s * i) (take used (old ++ new)))
-  pub second : All (Part (take used (old ++ new)) b 33 1 11) (every s (n - i) (q₀ + s * i) (take used (old ++ new)))
-  pub is : (k : ℕ) → a ≤ k → b ≤ k → meetEach (meet k) (take used (old ++ new)) (every s n p₀ (take used (old ++ new))) (every s n q₀ (take used (old ++ new))) ≡ joined (take i parts) (meetEach (meet k) (take v (old ++ now)) (every s (n - i) (p₀ + s * i) (take used (old ++ new))) (every s (n - i) (q₀ + s * i) (take used (old ++ new))))
+  pub first : All (Part (take used (old ++ new)) a 33 1 11) (every s n p₀ (take used (old ++ new)))
+  pub second : All (Part (take used (old ++ new)) b 33 1 11) (every s n q₀ (take used (old ++ new)))
 
 pub going-begin : (s : ℕ) (old new : List ℕ) (used a b n p₀ q₀ : ℕ) (parts : List ℕ) {low high : ℕ} → Ready old new used low high a b
     → All (Part (take used (old ++ new)) a 33 1 11) (every s n p₀ (take used (old ++ new))) → All (Part (take used (old ++ new)) b 33 1 11) (every s n q₀ (take used (old ++ new))) → Going s old new used a b n p₀ q₀ new parts used 0
-going-begin s old new used a b n p₀ q₀ parts rd pa pb =
-    let x = every-zero s n p₀ (take used (old ++ new)) in
-    let y = every-zero s n q₀ (take used (old ++ new)) in
-    record {
-      over = rd .over;
-      small = rd .small;
-      cut = rd .cut;
-      grew = grew-none (rd .good) (rd .within);
-      inside = (rd .near, rd .next);
-      first = rw x pa;
-      second = rw y pb;
-      is = λ k ka kb. rw (x, y);
-    }
-
-abbrev pub others : ℕ → ℕ → ℕ → ℕ → List ℕ → List ℕ
-others s n p i u = every s (n - (i + 1)) (p + s * (i + 1)) u
+going-begin s old new used a b n p₀ q₀ parts rd pa pb = record {
+  turn = turn-begin (pairs s n p₀ q₀ (take used (old ++ new))) (max a b) parts (omega (arith, rd .near)) (rd .over) (rd .within) (rd .small) (rd .cut) (rd .good);
+  inside = (rd .near, rd .next);
+  first = pa;
+  second = pb;
+}
 
 module _ {s : ℕ} {old new : List ℕ} {used a b n p₀ q₀ : ℕ} {now parts : List ℕ} {v i : ℕ} (J : Going s old new used a b n p₀ q₀ now parts v i) where
   abbrev w₀ : List ℕ
@@ -65,99 +57,57 @@ module _ {s : ℕ} {old new : List ℕ} {used a b n p₀ q₀ : ℕ} {now parts 
   abbrev every-part : (k : ℕ) → Many
   every-part k = meetEach (meet k) w₀ (every s n p₀ w₀) (every s n q₀ w₀)
 
+  whole : (k : ℕ) → pairs s n p₀ q₀ w₀ .rest k 0 w₀ ≡ every-part k
+  unfolding pairs
+  whole k = rw (every-zero s n p₀ w₀, every-zero s n q₀ w₀)
+
   -- the part that is next
   module _ (more : i < n) (p q x y : ℕ) (ep : p ≡ p₀ + s * i) (eq : q ≡ q₀ + s * i) (ex : x ≡ getD (take used (old ++ now)) p 0) (ey : y ≡ getD (take used (old ++ now)) q 0) where
-    is-x : every s (n - i) (p₀ + s * i) w₀ ≡ x ∷ others s n p₀ i w₀
-    is-x = every-next s n p₀ i w₀ more ∙ rw (ex, grew-kept (J .grew), ep)
+    is-x : x ≡ word w₀ (p₀ + s * i)
+    is-x = ex ∙ rw (grew-kept (J .turn .grew), ep)
 
-    is-y : every s (n - i) (q₀ + s * i) w₀ ≡ y ∷ others s n q₀ i w₀
-    is-y = every-next s n q₀ i w₀ more ∙ rw (ey, grew-kept (J .grew), eq)
+    is-y : y ≡ word w₀ (q₀ + s * i)
+    is-y = ey ∙ rw (grew-kept (J .turn .grew), eq)
 
-    firsts : Part w₀ a 33 1 11 x × All (Part w₀ a 33 1 11) (others s n p₀ i w₀)
-    firsts = rw is-x at (J .first)
+    part-x : Part w₀ a 33 1 11 x
+    part-x = rw is-x (every-at (Part w₀ a 33 1 11) s n p₀ w₀ (J .first) i more)
 
-    seconds : Part w₀ b 33 1 11 y × All (Part w₀ b 33 1 11) (others s n q₀ i w₀)
-    seconds = rw is-y at (J .second)
+    part-y : Part w₀ b 33 1 11 y
+    part-y = rw is-y (every-at (Part w₀ b 33 1 11) s n q₀ w₀ (J .second) i more)
 
     pub going-first : x < a
-    going-first = firsts .0 .earlier
+    going-first = part-x .earlier
 
     pub going-second : y < b
-    going-second = seconds .0 .earlier
-
-    -- below k, where a and b are at most k
-    part-x : (k : ℕ) → a ≤ k → Part w k 33 1 11 x
-    part-x k h = part-weak k 33 h (omega arith) (part-adds (J .grew .start) (J .grew .adds) (firsts .0))
-
-    part-y : (k : ℕ) → b ≤ k → Part w k 33 1 11 y
-    part-y k h = part-weak k 33 h (omega arith) (part-adds (J .grew .start) (J .grew .adds) (seconds .0))
+    going-second = part-y .earlier
 
     pub going-ready : Ready old now v 1 11 x y
     going-ready =
-        let up = grew-up (J .grew) in
-        let long = grew-long (J .grew) in
-        record {
-          over = omega (arith, J .over);
-          within = omega (arith, grew-high (J .grew));
-          small = omega (arith, J .small);
-          cut = J .cut;
-          near = omega (arith, going-first, J .inside .0);
-          next = omega (arith, going-second, J .inside .1);
-          good = good-adds (J .grew .start) (J .grew .adds);
-          first = part-x v (omega (arith, J .inside .0));
-          second = part-y v (omega (arith, J .inside .1));
-        }
+        let rx = turn-ready (J .turn) (J .inside .0) part-x in
+        let ry = turn-ready (J .turn) (J .inside .1) part-y in
+        record { over = rx .over; within = rx .within; small = rx .small; cut = rx .cut; near = rx .near; next = ry .near; good = rx .good; first = rx .first; second = ry .first }
 
     -- what the part's call left
     module _ {now′ : List ℕ} {r : Interned} (met : Met old now v x y now′ r) where
-      told : (k : ℕ) → a ≤ k → b ≤ k → Ran v (meet k w x y) (old ++ now) (old ++ now′) r
-      told k ka kb = met .is k (omega (arith, going-first)) (omega (arith, going-second))
-
-      unrolled : (k : ℕ) → a ≤ k → b ≤ k → every-part k ≡ joined (take i parts) (led (meet k w x y .handle) (meetEach (meet k) (meet k w x y .words) (others s n p₀ i w₀) (others s n q₀ i w₀)))
-      unfolding meetEach
-      unrolled k ka kb = J .is k ka kb ∙ rw (is-x, is-y)
+      told : (k : ℕ) → max a b ≤ k → Ran v (pairs s n p₀ q₀ w₀ .step k i w) (old ++ now) (old ++ now′) r
+      unfolding pairs
+      told k l = rw (is-x, is-y) at (met .is k (omega (arith, going-first)) (omega (arith, going-second)))
 
       pub going-stop : r ≡ Full → (F : Many → Grown) → ((m : Many) → Extends (m .words) (F m .words)) → (k : ℕ) → a ≤ k → b ≤ k → Ran used (F (every-part k)) (old ++ new) (old ++ now′) Full
-      going-stop f F grows k ka kb =
-          let m = meet k w x y in
-          let rest = meetEach (meet k) (m .words) (others s n p₀ i w₀) (others s n q₀ i w₀) in
-          let e : every-part k .words ≡ rest .words = ap (λ (z : Many). z .words) (unrolled k ka kb) in
-          let x₁ : Extends (m .words) (every-part k .words) = rw e (each-grows (meet k) (meet-grows k) (m .words) (others s n p₀ i w₀) (others s n q₀ i w₀)) in
-          grew-stop (J .grew) m now′ r (meet-grows k w x y) (told k ka kb) f (F (every-part k))
-          (ext-then (m .words) (every-part k .words) (F (every-part k) .words) x₁ (grows (every-part k)))
+      going-stop f F grows k ka kb = rw (whole k) at (turn-stop (J .turn) more now′ r told f F grows k (omega arith))
 
       pub going-turn : (h v′ : ℕ) → r ≡ At h v′ → i < length parts → Going s old new used a b n p₀ q₀ now′ (set parts i h) v′ (i + 1)
+      unfolding pairs
       going-turn h v′ f l =
-          let k₀ = max a b in
-          let res = meet-nice k₀ w x y 33 (good-adds (J .grew .start) (J .grew .adds)) (part-x k₀ (omega arith)) (part-y k₀ (omega arith)) in
-          record {
-            over = J .over;
-            small = J .small;
-            cut = J .cut;
-            grew = grew-more (J .grew) (meet k₀ w x y) now′ r (meet-grows k₀ w x y) (told k₀ (omega arith) (omega arith)) h v′ f (res .adds);
-            inside = J .inside;
-            first = firsts .1;
-            second = seconds .1;
-            is = λ k ka kb.
-                let sk = grew-words (J .grew) (meet k w x y) now′ r (meet-grows k w x y) (told k ka kb) h v′ f in
-                let tk : take (i + 1) (set parts i h) ≡ take i parts ++ (h ∷ []) = rw (add-one i) (take-suc-set parts i h l) in
-                let rest = meetEach (meet k) (take v′ (old ++ now′)) (others s n p₀ i w₀) (others s n q₀ i w₀) in
-                let c : joined (take i parts) (led h rest) ≡ joined (take i parts ++ (h ∷ [])) rest = cc (append-snoc (take i parts) h (rest .handles)) in
-                unrolled k ka kb ∙ rw (tk, ← sk .1, ← sk .0) c;
-          }
+          let k = max a b in
+          let res = meet-nice k w x y 33 (good-adds (J .turn .grew .start) (J .turn .grew .adds)) (turn-part (J .turn) k (omega arith) part-x) (turn-part (J .turn) k (omega arith) part-y) in
+          record { turn = turn-on (J .turn) more now′ r told (rw (is-x, is-y) at (res .adds)) h v′ f l; inside = J .inside; first = J .first; second = J .second }
 
   -- the last part is done
   pub going-end : n ≤ i → i ≤ n → (F : Many → Grown) → ((m : Many) → Extends (m .words) (F m .words)) → (now′ : List ℕ) (r : Interned) → Ran v (F (record { words = w; handles = take n parts })) (old ++ now) (old ++ now′) r → (k : ℕ) → a ≤ k → b ≤ k
       → Ran used (F (every-part k)) (old ++ new) (old ++ now′) r
-  unfolding meetEach every
-  going-end lo hi F grows now′ r t k ka kb =
-      let z : n - i ≡ 0 = omega arith in
-      let e : i ≡ n = omega arith in
-      let all : every-part k ≡ record { words = w; handles = take i parts ++ [] } = J .is k ka kb ∙ rw z in
-      let last : Many = record { words = w; handles = take n parts } in
-      let q : every-part k ≡ last = all ∙ rw (append-nil (take i parts), e) in
-      rw q (grew-ran (J .grew) (F last) now′ r (grows last) t)
+  going-end lo hi F grows now′ r t k ka kb = rw (whole k) at (turn-end (J .turn) lo hi F grows now′ r t k (omega arith))
 
   -- what the maker at the loop's end requires
   pub going-segments : Segments old now v
-  going-segments = grew-segments (J .grew) (omega (arith, J .inside .0)) (J .over) (J .cut)
+  going-segments = turn-segments (J .turn)

@@ -90,7 +90,7 @@ module _ {u w : List ℕ} {h₀ : ℕ} (from : Adds u (record { words = w; handl
       are-types : fieldTypes fs ≡ hs
       are-types = with-types w (a + 2) hs finals same
 
-      struct-parts : StructParts name fs w
+      pub struct-parts : StructParts name fs w
       unfolding mostOf
       struct-parts = record {
         low = omega arith;
@@ -116,7 +116,7 @@ module _ {u w : List ℕ} {h₀ : ℕ} (from : Adds u (record { words = w; handl
           (omega (arith, depth-is w Struct c ns (fieldTypes fs) rest p, low, t))
 
   -- around one type
-  one : (j low high t : ℕ) → 1 ≤ j → j ≤ 11 → Part w k d low high t → takes j ≡ kindIn low high → Parts w j 0 [] (t ∷ [])
+  pub one : (j low high t : ℕ) → 1 ≤ j → j ≤ 11 → Part w k d low high t → takes j ≡ kindIn low high → Parts w j 0 [] (t ∷ [])
   one j low high t a b p q =
       record { low = a; high = b; few = omega arith; flat = omega (arith, deep-below w k d low high (t ∷ []) o (p, tt)); named = right-none w isName; typed = rw q (parts-right w k d low high (t ∷ []) (p, tt)) }
 

@@ -3,35 +3,36 @@ use mathlib.Core.Path.{_≡_, refl, sym, ap, _∙_}
 use mathlib.Core.Bool.{Bool, true, false, cond}
 use mathlib.Core.Logic.{_⊎_, inl, inr, ⊎-elim}
 use mathlib.Core.List.{List, [], _∷_}
-use Prim.Native.Nat.{ℕ, zero, suc, _+_, _≤_, max}
+use Prim.Native.Nat.{ℕ, zero, suc, _+_, _^_, _≤_, _<_, max}
 use native.Mathlib.Omega.{arith}
 use borrow.Author.Tests.{le-leb, leb-true}
 use lib.Dec.{eqb}
 use lib.ListN.{length}
-use Rattle.words.specs.Made.{Grown}
+use Rattle.words.specs.Made.{Grown, there}
 use Rattle.words.specs.Words.{kindOf, countOf}
+use Rattle.words.specs.Table.{entries}
 use Rattle.wellformed.specs.Entry.{every, isFlag, isAlias}
 use Rattle.call.specs.Handles.{word, kindOn, depthOn, countOn}
-use Rattle.call.specs.Keep.{Adds}
+use Rattle.call.specs.Keep.{Ends, Adds}
 use Rattle.call.proofs.Sound.{adds-none, adds-then}
-use Rattle.type_integer.specs.Signed.{smaller, larger}
+use Rattle.type_integer.specs.Signed.{less, smaller, larger}
 use Rattle.float_meet.specs.FloatRule.{floatRule}
 use Rattle.float_meet.specs.declared.FloatMeet.{FloatMeet}
 use Rattle.float_meet.specs.declared.FloatMeet.the-variants as FloatMeet-variants
 use Rattle.makers.specs.Entries.{intEntry}
 use Rattle.kept.proofs.Fits.{int-fits}
 use Rattle.parts.specs.Parts.{Good, Part, All}
-use Rattle.parts.proofs.Parts.{few, flat, deep, of-tuple, of-struct, of-pointer, of-memory, all-map}
+use Rattle.parts.proofs.Parts.{few, flat, deep, of-tuple, of-struct, of-pointer, of-memory, of-int, all-map}
 use Rattle.parts.proofs.Good.{bot-part, struct-bot-part, float-b32-part, float-bot-part, part-weak, part-used, adds-long, adds-word, good-adds, part-adds, Answers, old-answers, make-answers, Late, Any}
 use Rattle.meet_rules.specs.Rules.{typeRule, structRule, readingOn, floatHandle, sharedAlias}
 use Rattle.meet_rules.specs.declared.Rule.{Rule}
 use Rattle.meet_rules.specs.declared.Rule.the-variants.{First, Second, Bottom, Ints, Floats, Tuples, Structs, Pointers, Memories}
 use Rattle.meet_rules.specs.declared.StructRule.{StructRule}
 use Rattle.meet_rules.specs.declared.StructRule.the-variants.{Former, Latter, Lowest, Fields}
-use Rattle.meet_rules.proofs.Sure.{sure-tuples, sure-structs, sure-pointers, sure-memories, sure-fields}
+use Rattle.meet_rules.proofs.Sure.{chosen, sure-ints, sure-tuples, sure-structs, sure-pointers, sure-memories, sure-fields}
 use Rattle.meet_fields.specs.Fields.{eitherFinal, flagsOn, meetFields}
 use Rattle.meet_fields.proofs.Finals.{every-length, either-length, either-flags}
-use Rattle.meet.specs.Meet.{Op, there, Many, meetEach, elements, types, followStruct, meetStruct, eitherNil, follow, meet}
+use Rattle.meet.specs.Meet.{Op, Many, meetEach, elements, types, followStruct, meetStruct, eitherNil, follow, meet}
 use Rattle.meet.proofs.Made.{tuple-answers, struct-answers, pointer-answers, memory-answers, answer-late}
 
 -- an operation that gives good answers on handles below k
@@ -63,6 +64,16 @@ shared-fits x y e = go (eqb x y)
 -- one of two flags is a flag
 either-fits : (x y : ℕ) → isFlag x ≡ true → isFlag y ≡ true → isFlag (max x y) ≡ true
 either-fits x y a b = le-leb (max x y) 1 (omega (arith, leb-true x 1 a, leb-true y 1 b))
+
+-- the ends of two Ints' meet are ends of theirs
+pub int-ends : (u : List ℕ) (k a b d : ℕ) → Good u → Part u k d 1 11 a → Part u k d 1 11 b → (kindOn u a ≡ 5) × (kindOn u b ≡ 5) → Ends (entries u)
+    → (smaller (word u (a + 1)) (word u (b + 1)) < 2 ^ 64) × (larger (word u (a + 2)) (word u (b + 2)) < 2 ^ 64)
+int-ends u k a b d g pa pb is ends =
+    let x = of-int (g .sound) pa (is .0) ends in
+    let y = of-int (g .sound) pb (is .1) ends in (
+      chosen (λ w. w < 2 ^ 64) (less (word u (b + 1)) (word u (a + 1))) (λ _. y .0) (x .0),
+      chosen (λ w. w < 2 ^ 64) (less (word u (a + 2)) (word u (b + 2))) (λ _. y .1) (x .1),
+    )
 
 -- the answer of two floats is an operand, or a fresh type
 float-answers : (u : List ℕ) (k a b d : ℕ) → Good u → Part u k d 1 11 a → Part u k d 1 11 b → (m : FloatMeet) → Answers u d 1 11 (there u (floatHandle a b m))
@@ -148,7 +159,7 @@ module _ (op : Op) (k : ℕ) (nice : Nice 1 11 k op) where
   follow-nice u a b d g pa pb Ints q =
       let x = smaller (word u (a + 1)) (word u (b + 1)) in
       let y = larger (word u (a + 2)) (word u (b + 2)) in
-      make-answers d 1 11 (adds-none u 0 (g .sound)) g (intEntry x y) (int-fits u x y) (inl refl) (omega arith) (omega arith) (omega (arith, deep (g .sound) pa (omega arith), pa .shallow))
+      make-answers d 1 11 (adds-none u 0 (g .sound)) g (intEntry x y) (int-fits u x y (int-ends u (suc k) a b d g pa pb (sure-ints u a b q))) (inl refl) (omega arith) (omega arith) (omega (arith, deep (g .sound) pa (omega arith), pa .shallow))
   follow-nice u a b d g pa pb Floats q = float-answers u (suc k) a b d g pa pb (floatRule (readingOn u a) (readingOn u b))
   follow-nice u a b d g pa pb Tuples q =
       let s = sure-tuples u a b q in

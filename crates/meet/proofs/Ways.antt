@@ -1,5 +1,5 @@
 -- Each way through the two functions gives what the definition gives. Assumes nothing.
-use mathlib.Core.Path.{_≡_, refl, sym, ap, _∙_}
+use mathlib.Core.Path.{_≡_, refl, sym, _∙_}
 use mathlib.Core.Bool.{Bool, true, false}
 use mathlib.Core.List.{List, [], _∷_, _++_}
 use Prim.Native.Nat.{ℕ, zero, suc, _+_, _-_, _*_, _/_, _≤_, _<_, max}
@@ -7,8 +7,7 @@ use native.Mathlib.Omega.{arith}
 use borrow.Author.Tests.{lt-ltb, eqb-true, eqb-false}
 use lib.Dec.{eqb, ltb}
 use lib.ListN.{length, take, getD, set}
-use Rattle.words.specs.Words.{kindOf, countOf}
-use Rattle.words.specs.Made.{Grown, make, Segments, Ran, Runs}
+use Rattle.words.specs.Made.{Grown, there, make, Segments, Ran, Runs}
 use Rattle.words.specs.declared.Interned.{Interned}
 use Rattle.words.specs.declared.Interned.the-variants.{At, Full}
 use Rattle.words.proofs.Extend.{Extends}
@@ -22,7 +21,7 @@ use Rattle.makers.proofs.FloatSize.{size-word}
 use Rattle.float_meet.specs.FloatRule.{floatRule}
 use Rattle.parts.specs.Parts.{Good, Part, Name, All, Ready}
 use Rattle.parts.proofs.Parts.{few, flat, no-fields, of-tuple, of-struct, of-fref, of-pointer, of-memory, of-float, all-map}
-use Rattle.parts.proofs.Good.{part-weak, part-adds, adds-word, part-used}
+use Rattle.parts.proofs.Good.{part-weak}
 use Rattle.meet_rules.specs.Names.{NamesBelow}
 use Rattle.meet_rules.specs.Rules.{typeRule, structRule, readingOn, floatHandle, sharedAlias}
 use Rattle.meet_rules.specs.declared.Rule.{Rule}
@@ -31,10 +30,10 @@ use Rattle.meet_rules.specs.declared.StructRule.{StructRule}
 use Rattle.meet_rules.specs.declared.StructRule.the-variants.{Former, Latter, Lowest, Fields}
 use Rattle.meet_rules.proofs.Sure.{sure-tuples, sure-structs, sure-pointers, sure-memories, sure-floats, sure-fields}
 use Rattle.meet_fields.specs.Fields.{flagsOn, meetFields}
-use Rattle.meet.specs.Meet.{there, tupleOf, types, structOf, followStruct, meetStruct, eitherNil, pointerOf, memoryOf, meetInt, follow, meet, Met, MetStruct}
+use Rattle.meet.specs.Meet.{tupleOf, types, structOf, followStruct, meetStruct, eitherNil, pointerOf, memoryOf, meetInt, follow, meet, Met, MetStruct}
 use Rattle.meet.proofs.Grows.{meet-grows, tuple-grows, struct-grows, pointer-grows, memory-grows, structs-grow}
 use Rattle.meet.proofs.Nice.{meet-nice, structs-nice, narrow}
-use Rattle.parts.proofs.Grew.{Grew, grew-none, grew-there, grew-more, grew-stop, grew-segments, then-made}
+use Rattle.parts.proofs.Grew.{Grew, grew-none, grew-there, grew-more, grew-stop, grew-segments, grew-values, then-made}
 use Rattle.meet.proofs.Loop.{Going, going-begin, going-first, going-second, going-ready, going-stop, going-turn, going-end}
 
 -- an answer that is there already
@@ -331,12 +330,7 @@ module _ (old new : List ℕ) (used a b : ℕ) (rd : Ready old new used 8 9 a b)
 
           -- the aliases of a are still there
           pub struct-values : all isAliasFinal (flagsOn (take v (old ++ now)) (x / 65536) a) ≡ true
-          struct-values =
-              let g = J .grew in
-              let head : word (take v (old ++ now)) a ≡ word w a = adds-word (g .start) (g .adds) a (part-used (g .start) (rd .first)) in
-              let s = of-struct (g .adds .sound) (part-adds (g .start) (g .adds) (rd .first)) (ap kindOf head ∙ sure-structures .0) in
-              let n : x / 65536 ≡ countOn (take v (old ++ now)) a = ap countOf (ex ∙ sym head) in
-              rw n (s .values)
+          struct-values = grew-values (J .turn .grew) (rd .first) (sure-structures .0) x ex
 
 -- the next field of a struct
 module _ (old new : List ℕ) (used a b n : ℕ) (now parts : List ℕ) (v i : ℕ) (J : Going 3 old new used a b n (a + 3) (b + 3) now parts v i) (more : i < n) (p q : ℕ) (ep : p ≡ getD (take used (old ++ now)) (a + 3 + 3 * i) 0) (eq : q ≡ getD (take used (old ++ now)) (b + 3 + 3 * i) 0) where

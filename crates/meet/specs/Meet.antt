@@ -4,7 +4,7 @@ use mathlib.Core.Bool.{Bool}
 use mathlib.Core.List.{List, [], _∷_}
 use Prim.Native.Nat.{ℕ, zero, suc, _+_, _<_, _≤_, max}
 use lib.Dec.{eqb}
-use Rattle.words.specs.Made.{Grown, make, Runs}
+use Rattle.words.specs.Made.{Grown, there, make, Runs}
 use Rattle.words.specs.declared.Interned.{Interned}
 use Rattle.wellformed.specs.Entry.{every}
 use Rattle.call.specs.Handles.{word, countOn}
@@ -22,10 +22,6 @@ use Rattle.meet_fields.specs.Fields.{meetFields}
 -- an operation on two handles
 abbrev pub Op : Type 0
 Op = List ℕ → ℕ → ℕ → Grown
-
--- an answer that is there already
-abbrev pub there : List ℕ → ℕ → Grown
-there u h = record { words = u; handle = h }
 
 -- ---- parts, one after another: the used words then, and the handles
 

@@ -18,7 +18,7 @@ use Rattle.meet_rules.specs.declared.StructRule.the-variants.{Former, La
 
 -- what holds of a choice: of its first answer where the test holds, and of the other anyway
 module _ {A : Type 0} (P : A → Type 0) where
-  chosen : (t : Bool) {x y : A} → (t ≡ true → P x) → P y → P (cond t x y)
+  pub chosen : (t : Bool) {x y : A} → (t ≡ true → P x) → P y → P (cond t x y)
   chosen true f g = f refl
   chosen false f g = g
 

@@ -5,7 +5,7 @@ use mathlib.Core.Logic.{_⊎_, inl, inr, ⊎-elim}
 use mathlib.Core.List.{List, [], _∷_, _++_}
 use Prim.Native.Nat.{ℕ, _+_, _-_, _≤_, _<_}
 use native.Mathlib.Omega.{arith}
-use lib.ListN.{length, drop, getD, length-append, length-take, length-drop, take-append-drop, List·getD-append}
+use lib.ListN.{length, take, drop, getD, length-append, length-take, length-drop, take-append-drop, List·getD-append}
 use lib.Seq.{getD-take, getD-drop, take-append-le, drop-append-le}
 use Rattle.words.specs.Words.{wordsAfter, sizeOf, fills, kindOf, depthOf}
 use Rattle.words.specs.Table.{Row, rows, entries, starts, isAt, findIn}
@@ -55,7 +55,7 @@ module _ {u : List ℕ} (g : Good u) (h : ℕ) where
       let rest = drop 93 (drop 1 u) in
       rw (fresh-split g, rows-append 1 0 freshWords rest fresh-filled) (at-more (rows 1 0 freshWords) (rows (1 + length freshWords) 0 rest) h is)
 
-  fresh-word : 1 ≤ h → h ≤ 93 → word u h ≡ getD freshWords (h - 1) 0
+  pub fresh-word : 1 ≤ h → h ≤ 93 → word u h ≡ getD freshWords (h - 1) 0
   fresh-word low high =
       let q : 1 + (h - 1) ≡ h = omega arith in
       let l : h - 1 < 93 = omega arith in
@@ -238,3 +238,18 @@ ready-segments r = record { low = omega (arith, r .near); over = r .over; high =
 
 pub one-segments : {old new : List ℕ} {used a : ℕ} → ReadyOne old new used a → Segments old new used
 one-segments r = record { low = omega (arith, r .near); over = r .over; high = r .within; cut = r .cut; full = r .good .sound .full }
+
+-- a part of a type stands before it, and is ready too
+pub part-ready : {old new : List ℕ} {used a x : ℕ} → ReadyOne old new used a → Part (take used (old ++ new)) a 33 1 11 x → (x < a) × ReadyOne old new used x
+part-ready {used = used} rd px = (
+  px .earlier,
+  record {
+    over = rd .over;
+    within = rd .within;
+    small = rd .small;
+    cut = rd .cut;
+    near = omega (arith, px .earlier, rd .near);
+    good = rd .good;
+    first = part-weak used 33 (omega (arith, rd .near)) (omega arith) px;
+  },
+)

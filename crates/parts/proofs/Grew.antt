@@ -2,27 +2,30 @@
 use mathlib.Core.Path.{_≡_, refl, sym, ap, _∙_}
 use mathlib.Core.Bool.{true}
 use mathlib.Core.List.{List, _++_}
-use Prim.Native.Nat.{ℕ, _+_, _≤_}
+use Prim.Native.Nat.{ℕ, _+_, _/_, _≤_}
 use native.Mathlib.Omega.{arith}
 use lib.ListN.{length, take, drop, length-append, take-append-drop}
 use lib.Seq.{length-take-le, take-take}
-use Rattle.words.specs.Words.{fills}
-use Rattle.words.specs.Made.{Grown, Segments, Ran}
+use Rattle.words.specs.Words.{fills, kindOf, countOf}
+use Rattle.words.specs.Made.{Grown, there, Segments, Ran}
 use Rattle.words.specs.declared.Interned.{Interned}
 use Rattle.words.specs.declared.Interned.the-variants.{At, Full}
 use Rattle.words.proofs.Extend.{Extends, ext-take}
 use Rattle.words.proofs.Room.{Fit, fit, fitted, fit-front, fit-length, then, stop}
+use Rattle.wellformed.specs.Entry.{every, all, isAliasFinal}
+use Rattle.call.specs.Handles.{word, kindOn, countOn}
 use Rattle.call.specs.Keep.{Adds}
 use Rattle.call.proofs.Sound.{adds-none, adds-then}
-use Rattle.parts.specs.Parts.{Good}
-use Rattle.parts.proofs.Good.{adds-long}
+use Rattle.parts.specs.Parts.{Good, Part}
+use Rattle.parts.proofs.Parts.{of-struct}
+use Rattle.parts.proofs.Good.{adds-long, adds-word, part-used, part-adds}
 
 -- words that grew; the handle says nothing
 abbrev grown : List ℕ → Grown
-grown w = record { words = w; handle = 0 }
+grown w = there w 0
 
 any-handle : {u : List ℕ} {g : Grown} → Adds u g → Adds u (grown (g .words))
-any-handle a = record { sound = a .sound; more = a .more; is = a .is; extra = a .extra; rows = a .rows; own = a .own }
+any-handle a = record { sound = a .sound; more = a .more; is = a .is; extra = a .extra; rows = a .rows; own = a .own; ends = a .ends }
 
 pub record Grew (old new : List ℕ) (used : ℕ) (now : List ℕ) (v : ℕ) : Type 0 where
   pub start : Good (take used (old ++ new))
@@ -108,3 +111,13 @@ pub grew-segments : {old new : List ℕ} {used : ℕ} {now : List ℕ} {v : ℕ}
 grew-segments w low over cut =
     let up = grew-up w in
     record { low = omega arith; over = omega arith; high = omega (arith, grew-high w, grew-long w); cut = cut; full = w .adds .sound .full }
+
+-- the aliases of a struct that was there are still there
+pub grew-values : {old new : List ℕ} {used : ℕ} {now : List ℕ} {v top deep low high a : ℕ} → Grew old new used now v → Part (take used (old ++ new)) top deep low high a → kindOn (take used (old ++ new)) a ≡ 8
+    → (x : ℕ) → x ≡ word (take used (old ++ new)) a → all isAliasFinal (every 3 (x / 65536) (a + 4) (take v (old ++ now))) ≡ true
+grew-values {old} {new} {used} {now} {v} {a = a} g p k x ex =
+    let w = take v (old ++ now) in
+    let head : word w a ≡ word (take used (old ++ new)) a = adds-word (g .start) (g .adds) a (part-used (g .start) p) in
+    let s = of-struct (g .adds .sound) (part-adds (g .start) (g .adds) p) (ap kindOf head ∙ k) in
+    let n : x / 65536 ≡ countOn w a = ap countOf (ex ∙ sym head) in
+    rw n (s .values)

@@ -2,7 +2,7 @@
 use mathlib.Core.Path.{_≡_, refl, sym, ap, _∙_}
 use mathlib.Core.Bool.{Bool, true, false, cond, _||_}
 use mathlib.Core.List.{List, [], _∷_}
-use Prim.Native.Nat.{ℕ, suc, _+_, _≤_, _<_}
+use Prim.Native.Nat.{ℕ, suc, _+_, _^_, _≤_, _<_}
 use native.Mathlib.Omega.{arith}
 use borrow.Author.Tests.{ne-eqb}
 use lib.Dec.{eqb}
@@ -11,9 +11,9 @@ use Rattle.words.specs.Words.{kindOf, depthOf, countOf}
 use Rattle.words.specs.Table.{Row, entries, starts, In}
 use Rattle.wellformed.specs.Entry.{kind, depth, count, mostOf, every, namesIn, typesIn, isType, isStruct, takes, kindIn, kindAt, isFlag, isAlias, isAliasFinal, floatOk, all, deepest, valuesOk}
 use Rattle.wellformed.specs.Form.{headsAt}
-use Rattle.wellformed.proofs.Sizes.{tuple-in, struct-in, fref-name, float-2, pointer-2, memory-2}
+use Rattle.wellformed.proofs.Sizes.{tuple-in, struct-in, fref-name, int-2, float-2, pointer-2, memory-2}
 use Rattle.call.specs.Handles.{word, kindOn, depthOn, countOn}
-use Rattle.call.specs.Keep.{Sound}
+use Rattle.call.specs.Keep.{Sound, Ends}
 use Rattle.call.proofs.Agree.{at-row}
 use Rattle.parts.specs.Parts.{Part, Name, All}
 use Rattle.parts.proofs.Spot.{entry-head, row-sized, row-word, row-every}
@@ -170,6 +170,13 @@ module _ (u : List ℕ) (s : Sound u) (r : Row) (m : In r (entries u)) where
       let vs : floatOk (getD e 1 0) (getD e 2 0) ≡ true = rw k at (t .values) in
       rw (row-word u s r m 1 (omega arith), row-word u s r m 2 l) vs
 
+  row-int : kindOn u a ≡ 5 → Ends (entries u) → (word u (a + 1) < 2 ^ 64) × (word u (a + 2) < 2 ^ 64)
+  row-int q ends =
+      let k = is 5 q in
+      let l = int-2 e (row-sized u s r m) k in
+      let v = ends r m k in
+      (rw (row-word u s r m 1 (omega arith)) (v .0), rw (row-word u s r m 2 l) (v .1))
+
 -- ---- the entry of a part
 
 module _ {u : List ℕ} (s : Sound u) {top d low high h : ℕ} (p : Part u top d low high h) where
@@ -207,3 +214,6 @@ module _ {u : List ℕ} (s : Sound u) {top d low high h : ℕ} (p : Part u top d
 
   pub of-float : kindOn u h ≡ 6 → floatOk (word u (h + 1)) (word u (h + 2)) ≡ true
   of-float = rw (found .2) at (row-float u s (found .0) (found .1))
+
+  pub of-int : kindOn u h ≡ 5 → Ends (entries u) → (word u (h + 1) < 2 ^ 64) × (word u (h + 2) < 2 ^ 64)
+  of-int = rw (found .2) at (row-int u s (found .0) (found .1))

@@ -13,7 +13,7 @@ use Rattle.makers.specs.Entries.{fieldCount, fieldNames, fieldTypes, fieldAlias
 use Rattle.makers.proofs.Fields.{every-shift}
 use Rattle.structs.specs.Remade.{fieldsWith}
 
-abbrev half : ℕ → ℕ
+abbrev pub half : ℕ → ℕ
 half v = v / 2
 
 -- half of what stands for an alias and a flag is an alias
@@ -72,7 +72,7 @@ module _ (u : List ℕ) (p : ℕ) (types finals : List ℕ) (same : length types
   unfolding fieldsWith
   with-types = rw with-count (along u 1 (λ q ts fs. ts) (λ q. refl) (λ q t f ts fs. refl) p types finals same)
 
-  with-aliases : fieldAliases (fieldsWith u p types finals) ≡ map half (every 3 (length types) (p + 2) u)
+  pub with-aliases : fieldAliases (fieldsWith u p types finals) ≡ map half (every 3 (length types) (p + 2) u)
   unfolding every fieldsWith
   with-aliases = rw with-count (along u 2 (λ q ts fs. map half (every 3 (length ts) (q + 2) u)) (λ q. refl) (λ q t f ts fs. go q ts) p types finals same)
     where

@@ -4,12 +4,11 @@ use mathlib.Core.List.{List, _∷_}
 use Prim.Native.Nat.{ℕ}
 use Rattle.words.specs.Words.{wordsAfter, sizeOf, eqs}
 use Rattle.words.specs.Table.{rows, entries, firstOf, findIn}
-use Rattle.words.specs.Made.{make}
+use Rattle.words.specs.Made.{there, make}
 use Rattle.wellformed.specs.Fresh.{freshWords}
 use Rattle.wellformed.specs.Entry.{every, deepest}
 use Rattle.makers.specs.Entries.{fieldWords}
 use Rattle.structs.specs.Remade.{fieldsWith, remake}
-use Rattle.meet.specs.Meet.{there}
 use Rattle.walk_rules.specs.Tables.{formFor, finalsOf, fieldsOf}
 use Rattle.walk.specs.Walked.{walkEach, followForm, walkWithin, dualOf, glbOf, lubOf}
 

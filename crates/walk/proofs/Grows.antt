@@ -3,13 +3,13 @@ use mathlib.Core.Bool.{Bool, true, false, cond}
 use mathlib.Core.List.{List, [], _∷_}
 use Prim.Native.Nat.{ℕ, zero, suc, _+_, _-_}
 use lib.Dec.{eqb}
-use Rattle.words.specs.Made.{make}
+use Rattle.words.specs.Made.{there, make}
 use Rattle.words.proofs.Extend.{Extends, ext-same, ext-then}
 use Rattle.words.proofs.Placed.{make-extends}
 use Rattle.call.specs.Handles.{word, kindOn}
 use Rattle.makers.specs.Entries.{intEntry, floatEntry}
 use Rattle.structs.specs.Remade.{remake}
-use Rattle.meet.specs.Meet.{there, Many}
+use Rattle.meet.specs.Meet.{Many}
 use Rattle.meet.proofs.Grows.{tuple-grows, pointer-grows, memory-grows}
 use Rattle.walk_rules.specs.Tables.{formFor, intOf, floatOf, nilOf, fieldsOf}
 use Rattle.walk_rules.specs.declared.Walk.{Walk}

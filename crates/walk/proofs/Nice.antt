@@ -9,7 +9,7 @@ use native.Mathlib.Omega.{arith}
 use lib.Dec.{eqb}
 use lib.ListN.{length}
 use Rattle.words.specs.Words.{kindOf, countOf}
-use Rattle.words.specs.Made.{make}
+use Rattle.words.specs.Made.{there, make}
 use Rattle.wellformed.specs.Entry.{every, floatOk}
 use Rattle.call.specs.Handles.{word, kindOn, depthOn, countOn}
 use Rattle.call.proofs.Sound.{adds-none, adds-then}
@@ -18,10 +18,9 @@ use Rattle.makers.specs.Entries.{intEntry, floatEntry}
 use Rattle.makers.proofs.FloatSize.{size-word}
 use Rattle.kept.proofs.Fits.{int-fits, float-fits}
 use Rattle.parts.specs.Parts.{Good, Part, All}
-use Rattle.parts.proofs.Parts.{few, flat, deep, of-tuple, of-struct, of-pointer, of-memory, of-float, all-map}
+use Rattle.parts.proofs.Parts.{few, flat, deep, of-tuple, of-struct, of-pointer, of-memory, of-int, of-float, all-map}
 use Rattle.parts.proofs.Good.{bot-part, top-part, ctrl-part, xctrl-part, struct-top-part, struct-bot-part, int-top-part, int-bot-part, float-top-part, float-bot-part, part-weak, part-used, adds-long, adds-word, good-adds, part-adds, Answers, old-answers, make-answers}
 use Rattle.meet_fields.proofs.Finals.{every-length}
-use Rattle.meet.specs.Meet.{there}
 use Rattle.meet.proofs.Made.{tuple-answers, struct-answers, pointer-answers, memory-answers, answer-late}
 use Rattle.meet.proofs.Nice.{EachAnswers, late-on, wide, narrow}
 use Rattle.walk_rules.specs.Tables.{formFor, intOf, floatOf, nilOf, finalsOf, fieldsOf}
@@ -39,7 +38,7 @@ pub record Nice₁ (k : ℕ) (op : Op₁) : Type 0 where
   pub structs : (u : List ℕ) (a d : ℕ) → Good u → Part u k d 8 9 a → Answers u d 8 9 (op u a)
 
 -- a size with its sign changed is a size
-turned-fits : (size bits : ℕ) → floatOk size bits ≡ true → floatOk (128 - size) 0 ≡ true
+pub turned-fits : (size bits : ℕ) → floatOk size bits ≡ true → floatOk (128 - size) 0 ≡ true
 unfolding floatOk
 turned-fits size bits e = each-word (λ w. floatOk (128 - w) 0 ≡ true) refl refl refl refl refl size (size-word size bits e)
 
@@ -54,7 +53,7 @@ module _ (w : Walk) (u : List ℕ) (k a d : ℕ) (g : Good u) (p : Part u k d 1 
       go Dual =
           let x = word u (a + 2) in
           let y = word u (a + 1) in
-          make-answers d 1 11 (adds-none u 0 (g .sound)) g (intEntry x y) (int-fits u x y) (inl refl) (omega arith) (omega arith) (omega (arith, some, p .shallow))
+          make-answers d 1 11 (adds-none u 0 (g .sound)) g (intEntry x y) (int-fits u x y (λ ends. let e = of-int (g .sound) p q ends in (e .1, e .0))) (inl refl) (omega arith) (omega arith) (omega (arith, some, p .shallow))
       go Glb = old-answers g (int-bot-part g d (omega (arith, some, p .shallow)))
       go Lub = old-answers g (int-top-part g d (omega (arith, some, p .shallow)))
 

@@ -1,13 +1,12 @@
 -- Each way through the walk gives what the definition gives. Assumes nothing.
-use mathlib.Core.Path.{_≡_, refl, sym, ap, _∙_}
+use mathlib.Core.Path.{_≡_, refl, sym, _∙_}
 use mathlib.Core.Bool.{true}
 use mathlib.Core.List.{List, _++_}
 use Prim.Native.Nat.{ℕ, zero, suc, _+_, _*_, _/_, _≤_, _<_}
 use native.Mathlib.Omega.{arith}
 use borrow.Author.Tests.{leb-true}
 use lib.ListN.{length, take, getD, set}
-use Rattle.words.specs.Words.{kindOf, countOf}
-use Rattle.words.specs.Made.{Grown, make, Segments, Ran, Runs}
+use Rattle.words.specs.Made.{Grown, there, make, Segments, Ran, Runs}
 use Rattle.words.specs.declared.Interned.{Interned}
 use Rattle.words.specs.declared.Interned.the-variants.{At, Full}
 use Rattle.words.proofs.Extend.{Extends}
@@ -18,11 +17,11 @@ use Rattle.makers.proofs.FloatSize.{size-word}
 use Rattle.type_float.specs.Float.{isSizeWord}
 use Rattle.parts.specs.Parts.{Part, All, ReadyOne}
 use Rattle.parts.proofs.Parts.{few, flat, of-tuple, of-struct, of-pointer, of-memory, of-float, all-map}
-use Rattle.parts.proofs.Good.{part-weak, part-adds, adds-word, part-used}
-use Rattle.meet.specs.Meet.{there, tupleOf, pointerOf, memoryOf}
+use Rattle.parts.proofs.Good.{part-weak, part-ready}
+use Rattle.meet.specs.Meet.{tupleOf, pointerOf, memoryOf}
 use Rattle.meet.proofs.Grows.{tuple-grows, pointer-grows, memory-grows}
 use Rattle.meet.proofs.Nice.{narrow}
-use Rattle.parts.proofs.Grew.{Grew, grew-none, grew-there, grew-more, grew-stop, grew-segments, then-made}
+use Rattle.parts.proofs.Grew.{Grew, grew-none, grew-there, grew-more, grew-stop, grew-segments, grew-values, then-made}
 use Rattle.walk_rules.specs.Tables.{formFor, intOf, floatOf, nilOf, fieldsOf}
 use Rattle.walk_rules.specs.declared.Walk.{Walk}
 use Rattle.walk_rules.specs.declared.Form.{Form}
@@ -66,18 +65,7 @@ module _ (walk : Walk) (old new : List ℕ) (used a : ℕ) (rd : ReadyOne old ne
   -- an entry around one part x, which F makes of the part's walk
   module _ (X : Form) (e : r ≡ X) (x : ℕ) (px : Part u a 33 1 11 x) (F : Grown → Grown) (is : (k : ℕ) → followForm walk (walkWithin walk k) u a X ≡ F (walkWithin walk k u x)) (F-grows : (g : Grown) → Extends (g .words) (F g .words)) where
     around-next : (x < a) × ReadyOne old new used x
-    around-next = (
-      px .earlier,
-      record {
-        over = rd .over;
-        within = rd .within;
-        small = rd .small;
-        cut = rd .cut;
-        near = omega (arith, px .earlier, rd .near);
-        good = rd .good;
-        first = part-weak used 33 (omega (arith, rd .near)) (omega arith) px;
-      },
-    )
+    around-next = part-ready rd px
 
     module _ (now : List ℕ) (m : Interned) (t : Walked walk old new used x now m) where
       abbrev part : ℕ → Grown
@@ -207,12 +195,7 @@ module _ (walk : Walk) (old new : List ℕ) (used a : ℕ) (rd : ReadyOne old ne
 
         -- the aliases of a are still there
         pub struct-values : all isAliasFinal (every 3 (x / 65536) (a + 4) (take v (old ++ now))) ≡ true
-        struct-values =
-            let g = J .grew in
-            let head : word (take v (old ++ now)) a ≡ word u a = adds-word (g .start) (g .adds) a (part-used (g .start) (rd .first)) in
-            let s = of-struct (g .adds .sound) (part-adds (g .start) (g .adds) (rd .first)) (ap kindOf head ∙ is-struct) in
-            let n : x / 65536 ≡ countOn (take v (old ++ now)) a = ap countOf (ex ∙ sym head) in
-            rw n (s .values)
+        struct-values = grew-values (J .turn .grew) (rd .first) is-struct x ex
 
 -- the next part, p₀ words behind a and s apart
 module _ (walk : Walk) (s off : ℕ) (old new : List ℕ) (used a n : ℕ) (now parts : List ℕ) (v i : ℕ) (J : Going₁ walk s old new used a n (a + off) now parts v i) (more : i < n) (at p : ℕ) (ea : at ≡ a + off + s * i) (ep : p ≡ getD (take used (old ++ now)) at 0) where

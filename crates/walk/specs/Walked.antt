@@ -2,12 +2,12 @@
 -- operand. Which form an answer has, and what the three differ in, stands in walk_rules/specs/Tables.antt. "Parts are made first, left to right."
 use mathlib.Core.List.{List, [], _∷_}
 use Prim.Native.Nat.{ℕ, zero, suc, _+_, _<_}
-use Rattle.words.specs.Made.{Grown, Runs}
+use Rattle.words.specs.Made.{Grown, there, Runs}
 use Rattle.words.specs.declared.Interned.{Interned}
 use Rattle.wellformed.specs.Entry.{every}
 use Rattle.call.specs.Handles.{word, kindOn, countOn}
 use Rattle.meet_rules.specs.FreshHandles.{bot}
-use Rattle.meet.specs.Meet.{there, Many, led, tupleOf, pointerOf, memoryOf}
+use Rattle.meet.specs.Meet.{Many, led, tupleOf, pointerOf, memoryOf}
 use Rattle.walk_rules.specs.Tables.{formFor, intOf, floatOf, nilOf, fieldsOf}
 use Rattle.walk_rules.specs.declared.Walk.{Walk}
 use Rattle.walk_rules.specs.declared.Walk.the-variants.{Dual, Glb, Lub}

@@ -6,7 +6,7 @@ use Prim.Native.Nat.{ℕ, _+_, _-_, _%_}
 use lib.Dec.{eqb, leb}
 use lib.ListN.{length}
 use Rattle.words.specs.Kinds.{Bot, Top, Ctrl, XCtrl, Int, Float, Tuple, Struct, Fref, MemPtr}
-use Rattle.words.specs.Made.{Grown, make}
+use Rattle.words.specs.Made.{Grown, there, make}
 use Rattle.wellformed.specs.Entry.{every}
 use Rattle.call.specs.Handles.{word}
 use Rattle.makers.specs.Entries.{intEntry, floatEntry}
@@ -55,9 +55,6 @@ formFor walk a k =
     Memories
 
 -- ---- Ints and Floats
-
-abbrev there : List ℕ → ℕ → Grown
-there u h = record { words = u; handle = h }
 
 -- "Int ends change places"; "glb: .. Int 25"; "lub: .. Int 22"
 abbrev pub intOf : Walk → ℕ → List ℕ → Grown

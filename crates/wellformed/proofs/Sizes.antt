@@ -28,6 +28,9 @@ module _ (e : List ℕ) (sized : length e ≡ sizeOf (getD e 0 0)) where
   three k is l h a b c =
       sized ∙ pair-size (getD e 0 0) (λ q. omega arith) (λ q. a (omega arith)) (λ q. b (omega arith)) (λ q. c (omega arith)) (omega arith) (omega arith)
 
+  pub int-2 : getD e 0 0 % 256 ≡ 5 → 2 < length e
+  int-2 k = omega (arith, three 5 k (omega arith) (omega arith) (omega arith) (omega arith) (omega arith))
+
   pub float-1 : getD e 0 0 % 256 ≡ 6 → 1 < length e
   float-1 k = omega (arith, three 6 k (omega arith) (omega arith) (omega arith) (omega arith) (omega arith))
 

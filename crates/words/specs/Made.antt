@@ -18,8 +18,12 @@ pub record Grown : Type 0 where
   pub words : List ℕ
   pub handle : ℕ
 
+-- an answer that is there already
+abbrev pub there : List ℕ → ℕ → Grown
+there u h = record { words = u; handle = h }
+
 abbrev place : Found → List ℕ → List ℕ → Grown
-place (FoundAt h) u e = record { words = u; handle = h }
+place (FoundAt h) u e = there u h
 place Nothing u e = record { words = u ++ e; handle = length u }
 
 -- "Making an entry hands back the lowest handle of an equal entry, else appends one."

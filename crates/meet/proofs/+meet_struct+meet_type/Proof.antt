@@ -152,7 +152,7 @@ meet-struct-loop-again t c =
     let l = c .before .before .before .before .before .before .before .before .before .before .before .before .loop .inv in
     let i = c .before .before .before .before .before .before .before .before .before .before .before .loop-test .taken in
     let G = struct-turn _ _ _ _ _ _ (c .before .before .before .before .before .before .before .before .before .before .before .before .loop .new) _ _ _ (l .9) i _ _ (c .before .before .before .before .before .before .before .before .before .word2 .ensures) (c .before .before .before .before .before .before .before .word3 .ensures) (c .before .before .before .before .before .meet-type .ensures) _ _ (c .before .m .given .1) (omega (arith, l .1, l .2, i)) in
-    (search needs, l .1, simp length-set (l .2), grew-long (G .grew), grew-high (G .grew), grew-up (G .grew), l .6, l .7, l .8, G)
+    (search needs, l .1, simp length-set (l .2), grew-long (G .turn .grew), grew-high (G .turn .grew), grew-up (G .turn .grew), l .6, l .7, l .8, G)
 
 meet-struct-array-share-prefix-types : (t : ℕ) → meet-struct-lts.Need-array-share-prefix-types (meet-struct-K t) (meet-struct-at t) meet-struct.Post meet-struct-Inv-loop meet-struct-μ-loop
 meet-struct-array-share-prefix-types t c = search needs
@@ -389,7 +389,7 @@ meet-type-loop-again t c =
     let l = c .before .before .before .before .before .before .before .before .before .before .before .before .loop .inv in
     let i = c .before .before .before .before .before .before .before .before .before .before .before .loop-test .taken in
     let G = tuple-turn _ _ _ _ _ _ (c .before .before .before .before .before .before .before .before .before .before .before .before .loop .new) _ _ _ (l .9) i _ _ (c .before .before .before .before .before .before .before .before .before .word10 .ensures) (c .before .before .before .before .before .before .before .word11 .ensures) (c .before .before .before .before .before .meet-type2 .ensures) _ _ (c .before .m3 .given .1) (omega (arith, l .1, l .2, i)) in
-    (search needs, l .1, simp length-set (l .2), grew-long (G .grew), grew-high (G .grew), grew-up (G .grew), l .6, l .7, l .8, G)
+    (search needs, l .1, simp length-set (l .2), grew-long (G .turn .grew), grew-high (G .turn .grew), grew-up (G .turn .grew), l .6, l .7, l .8, G)
 
 meet-type-array-share-prefix-parts : (t : ℕ) → meet-type-lts.Need-array-share-prefix-parts (meet-type-K t) (meet-type-at t) meet-type.Post meet-type-Inv-loop meet-type-μ-loop
 meet-type-array-share-prefix-parts t c = search needs

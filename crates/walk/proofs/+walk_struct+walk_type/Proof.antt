@@ -124,7 +124,7 @@ walk-struct-loop-again t c =
     let l = c .before .before .before .before .before .before .before .before .before .before .loop .inv in
     let i = c .before .before .before .before .before .before .before .before .before .loop-test .taken in
     let G = part-turn _ 3 3 _ _ _ _ _ (c .before .before .before .before .before .before .before .before .before .before .loop .new) _ _ _ (l .8) i _ _ (omega arith) (c .before .before .before .before .before .before .before .word2 .ensures) (c .before .before .before .before .before .walk-type .ensures) _ _ (c .before .m .given .1) (omega (arith, l .1, l .2, i)) in
-    (search needs, l .1, simp length-set (l .2), grew-long (G .grew), grew-high (G .grew), grew-up (G .grew), l .6, l .7, G)
+    (search needs, l .1, simp length-set (l .2), grew-long (G .turn .grew), grew-high (G .turn .grew), grew-up (G .turn .grew), l .6, l .7, G)
 
 walk-struct-array-share-prefix-types : (t : ℕ) → walk-struct-lts.Need-array-share-prefix-types (walk-struct-K t) (walk-struct-at t) walk-struct.Post walk-struct-Inv-loop walk-struct-μ-loop
 walk-struct-array-share-prefix-types t c = search needs
@@ -311,7 +311,7 @@ walk-type-loop-again t c =
     let l = c .before .before .before .before .before .before .before .before .before .before .loop .inv in
     let i = c .before .before .before .before .before .before .before .before .before .loop-test .taken in
     let G = part-turn _ 1 1 _ _ _ _ _ (c .before .before .before .before .before .before .before .before .before .before .loop .new) _ _ _ (l .8) i _ _ (omega arith) (c .before .before .before .before .before .before .before .word6 .ensures) (c .before .before .before .before .before .walk-type3 .ensures) _ _ (c .before .m3 .given .1) (omega (arith, l .1, l .2, i)) in
-    (search needs, l .1, simp length-set (l .2), grew-long (G .grew), grew-high (G .grew), grew-up (G .grew), l .6, l .7, G)
+    (search needs, l .1, simp length-set (l .2), grew-long (G .turn .grew), grew-high (G .turn .grew), grew-up (G .turn .grew), l .6, l .7, G)
 
 walk-type-array-share-prefix-parts : (t : ℕ) → walk-type-lts.Need-array-share-prefix-parts (walk-type-K t) (walk-type-at t) walk-type.Post walk-type-Inv-loop walk-type-μ-loop
 walk-type-array-share-prefix-parts t c = search needs
