@@ -28,8 +28,8 @@ NAMES: names of calls separated by commas, 'lattice' for the calls on types, 'du
 'all'. The makers are always used.";
 
 /// What is compared where no calls are named, and what a sample has: dumps make long lines.
-const COMPARED: &str = "makers,kind,meet,isa,dual,join,glb,lub,is_final,dump";
-const SAMPLED: &str = "makers,kind,meet,isa,dual,join,glb,lub,is_final";
+const COMPARED: &str = "makers,kind,meet,isa,dual,join,glb,lub,is_final,make_ro,dump";
+const SAMPLED: &str = "makers,kind,meet,isa,dual,join,glb,lub,is_final,make_ro";
 
 fn main() -> ExitCode {
     let words: Vec<String> = std::env::args().skip(1).collect();

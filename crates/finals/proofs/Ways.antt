@@ -53,8 +53,8 @@ module _ {u : List ℕ} {a n i : ℕ} (J : Left u a n i) where
       split : Part u a 33 1 11 t × All (Part u a 33 1 11) (every 3 (n - (i + 1)) (a + 3 + 3 * (i + 1)) u)
       split = rw et (rw (every-next 3 n (a + 3) i u more) at (J .parts))
 
-      pub left-next : {used : ℕ} → a < used → (t < a) × (t < used) × Part u used 33 1 11 t
-      left-next {used} h = let p = split .0 in (p .earlier, omega (arith, p .earlier), part-weak used 33 (omega arith) (omega arith) p)
+      pub left-part : Part u a 33 1 11 t
+      left-part = split .0
 
       -- what the walk of the type answered
       module _ (e : v % 2 ≡ 1) (r : Bool) (told : Finals u t r) where
@@ -76,19 +76,15 @@ module _ {u : List ℕ} {used a : ℕ} (g : Good u) (p : Part u used 33 1 11 a) 
 
   -- a pointer
   module _ (e : x % 256 ≡ 10) (to : ℕ) (et : to ≡ getD u (a + 1) 0) where
-    part-to : Part u a 33 8 9 to
-    part-to =
+    pub pointer-part : Part u a 33 1 11 to
+    pointer-part =
         let k : kindOn u a ≡ 10 = rw (← ex) e in
-        rw et (part-weak a 33 (omega arith) (omega (arith, flat (g .sound) p)) (of-pointer (g .sound) p k .to))
-
-    pub pointer-next : (to < a) × (to < used) × Part u used 33 1 11 to
-    pointer-next =
-        let q = part-to in
-        (q .earlier, omega (arith, q .earlier, p .earlier), record { entry = q .entry; earlier = omega (arith, q .earlier, p .earlier); least = omega (arith, q .least); most = omega (arith, q .most); shallow = q .shallow })
+        let q = of-pointer (g .sound) p k .to in
+        rw et (record { entry = q .entry; earlier = q .earlier; least = omega (arith, q .least); most = omega (arith, q .most); shallow = omega (arith, q .shallow, flat (g .sound) p) })
 
     pub final-pointer : (r : Bool) → Finals u to r → Finals u a r
     unfolding isFinalWithin
-    final-pointer r told = by-step r (λ k h. rw (← ex, eq-eqb (x % 256) 10 e, ← et) (told .is k (omega (arith, part-to .earlier))))
+    final-pointer r told = by-step r (λ k h. rw (← ex, eq-eqb (x % 256) 10 e, ← et) (told .is k (omega (arith, pointer-part .earlier))))
 
   -- a struct
   pub struct-few : x / 65536 ≤ 255

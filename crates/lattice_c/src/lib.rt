@@ -9,7 +9,7 @@ ghost use Prim.Native.Nat.{_+_};
 ghost use Rattle.call.specs.Call.{made, told, said, done};
 ghost use Rattle.wellformed.specs.Form.{wellFormed};
 ghost use Rattle.lattice_c.specs.Code.{code, Coded};
-ghost use Rattle.ty_calls.specs.Ty.{meetCall, isaCall, dualCall, joinCall, glbCall, lubCall, isFinalCall};
+ghost use Rattle.ty_calls.specs.Ty.{meetCall, isaCall, dualCall, joinCall, glbCall, lubCall, isFinalCall, makeRoCall};
 ghost use Rattle.makers.specs.Makers.{freshCall, kindCall, getBoolCall, getIntCall, makeIntCall, getFloatCall, makeFloatCall, getTupleCall, getStrCall, getStructCall, makeAryCall, makeStructFrefCall, getMemPtrCall, getMemCall};
 
 fn refusal(n: u8) -> u64
@@ -218,4 +218,11 @@ pub extern "C" fn ferigulan_is_final(words: &[u64], a: u64) -> u64
     ensures { λ r. ⌜ Coded (isFinalCall a (now (words .entry))) r (now (words .entry)) ⌝ }
 {
     of_flag(ty::is_final(words, a))
+}
+
+#[no_mangle]
+pub extern "C" fn ferigulan_make_ro(words: &mut [u64], a: u64) -> u64
+    ensures { λ r. ⌜ Coded (makeRoCall a (now (words .entry))) r (now (words .exit)) ⌝ }
+{
+    of_made(ty::make_ro(words, a))
 }

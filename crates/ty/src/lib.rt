@@ -7,7 +7,7 @@ use call::Made;
 use walk_rules::Walk;
 ghost use mathlib.Core.Path.{_≡_};
 ghost use Rattle.call.specs.Call.{left, made, said};
-ghost use Rattle.ty_calls.specs.Ty.{meetCall, isaCall, walkCall, dualCall, glbCall, lubCall, joinCall, isFinalCall};
+ghost use Rattle.ty_calls.specs.Ty.{meetCall, isaCall, walkCall, dualCall, glbCall, lubCall, joinCall, isFinalCall, makeRoCall};
 
 // The lowest type above both.
 pub fn meet(words: &mut [u64], a: u64, b: u64) -> Made
@@ -108,4 +108,20 @@ pub fn is_final(words: &[u64], a: u64) -> Flag
     }
     let mut bits = [0u64; 16384];
     ty_calls::is_final_in(words, &mut bits, a)
+}
+
+// The type with every field final; a field that was not final has its type made read-only too.
+pub fn make_ro(words: &mut [u64], a: u64) -> Made
+    ensures { λ r. ⌜ left (made r) (now (words .exit)) ≡ makeRoCall a (now (words .entry)) ⌝ }
+{
+    if words.len() <= 4096 {
+        let mut bits = [0u64; 64];
+        return ty_calls::make_ro_in(words, &mut bits, a);
+    }
+    if words.len() <= 65536 {
+        let mut bits = [0u64; 1024];
+        return ty_calls::make_ro_in(words, &mut bits, a);
+    }
+    let mut bits = [0u64; 16384];
+    ty_calls::make_ro_in(words, &mut bits, a)
 }

@@ -21,7 +21,9 @@ use Rattle.walk.proofs.Nice.{walk-nice}
 use Rattle.join.specs.Join.{joinOf}
 use Rattle.join.proofs.Adds.{join-adds}
 use Rattle.finals.specs.Final.{isFinalOf}
-use Rattle.ty_calls.specs.Ty.{meetCall, isaCall, walkCall, joinCall, isFinalCall}
+use Rattle.make_ro.specs.ReadOnly.{makeRoOf}
+use Rattle.make_ro.proofs.Nice.{make-ro-nice}
+use Rattle.ty_calls.specs.Ty.{meetCall, isaCall, walkCall, joinCall, isFinalCall, makeRoCall}
 use Rattle.ty_calls.proofs.Ready.{one-part, two-parts}
 
 -- the meet of two types of good used words adds entries, and its answer is a type at most 32 deep, new where anything was added
@@ -51,3 +53,9 @@ join-keeps a b ws ok =
 
 pub is-final-keeps : (a : ℕ) (ws : List ℕ) → wellFormed ws ≡ true → Keeps ws (isFinalCall a ws)
 is-final-keeps a = ask-keeps (typesRows (a ∷ [])) (λ u. flag (isFinalOf u a))
+
+pub make-ro-keeps : (a : ℕ) (ws : List ℕ) → wellFormed ws ≡ true → Keeps ws (makeRoCall a ws)
+make-ro-keeps a ws ok =
+    let u = usedWords ws in
+    let g = well-good ws ok in
+    call-keeps (typesRows (a ∷ [])) (λ v. makeRoOf v a) ws ok (λ s q. make-ro-nice (suc a) .types u a 33 g (part-below (suc a) (omega arith) (one-part a u g q)) .adds)

@@ -3,7 +3,7 @@ use mathlib.Core.Path.{_≡_, sym, ap, _∙_}
 use mathlib.Core.Bool.{true, false}
 use mathlib.Core.Logic.{⊎-elim}
 use mathlib.Core.List.{List, [], _∷_, _++_, append-nil}
-use Prim.Native.Nat.{ℕ, suc, _≤_, _<_, max}
+use Prim.Native.Nat.{ℕ, suc, _≤_, max}
 use native.Mathlib.Omega.{arith}
 use borrow.Author.Tests.{leb-true, ne-eqb}
 use lib.Dec.{eqb, leb}
@@ -79,9 +79,6 @@ module _ (ws : List ℕ) (used a : ℕ) (begun : Begun ws used) (q : typesRows (
     good = good ws used begun;
     first = part;
   }
-
-  pub read-ready : (used ≤ length ws) × (length ws ≤ 1048576) × (a < used) × Good (take used ws) × Part (take used ws) used 33 1 11 a
-  read-ready = (begun .within, tests ws (begun .ok) .most, part .earlier, good ws used begun, part)
 
 -- two types
 module _ (ws : List ℕ) (used a b : ℕ) (begun : Begun ws used) (q : typesRows (a ∷ b ∷ []) (take used ws) ≡ 0) where

@@ -9,6 +9,7 @@ use Rattle.walk_rules.specs.declared.Walk.the-variants.{Dual, Glb, Lub}
 use Rattle.walk.specs.Walked.{walkOf}
 use Rattle.join.specs.Join.{joinOf}
 use Rattle.finals.specs.Final.{isFinalOf}
+use Rattle.make_ro.specs.ReadOnly.{makeRoOf}
 
 abbrev pub meetCall : ℕ → ℕ → List ℕ → Outcome
 meetCall a b = call (typesRows (a ∷ b ∷ [])) (λ u. meetOf u a b)
@@ -35,3 +36,6 @@ joinCall a b = call (typesRows (a ∷ b ∷ [])) (λ u. joinOf u a b)
 
 abbrev pub isFinalCall : ℕ → List ℕ → Outcome
 isFinalCall a = ask (typesRows (a ∷ [])) (λ u. flag (isFinalOf u a))
+
+abbrev pub makeRoCall : ℕ → List ℕ → Outcome
+makeRoCall a = call (typesRows (a ∷ [])) (λ u. makeRoOf u a)

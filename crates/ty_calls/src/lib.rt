@@ -7,7 +7,7 @@ ghost use mathlib.Core.Path.{_≡_};
 ghost use Prim.Native.Nat.{_*_, _≤_, min};
 ghost use lib.ListN.{length};
 ghost use Rattle.call.specs.Call.{left, made, said};
-ghost use Rattle.ty_calls.specs.Ty.{meetCall, isaCall, walkCall, joinCall, isFinalCall};
+ghost use Rattle.ty_calls.specs.Ty.{meetCall, isaCall, walkCall, joinCall, isFinalCall, makeRoCall};
 
 pub fn meet_in(words: &mut [u64], bits: &mut [u64], a: u64, b: u64) -> Made
     requires { ⌜ min (length (now words)) 1048576 ≤ 64 * length (now bits) ⌝ }
@@ -94,5 +94,23 @@ pub fn is_final_in(words: &[u64], bits: &mut [u64], a: u64) -> Flag
     if no != 0 {
         return Flag::Refused(no);
     }
-    Flag::Is(finals::is_final(words, used, a as usize))
+    let none = [0u64; 0];
+    Flag::Is(finals::is_final(&none, words, used, a as usize))
+}
+
+pub fn make_ro_in(words: &mut [u64], bits: &mut [u64], a: u64) -> Made
+    requires { ⌜ min (length (now words)) 1048576 ≤ 64 * length (now bits) ⌝ }
+    ensures { λ r. ⌜ left (made r) (now (words .exit)) ≡ makeRoCall a (now (words .entry)) ⌝ }
+{
+    let used = call::begin(words, bits);
+    if used == 0 {
+        return Made::Refused(1);
+    }
+    let no = rows::types_rows(words, used, bits, &[a]);
+    if no != 0 {
+        return Made::Refused(no);
+    }
+    let none = [0u64; 0];
+    let r = make_ro::make_ro(&none, words, used, a as usize);
+    call::finish(words, used, r)
 }

@@ -31,5 +31,8 @@ pub fn reply(name: &[u8], a: &[u64], words: &mut [u64]) -> Reply {
     if is(name, n, b"is_final", 1) {
         return said(ty::is_final(words, x));
     }
+    if is(name, n, b"make_ro", 1) {
+        return made(ty::make_ro(words, x));
+    }
     maker_lines::reply(name, a, words)
 }

@@ -1,0 +1,6 @@
+pub mod Examples
+pub mod Grows
+pub mod Nice
+pub mod Finals
+pub mod Loop
+pub mod Ways
