@@ -1,0 +1,5 @@
+pub mod Runs
+pub mod Accepted
+pub mod Reaching
+pub mod Demand3
+pub mod Examples

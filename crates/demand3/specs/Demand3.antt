@@ -1,0 +1,178 @@
+-- Demand 3: the laws of every list of calls from a fresh store. The statement is `Demand3`, at the end; proofs/Demand3.antt proves it.
+-- The quoted words are document 01's, "Demand 3's list", unless another place is named.
+use mathlib.Core.Path.{_≡_}
+use mathlib.Core.Bool.{Bool, true, false, _||_}
+use mathlib.Core.Logic.{_⊎_, _↔_}
+use mathlib.Core.List.{List, [], _∷_}
+use Prim.Native.Nat.{ℕ, zero, suc, _^_}
+use lib.Dec.{eqb, ltb}
+use lib.ListN.{take, drop}
+use Rattle.words.specs.Kinds.{Fref, Mem}
+use Rattle.words.specs.Words.{sizeOf}
+use Rattle.wellformed.specs.Entry.{typesIn, all}
+use Rattle.wellformed.specs.Form.{rightLength, usedWords}
+use Rattle.call.specs.Call.{Outcome, handle, flag}
+use Rattle.call.specs.Handles.{word, kindOn, typesRows}
+use Rattle.makers.specs.Makers.{freshCall, kindCall, getBoolCall, getIntCall, makeIntCall, getFloatCall, makeFloatCall, getTupleCall, getStrCall, getStructCall, makeAryCall, makeStructFrefCall, getMemPtrCall, getMemCall}
+use Rattle.ty_calls.specs.Ty.{meetCall, isaCall, joinCall, dualCall, glbCall, lubCall, isFinalCall, makeRoCall}
+
+-- ---- calls: "the makers of `Types`, meet, isa, dual, join, glb, lub, is_final and make_ro .. Each other call that takes a store joins the list when it
+-- lands": of those `kind` is here, which stands for the Rust's casts
+
+-- a 64-bit word, for the ends of an Int: two's complement says nothing of a larger number. All other numbers are any at all.
+pub record Word : Type 0 where
+  pub number : ℕ
+  pub small : ltb number (2 ^ 64) ≡ true
+
+-- "Only `get_str` and `make_ary` take bytes"
+pub record Bytes : Type 0 where
+  pub bytes : List ℕ
+  pub small : all (λ b. ltb b 256) bytes ≡ true
+
+-- a call that takes a store, "with any arguments"
+pub data Call : Type 0 where
+  kind : ℕ → Call
+  get_bool : ℕ → Call
+  get_int : Word → Call
+  make_int : Word → Word → Call
+  get_float : ℕ → Call
+  make_float : ℕ → ℕ → Call
+  get_tuple : List ℕ → Call
+  get_str : Bytes → Call
+  get_struct : ℕ → List ℕ → Call
+  make_ary : ℕ → ℕ → ℕ → ℕ → Bytes → Call
+  make_struct_fref : ℕ → Call
+  get_mem_ptr : ℕ → ℕ → Call
+  get_mem : ℕ → ℕ → Call
+  meet : ℕ → ℕ → Call
+  isa : ℕ → ℕ → Call
+  join : ℕ → ℕ → Call
+  dual : ℕ → Call
+  glb : ℕ → Call
+  lub : ℕ → Call
+  is_final : ℕ → Call
+  make_ro : ℕ → Call
+
+-- what a call answers and leaves: the definitions that the functions' contracts cite, and for meet what `merge` says, so that the laws can be asked of another
+-- meet too
+abbrev pub runWith : (ℕ → ℕ → List ℕ → Outcome) → Call → List ℕ → Outcome
+runWith merge (kind h) = kindCall h
+runWith merge (get_bool value) = getBoolCall value
+runWith merge (get_int value) = getIntCall (value .number)
+runWith merge (make_int min max) = makeIntCall (min .number) (max .number)
+runWith merge (get_float bits) = getFloatCall bits
+runWith merge (make_float sz bits) = makeFloatCall sz bits
+runWith merge (get_tuple types) = getTupleCall types
+runWith merge (get_str name) = getStrCall (name .bytes)
+runWith merge (get_struct name fs) = getStructCall name fs
+runWith merge (make_ary len lenAlias body bodyAlias text) = makeAryCall len lenAlias body bodyAlias (text .bytes)
+runWith merge (make_struct_fref name) = makeStructFrefCall name
+runWith merge (get_mem_ptr to nil) = getMemPtrCall to nil
+runWith merge (get_mem alias t) = getMemCall alias t
+runWith merge (meet a b) = merge a b
+runWith merge (isa a b) = isaCall a b
+runWith merge (join a b) = joinCall a b
+runWith merge (dual a) = dualCall a
+runWith merge (glb a) = glbCall a
+runWith merge (lub a) = lubCall a
+runWith merge (is_final a) = isFinalCall a
+runWith merge (make_ro a) = makeRoCall a
+
+-- "The laws are to be laws of demand 2's meet" ("The buyer's note"): the meet that the contract of `ty::meet` cites
+abbrev pub run : Call → List ℕ → Outcome
+run = runWith meetCall
+
+-- ---- reaching: "A type reaches its own kind and all that its parts reach". `u` is the used words.
+
+-- the words of the entry at h
+abbrev pub entryOn : List ℕ → ℕ → List ℕ
+entryOn u h = take (sizeOf (word u h)) (drop h u)
+
+-- the test holds of one of them
+unfoldable pub some : (ℕ → Bool) → List ℕ → Bool
+some p [] = false
+some p (x ∷ xs) = p x || some p xs
+
+-- the parts of an entry stand before it: n is above the handle, and falls; 0 is not come to
+unfoldable pub reachesWithin : ℕ → List ℕ → ℕ → ℕ → Bool
+reachesWithin zero u k h = false
+reachesWithin (suc n) u k h = eqb (kindOn u h) k || some (reachesWithin n u k) (typesIn (entryOn u h))
+
+-- whether the type at h reaches the kind k
+abbrev pub reaches : List ℕ → ℕ → ℕ → Bool
+reaches u k h = reachesWithin (suc h) u k h
+
+-- ---- lists of calls, of which each does what `does` says. The theorem is about `run`.
+
+module _ (does : Call → List ℕ → Outcome) where
+  -- "each call, with any arguments, gets the store as the last one left it": the store that a list leaves of ws
+  unfoldable pub leaves : List Call → List ℕ → List ℕ
+  leaves [] ws = ws
+  leaves (c ∷ cs) ws = leaves cs (does c ws .words)
+
+  -- an accepted call: c is one of the list, and h is the handle that it handed back, on the store that the calls before it left
+  abbrev pub Gave : List Call → List ℕ → Call → ℕ → Type 0
+  Gave [] ws c h = ⊥
+  Gave (d ∷ cs) ws c h = ((d ≡ c) × (does d ws .reply ≡ handle h)) ⊎ Gave cs (does d ws .words) c h
+
+  module _ (cs : List Call) (ws : List ℕ) where
+    -- the used words of the store that the list leaves
+    abbrev pub finalWords : List ℕ
+    finalWords = usedWords (leaves cs ws)
+
+    -- "isa is its answer on the store the list leaves". Where a isa b, b is above a: Bot is above all types, and a glb, which document 01 calls lower, is above its type.
+    abbrev pub Isa : ℕ → ℕ → Type 0
+    Isa a b = does (isa a b) (leaves cs ws) .reply ≡ flag true
+
+    -- h is a type of that store (rows 2 and 3 do not turn it back) that reaches no memory type ("memory types are kind 11") and no forward reference
+    pub record Plain (h : ℕ) : Type 0 where
+      pub type : typesRows (h ∷ []) finalWords ≡ 0
+      pub memory : reaches finalWords Mem h ≡ false
+      pub forward : reaches finalWords Fref h ≡ false
+
+    -- "A bracketing is a single type, or an accepted meet of the list on the handles of two earlier bracketings .. Any calls may stand between. For joins likewise." The
+    -- operation is meet or join, the index is the bracketing's handle. Which of the calls came first is not asked, so that more are bracketings; that a single
+    -- handle is a type is asked by `AllPlain` below.
+    pub data Bracketing (op : ℕ → ℕ → Call) : ℕ → Type 0 where
+      single : (h : ℕ) → Bracketing op h
+      pair : {a b c : ℕ} → Bracketing op a → Bracketing op b → Gave cs ws (op a b) c → Bracketing op c
+
+    module _ {op : ℕ → ℕ → Call} where
+      -- "the types it is built from are its set": x is in it
+      abbrev pub In : {c : ℕ} → Bracketing op c → ℕ → Type 0
+      In (single h) x = x ≡ h
+      In (pair p q g) x = In p x ⊎ In q x
+
+      abbrev pub AllPlain : {c : ℕ} → Bracketing op c → Type 0
+      AllPlain p = (x : ℕ) → In p x → Plain x
+
+      -- any order, any repeats
+      abbrev pub SameSet : {c d : ℕ} → Bracketing op c → Bracketing op d → Type 0
+      SameSet p q = (x : ℕ) → In p x ↔ In q x
+
+    pub record Laws : Type 0 where
+      -- bracketings of meets over one set have one handle
+      pub meets-agree : {c d : ℕ} (p : Bracketing meet c) (q : Bracketing meet d) → AllPlain p → SameSet p q → c ≡ d
+      -- each member isa it
+      pub meets-above : {c : ℕ} (p : Bracketing meet c) → AllPlain p → (x : ℕ) → In p x → Isa x c
+      -- and it isa every type, of whatever kinds, that all members are isa
+      pub meets-least : {c : ℕ} (p : Bracketing meet c) → AllPlain p → (t : ℕ) → ((x : ℕ) → In p x → Isa x t) → Isa c t
+      -- bracketings of joins over one set have one handle
+      pub joins-agree : {c d : ℕ} (p : Bracketing join c) (q : Bracketing join d) → AllPlain p → SameSet p q → c ≡ d
+      -- it isa each member
+      pub joins-below : {c : ℕ} (p : Bracketing join c) → AllPlain p → (x : ℕ) → In p x → Isa c x
+      -- and every type that isa all members, and reaches no forward reference, isa it (the forward reference X isa the structs X without fields and X with one, and is not isa their
+      -- join, $TOP: `third-outside` of proofs/Examples.antt)
+      pub joins-greatest : {c : ℕ} (p : Bracketing join c) → AllPlain p → (t : ℕ) → reaches finalWords Fref t ≡ false → ((x : ℕ) → In p x → Isa t x) → Isa t c
+      -- the dual of a type's dual is the type itself
+      pub dual-back : (a b c : ℕ) → Plain a → Gave cs ws (dual a) b → Gave cs ws (dual b) c → c ≡ a
+      -- a isa b exactly where b's dual isa a's
+      pub dual-turns : (a b a′ b′ : ℕ) → Plain a → Plain b → Gave cs ws (dual a) a′ → Gave cs ws (dual b) b′ → Isa a b ↔ Isa b′ a′
+      -- lub isa t, t isa glb, t isa its read-only form
+      pub lub-below : (t h : ℕ) → Plain t → Gave cs ws (lub t) h → Isa h t
+      pub glb-above : (t h : ℕ) → Plain t → Gave cs ws (glb t) h → Isa t h
+      pub read-only-above : (t h : ℕ) → Plain t → Gave cs ws (make_ro t) h → Isa t h
+
+-- demand 3: "The list starts from a fresh store of any length row 1 allows". ws is the lent list that `fresh` fills, cs the calls.
+abbrev pub Demand3 : Type 0
+Demand3 = (ws : List ℕ) → rightLength ws ≡ true → (cs : List Call) → Laws run cs (freshCall ws .words)

@@ -1,0 +1,14 @@
+pub mod View
+pub mod Values
+pub mod Seen
+pub mod Back
+pub mod Store
+pub mod Names
+pub mod Entries
+pub mod Around
+pub mod Families
+pub mod Structs
+pub mod Meets
+pub mod Walks
+pub mod ReadOnly
+pub mod Joins

@@ -1,0 +1,5 @@
+pub mod Order
+pub mod Tree
+pub mod Meet
+pub mod Free
+pub mod Dual
