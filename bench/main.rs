@@ -13,7 +13,27 @@ extern "C" {
     fn ferigulan_get_mem_ptr(words: *mut u64, n: usize, to: u64, nil: u64) -> u64;
     fn ferigulan_meet(words: *mut u64, n: usize, a: u64, b: u64) -> u64;
     fn ferigulan_isa(words: *const u64, n: usize, a: u64, b: u64) -> u64;
+    fn ferigulan_join(words: *mut u64, n: usize, a: u64, b: u64) -> u64;
+    fn ferigulan_dual(words: *mut u64, n: usize, a: u64) -> u64;
+    fn ferigulan_glb(words: *mut u64, n: usize, a: u64) -> u64;
+    fn ferigulan_lub(words: *mut u64, n: usize, a: u64) -> u64;
+    fn ferigulan_is_final(words: *const u64, n: usize, a: u64) -> u64;
+    fn ferigulan_make_ro(words: *mut u64, n: usize, a: u64) -> u64;
 }
+
+// A call on two types, or on the first of them, by its name in a script.
+type Call = (&'static str, bool, fn(&mut [u64], u64, u64) -> u64);
+
+const CALLS: [Call; 8] = [
+    ("meet", true, |w, a, b| unsafe { ferigulan_meet(w.as_mut_ptr(), w.len(), a, b) }),
+    ("isa", true, |w, a, b| unsafe { ferigulan_isa(w.as_ptr(), w.len(), a, b) }),
+    ("join", true, |w, a, b| unsafe { ferigulan_join(w.as_mut_ptr(), w.len(), a, b) }),
+    ("dual", false, |w, a, _| unsafe { ferigulan_dual(w.as_mut_ptr(), w.len(), a) }),
+    ("glb", false, |w, a, _| unsafe { ferigulan_glb(w.as_mut_ptr(), w.len(), a) }),
+    ("lub", false, |w, a, _| unsafe { ferigulan_lub(w.as_mut_ptr(), w.len(), a) }),
+    ("is_final", false, |w, a, _| unsafe { ferigulan_is_final(w.as_ptr(), w.len(), a) }),
+    ("make_ro", false, |w, a, _| unsafe { ferigulan_make_ro(w.as_mut_ptr(), w.len(), a) }),
+];
 
 fn store(len: usize) -> Vec<u64> {
     let mut w = vec![0u64; len];
@@ -63,7 +83,7 @@ fn time(mut f: impl FnMut()) -> f64 {
     best
 }
 
-// A store of nearly `len` words, made by calls, and its types that are met with each other; the script that makes the same.
+// A store of nearly `len` words, made by calls, and its types that the calls are given; the script that makes the same.
 fn types(len: usize) -> (Vec<u64>, Vec<(u64, u64)>, String) {
     let mut w = vec![0u64; len];
     let p = w.as_mut_ptr();
@@ -72,8 +92,8 @@ fn types(len: usize) -> (Vec<u64>, Vec<(u64, u64)>, String) {
     let mut script = format!("fresh {len}\nstr 53\n");
     let mut groups: Vec<[u64; 4]> = Vec::new();
     let mut k = 100u64;
-    // a quarter of the room is left for the meets
-    while (w[0] as usize) < len - len / 4 - 40 {
+    // half of the room is left for what the calls make
+    while (w[0] as usize) < len / 2 - 40 {
         unsafe {
             let int = ferigulan_make_int(p, len, k, k + 7);
             let pair = ferigulan_get_tuple(p, len, [int, 25].as_ptr(), 2);
@@ -96,39 +116,38 @@ fn types(len: usize) -> (Vec<u64>, Vec<(u64, u64)>, String) {
     (w, pairs, script)
 }
 
-// The Rust's nanoseconds a call, from the oracle's own clock around its functions.
-fn rust(oracle: &str, script: &str) -> Option<(f64, f64)> {
-    std::fs::write("target/bench-meets.txt", script).ok()?;
-    let out = std::process::Command::new(oracle).args(["time", "target/bench-meets.txt", "20"]).output().ok()?;
-    let text = String::from_utf8(out.stdout).ok()?;
-    let figure = |name: &str| text.lines().find(|l| l.starts_with(name)).and_then(|l| l.split_whitespace().nth(2)?.parse().ok());
-    Some((figure("meet ")?, figure("isa ")?))
+// The Rust's nanoseconds a call, from the oracle's own clock around its functions: what it prints of a script.
+fn rust(oracle: &str, script: &str) -> Option<String> {
+    std::fs::write("target/bench-types.txt", script).ok()?;
+    let out = std::process::Command::new(oracle).args(["time", "target/bench-types.txt", "20"]).output().ok()?;
+    String::from_utf8(out.stdout).ok()
 }
 
-// meet and isa of Ints, pairs, structs and pointers, beside a scan of the same words and beside the Rust.
-fn meets(oracle: Option<String>) {
-    println!("\n{:>9} {:>12} {:>22} {:>22} {:>14} {:>14}", "words", "scan ns", "meet", "isa", "Rust's meet", "Rust's isa");
-    for len in [1_000usize, 8_192, 65_536] {
+fn figure(text: &str, name: &str) -> Option<f64> {
+    text.lines().find(|l| l.split_whitespace().next() == Some(name)).and_then(|l| l.split_whitespace().nth(2)?.parse().ok())
+}
+
+// The calls on Ints, pairs, structs and pointers, beside a scan of the same words and beside the Rust.
+fn lattice(oracle: Option<String>) {
+    println!("\n{:>9} {:>12} {:>10} {:>22} {:>20}", "words", "scan ns", "call", "time", "the Rust");
+    for len in [2_048usize, 8_192, 65_536] {
         let (mut w, pairs, mut script) = types(len);
-        for (a, b) in &pairs {
-            let h = unsafe { ferigulan_meet(w.as_mut_ptr(), len, *a, *b) };
-            assert!(h < 1 << 63);
-            script += &format!("meet {a} {b}\nisa {a} {b}\n");
+        for (name, two, call) in CALLS {
+            for (a, b) in &pairs {
+                assert!(call(&mut w, *a, *b) < 1 << 63);
+                script += &if two { format!("{name} {a} {b}\n") } else { format!("{name} {a}\n") };
+            }
         }
         let scan = time(|| {
             let w = black_box(&w);
             black_box(w.iter().fold(0u64, |a, b| a ^ b));
         });
-        let n = pairs.len() as f64;
-        let meet = time(|| pairs.iter().for_each(|(a, b)| assert!(black_box(unsafe { ferigulan_meet(w.as_mut_ptr(), len, *a, *b) }) < 1 << 63))) / n;
-        let isa = time(|| pairs.iter().for_each(|(a, b)| assert!(black_box(unsafe { ferigulan_isa(w.as_ptr(), len, *a, *b) }) < 2))) / n;
         let theirs = oracle.as_ref().and_then(|o| rust(o, &script));
-        let show = |x: f64| format!("{:.0} ns ({:.1}x)", x, x / scan);
-        let beside = |x: f64, y: Option<f64>| y.map_or("not run".to_string(), |y| format!("{:.0} ns ({:.0}x)", y, x / y));
-        println!(
-            "{:>9} {:>12.0} {:>22} {:>22} {:>14} {:>14}",
-            len, scan, show(meet), show(isa), beside(meet, theirs.map(|t| t.0)), beside(isa, theirs.map(|t| t.1))
-        );
+        for (name, _, call) in CALLS {
+            let ours = time(|| pairs.iter().for_each(|(a, b)| assert!(black_box(call(&mut w, *a, *b)) < 1 << 63))) / pairs.len() as f64;
+            let beside = theirs.as_ref().and_then(|t| figure(t, name)).map_or("not run".to_string(), |y| format!("{:.0} ns ({:.0}x)", y, ours / y));
+            println!("{:>9} {:>12.0} {:>10} {:>22} {:>20}", len, scan, name, format!("{:.0} ns ({:.1}x)", ours, ours / scan), beside);
+        }
     }
 }
 
@@ -166,5 +185,5 @@ fn main() {
         let show = |x: f64| format!("{:.0} ns ({:.1}x)", x, x / scan);
         println!("{:>9} {:>12.0} {:>22} {:>22} {:>22} {:>22}", len, scan, show(row1), show(found), show(new), show(name));
     }
-    meets(std::env::args().nth(1));
+    lattice(std::env::args().nth(1));
 }
