@@ -10,16 +10,16 @@ use lib.Seq.{drop-cons}
 use Rattle.words.specs.Words.{sizeOf}
 use Rattle.wellformed.specs.Entry.{kind, count, every, typesIn}
 use Rattle.call.specs.Handles.{word, kindOn}
-use Rattle.kept.proofs.Columns.{every-all}
+use Rattle.meet_fields.proofs.Finals.{every-length}
 use Rattle.parts.specs.Parts.{Good, All}
-use Rattle.parts.proofs.Spot.{entry-head, row-sized, row-every, row-inside}
+use Rattle.parts.proofs.Spot.{row-inside}
 use Rattle.trees.proofs.Tree.{Shape, con, tup, ptr, str, fre, mem}
 use Rattle.trees.proofs.Free.{isMem, isFre, Lacks, Lacks*, lhi, llo, lint, lnode, lend, lmore, NoMem, NoFre}
 use Rattle.demand3.specs.Demand3.{entryOn, some, reachesWithin, reaches}
 use Rattle.meaning.proofs.View.{View, vhi, vlo, vint, vnode, row, build, Before, Earlier}
 use Rattle.meaning.proofs.Values.{pick, floatView}
 use Rattle.meaning.proofs.Seen.{kindView, structView, viewOn}
-use Rattle.meaning.proofs.Store.{Typed, treeOn, rowOf, row-in, row-at, row-kind, row-view, parts-earlier, tree-on}
+use Rattle.meaning.proofs.Store.{Typed, treeOn, row-words, rowOf, row-in, row-at, row-kind, row-view, parts-earlier, tree-on}
 use Rattle.meaning.proofs.Families.{each-kind}
 
 -- ---- the words of an entry
@@ -37,14 +37,10 @@ module _ {u : List ℕ} (g : Good u) {h : ℕ} (p : Typed u h) where
 
   entry-words : entryOn u h ≡ e
   entry-words =
-      let r = rowOf g p in
-      let m = row-in g p in
-      let a = row-at g p in
-      let w : getD e 0 0 ≡ word u h = sym (entry-head u r m) ∙ ap (word u) a in
-      let l : length e ≡ sizeOf (word u h) = row-sized u (g .sound) r m ∙ ap sizeOf w in
-      let q : h ≡ r .at + 0 = omega arith in
-      take-every (sizeOf (word u h)) h u (omega (arith, row-inside u (g .sound) r m))
-      ∙ rw (← l) (row-every u (g .sound) r m 1 (length e) 0 h q (omega arith) ∙ every-all e)
+      let w = row-words g (rowOf g p) (row-in g p) h (row-at g p) in
+      let n = sizeOf (word u h) in
+      let l : length e ≡ n = ap length w ∙ every-length 1 n h u in
+      take-every n h u (omega (arith, row-inside u (g .sound) (rowOf g p) (row-in g p), l, row-at g p)) ∙ sym w
 
 -- ---- the kind of a shape
 

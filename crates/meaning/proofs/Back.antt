@@ -21,11 +21,12 @@ use Rattle.makers.proofs.Fields.{every-shift}
 use Rattle.makers.proofs.FloatSize.{size-word}
 use Rattle.type_float.proofs.Size.{each-word}
 use Rattle.kept.proofs.Columns.{every-all}
+use Rattle.structs.proofs.Columns.{half}
 use Rattle.parts.proofs.Checked.{Tested, tested, row-checked}
 use Rattle.meet_fields.proofs.Finals.{every-length}
 use Rattle.trees.proofs.Tree.{Cls, all as allTypes, ctl, f64, f32, stc, con, tup, ptr, str, fre, mem}
 use Rattle.meaning.proofs.View.{View, vhi, vlo, vint, vnode}
-use Rattle.meaning.proofs.Values.{pick, key, key-key, flag, flags, half, bit, bit-flag, flag-bit, floatView}
+use Rattle.meaning.proofs.Values.{pick, key, key-key, flag, flags, bit, bit-flag, flag-bit, floatView}
 use Rattle.meaning.proofs.Seen.{structView, viewOn, sized, three, eleven}
 
 abbrev pub weave : List ℕ → List ℕ → List ℕ → List Bool → List ℕ

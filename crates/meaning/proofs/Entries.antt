@@ -17,13 +17,13 @@ use Rattle.makers.proofs.Fields.{every-shift}
 use Rattle.kept.proofs.Columns.{every-all, column, names-apart, types-apart}
 use Rattle.kept.proofs.Fits.{Parts, kind-is, count-is, StructParts, behind}
 use Rattle.structs.specs.Remade.{fieldsWith}
-use Rattle.structs.proofs.Columns.{with-count, with-names, with-types, with-aliases, with-finals}
+use Rattle.structs.proofs.Columns.{half, with-count, with-names, with-types, with-aliases, with-finals}
 use Rattle.parts.specs.Parts.{Good}
 use Rattle.parts.proofs.Good.{fresh-word, bot-part, top-part, ctrl-part, xctrl-part, struct-top-part, struct-bot-part, int-top-part, int-bot-part, float-top-part, float-b32-part, float-bot-part}
 use Rattle.rules.specs.Column.{_⇒_∣_}
 use Rattle.trees.proofs.Tree.{all as allTypes, ctl, f64, f32, stc, tup, ptr, str, mem, hi, lo, int}
 use Rattle.meaning.proofs.View.{vhi, vlo, vint, vnode}
-use Rattle.meaning.proofs.Values.{key, flag, flags, half, floatView}
+use Rattle.meaning.proofs.Values.{key, flag, flags, floatView, floatTree, build-float}
 use Rattle.meaning.proofs.Seen.{viewOn}
 use Rattle.meaning.proofs.Store.{Typed, treeOn, typed, typed-struct, looks}
 
@@ -36,6 +36,9 @@ int-view min max = refl
 pub float-view : (size bits : ℕ) → viewOn (floatEntry size bits) 0 ≡ floatView size bits
 unfolding viewOn
 float-view size bits = refl
+
+pub float-tree : {u : List ℕ} → Good u → (h : ℕ) → Typed u h → kindOn u h ≡ 6 → treeOn u h ≡ floatTree (word u (h + 1)) (word u (h + 2))
+float-tree {u} g h p k = looks g h 6 p k ∙ build-float (treeOn u) (word u (h + 1)) (word u (h + 2))
 
 pub tuple-view : (hs w : List ℕ) → Parts w Tuple (length hs) [] hs → viewOn (tupleEntry hs w) 0 ≡ vnode tup [] hs
 unfolding viewOn

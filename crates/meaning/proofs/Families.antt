@@ -14,7 +14,7 @@ use Rattle.rules.specs.Column.{_⇒_∣_}
 use Rattle.trees.proofs.Tree.{stc, _≼_, same, Ty, cls}
 use Rattle.trees.proofs.Meet.{kind}
 use Rattle.meaning.proofs.View.{View, build}
-use Rattle.meaning.proofs.Values.{pick, floatView}
+use Rattle.meaning.proofs.Values.{clash, pick, floatView}
 use Rattle.meaning.proofs.Seen.{kindView, structView}
 use Rattle.meaning.proofs.Store.{Typed, treeOn, looks}
 
@@ -99,30 +99,27 @@ back-struct k =
     let P : ℕ → Type 0 = λ v. v ≡ 8 → (k ≡ 8) ⊎ (k ≡ 9) in
     pick P (eqb k 2) (λ e q. absurd (omega arith)) λ e. pick P (eqb k 4) (λ e q. absurd (omega arith)) λ e. pick P (eqb k 9) (λ e q. inr (eqb-true k 9 e)) λ e. λ q. inl q
 
-never : {b : Bool} → b ≡ true → b ≡ false → ⊥
-never e f = let z : true ≡ false = sym e ∙ f in let y : _≡_ {A = ℕ} 0 1 = cc in omega arith
-
 module _ (k : ℕ) where
   abbrev Apart : ℕ → Type 0
   Apart j = Others j k → family j ≡ family k → ⊥
 
   no-struct : isStruct k ≡ false → family k ≡ 8 → ⊥
-  no-struct f q = ⊎-elim (λ (e : k ≡ 8). never (rw e refl) f) (λ (e : k ≡ 9). never (rw e refl) f) (back-struct k q)
+  no-struct f q = ⊎-elim (λ (e : k ≡ 8). clash (rw e refl) f) (λ (e : k ≡ 9). clash (rw e refl) f) (back-struct k q)
 
   pub apart : (j : ℕ) → 1 ≤ j → j ≤ 11 → Apart j
   apart =
       each-kind Apart
-      (λ o q. never refl (o .bot)) (λ o q. never refl (o .top))
-      (λ o q. ⊎-elim (λ (e : k ≡ 3). o .ctrls refl e) (λ (e : k ≡ 4). never (eq-eqb k 4 e) (o .down)) (back-ctrl k (sym q)))
-      (λ o q. ⊎-elim (λ (e : k ≡ 3). never (eq-eqb k 3 e) (o .up)) (λ (e : k ≡ 4). o .xctrls refl e) (back-ctrl k (sym q)))
-      (λ o q. never (eq-eqb k 5 (back k 5 (omega arith) (omega arith) (omega arith) (sym q))) (o .ints))
-      (λ o q. never (eq-eqb k 6 (back k 6 (omega arith) (omega arith) (omega arith) (sym q))) (o .floats))
-      (λ o q. never (eq-eqb k 7 (back k 7 (omega arith) (omega arith) (omega arith) (sym q))) (o .tuples))
+      (λ o q. clash refl (o .bot)) (λ o q. clash refl (o .top))
+      (λ o q. ⊎-elim (λ (e : k ≡ 3). o .ctrls refl e) (λ (e : k ≡ 4). clash (eq-eqb k 4 e) (o .down)) (back-ctrl k (sym q)))
+      (λ o q. ⊎-elim (λ (e : k ≡ 3). clash (eq-eqb k 3 e) (o .up)) (λ (e : k ≡ 4). o .xctrls refl e) (back-ctrl k (sym q)))
+      (λ o q. clash (eq-eqb k 5 (back k 5 (omega arith) (omega arith) (omega arith) (sym q))) (o .ints))
+      (λ o q. clash (eq-eqb k 6 (back k 6 (omega arith) (omega arith) (omega arith) (sym q))) (o .floats))
+      (λ o q. clash (eq-eqb k 7 (back k 7 (omega arith) (omega arith) (omega arith) (sym q))) (o .tuples))
       (λ o q. no-struct (o .structs) (sym q)) (λ o q. no-struct (o .structs) (sym q))
-      (λ o q. never (eq-eqb k 10 (back k 10 (omega arith) (omega arith) (omega arith) (sym q))) (o .pointers))
-      (λ o q. never (eq-eqb k 11 (back k 11 (omega arith) (omega arith) (omega arith) (sym q))) (o .memories))
+      (λ o q. clash (eq-eqb k 10 (back k 10 (omega arith) (omega arith) (omega arith) (sym q))) (o .pointers))
+      (λ o q. clash (eq-eqb k 11 (back k 11 (omega arith) (omega arith) (omega arith) (sym q))) (o .memories))
 
 pub no-one : (k : ℕ) → eqb k 1 ≡ false → eqb k 2 ≡ false → family k ≢ 1
 no-one k a b =
     let P : ℕ → Type 0 = λ v. v ≡ 1 → ⊥ in
-    pick P (eqb k 2) (λ e q. never e b) λ e. pick P (eqb k 4) (λ e q. omega arith) λ e. pick P (eqb k 9) (λ e q. omega arith) λ e. λ q. eqb-false k 1 a q
+    pick P (eqb k 2) (λ e q. clash e b) λ e. pick P (eqb k 4) (λ e q. omega arith) λ e. pick P (eqb k 9) (λ e q. omega arith) λ e. λ q. eqb-false k 1 a q

@@ -18,6 +18,7 @@ use Rattle.type_integer.specs.Signed.{smaller, larger}
 use Rattle.makers.specs.Entries.{intEntry}
 use Rattle.makers.proofs.FloatSize.{size-word}
 use Rattle.kept.proofs.Fits.{int-fits}
+use Rattle.structs.proofs.Columns.{half}
 use Rattle.parts.specs.Parts.{Good, Part, Name, All}
 use Rattle.parts.proofs.Parts.{StructAt, few, flat, deep, of-tuple, of-struct, of-fref, of-pointer, of-int, of-float, all-map}
 use Rattle.parts.proofs.Good.{part-weak, part-adds, good-adds, make-answers}
@@ -38,11 +39,11 @@ use Rattle.trees.proofs.Tree.{any, same, Shape, tup, str, fre, mem, Ty, int, no
 use Rattle.trees.proofs.Meet.{Meet, Meet*, Flags, meet-le, meet-ge, meet-int, flags-none, flags-more, meet-node, meet-ε, meet-◂, len, meet-lengths, Named, struct, fref, meet-names, meet-fields, meet-kinds}
 use Rattle.trees.proofs.Free.{Lacks*, lnode, lmore, isMem, NoMem}
 use Rattle.meaning.proofs.View.{row}
-use Rattle.meaning.proofs.Values.{pick, pick-cond, key, smaller-key, larger-key, flag, flags, half, flag-either, flag-max, floatTree, floatAnswer, float-right, build-float}
+use Rattle.meaning.proofs.Values.{pick, pick-cond, key, smaller-key, larger-key, flag, flags, flag-either, flag-max, floatTree, floatAnswer, float-right}
 use Rattle.meaning.proofs.Store.{Distinct, Typed, treeOn, typed, typed-struct, looks, handle-same, onward-adds, grown, kept, row-kept, every-kept, made-tree}
 use Rattle.meaning.proofs.Structs.{shapeOn, typesOn, valuesOn, isTop, isBot, struct-tree, struct-long, not-top, not-bot, remade-tree}
 use Rattle.meaning.proofs.Names.{name-handle, other-name, fields-same, fields-pass}
-use Rattle.meaning.proofs.Entries.{int-view, tree-bot, tree-struct-top, tree-struct-bot, tree-float-b32, tree-float-bot}
+use Rattle.meaning.proofs.Entries.{int-view, float-tree, tree-bot, tree-struct-top, tree-struct-bot, tree-float-b32, tree-float-bot}
 use Rattle.meaning.proofs.Around.{tuple-tree, pointer-tree}
 use Rattle.meaning.proofs.Families.{struct-or-fref, in-structs, kind-family, Others, apart, no-one}
 
@@ -339,9 +340,6 @@ module _ (n : ℕ) (ih : (u : List ℕ) (a b : ℕ) → Distinct u → Part u n 
         let t : treeOn (meetInt u a b .words) (meetInt u a b .handle) ≡ int (key x) (key y) = made-tree u (intEntry x y) S (f .sized) (omega arith) (omega arith) r ∙ rw (int-view x y) in
         rw (t, looks G₁ a 5 va ka, looks G₁ b 5 vb kb, smaller-key (word u (a + 1)) (word u (b + 1)) (ea .0) (eb .0), larger-key (word u (a + 2)) (word u (b + 2)) (ea .1) (eb .1)) (meet-int _ _ _ _)
 
-    float-tree : (h : ℕ) → Typed u h → kindOn u h ≡ 6 → treeOn u h ≡ floatTree (word u (h + 1)) (word u (h + 2))
-    float-tree h p k = looks G₁ h 6 p k ∙ build-float (treeOn u) (word u (h + 1)) (word u (h + 2))
-
     answer-tree : (m : FloatMeet) → treeOn u (floatHandle a b m) ≡ floatAnswer (treeOn u a) (treeOn u b) m
     answer-tree First = refl
     answer-tree Second = refl
@@ -354,8 +352,8 @@ module _ (n : ℕ) (ih : (u : List ℕ) (a b : ℕ) → Distinct u → Part u n 
         let x = word u (a + 2) in
         let t = word u (b + 1) in
         let y = word u (b + 2) in
-        let la = float-tree a va ka in
-        let lb = float-tree b vb kb in
+        let la = float-tree G₁ a va ka in
+        let lb = float-tree G₁ b vb kb in
         let es = size-word s x (of-float (G₁ .sound) va ka) in
         let et = size-word t y (of-float (G₁ .sound) vb kb) in
         rw (answer-tree (floatRule (readingOn u a) (readingOn u b)), la, lb) (float-right x y s t es et (λ i j z. no-twin (let e : floatTree s x ≡ floatTree t y = rw (i, j, z) in la ∙ e ∙ sym lb)))

@@ -1,13 +1,12 @@
 -- Where no two entries are equal, two names are the same where their handles are; so two structs have the same shape where meet's tests say so. Assumes nothing.
-use mathlib.Core.Path.{_≡_, refl, sym, ap, ap₂, _∙_}
+use mathlib.Core.Path.{_≡_, refl, sym, ap₂, _∙_}
 use mathlib.Core.Logic.{_≢_}
-use mathlib.Core.Bool.{Bool, true, false, _&&_, true≢false}
+use mathlib.Core.Bool.{true, false, _&&_}
 use mathlib.Core.List.{List, _∷_, map}
 use Prim.Native.Nat.{ℕ, zero, suc, _+_, _/_, _<_}
 use native.Mathlib.Omega.{arith}
 use borrow.Author.Tests.{eqb-true, eq-eqb}
 use lib.Dec.{eqb}
-use lib.ListN.{length, getD}
 use Rattle.words.specs.Words.{sizeOf}
 use Rattle.words.specs.Table.{Row, entries, In}
 use Rattle.words.proofs.Walk.{size-pos}
@@ -15,15 +14,11 @@ use Rattle.wellformed.specs.Entry.{every}
 use Rattle.wellformed.proofs.Bools.{and-left, and-right, and-both}
 use Rattle.call.specs.Handles.{word}
 use Rattle.call.proofs.Agree.{at-row}
-use Rattle.kept.proofs.Columns.{every-all}
+use Rattle.structs.proofs.Columns.{half}
 use Rattle.parts.specs.Parts.{Good, Name, All}
-use Rattle.parts.proofs.Spot.{entry-head, row-sized, row-every}
 use Rattle.meet_rules.specs.Names.{sameWords, sameName, sameFields}
-use Rattle.meaning.proofs.Values.{half}
-use Rattle.meaning.proofs.Store.{Distinct, same-handle}
-
-clash : {b : Bool} {P : Type 0} → b ≡ true → b ≡ false → P
-clash e f = absurd (true≢false (sym e ∙ f))
+use Rattle.meaning.proofs.Values.{clash}
+use Rattle.meaning.proofs.Store.{Distinct, row-words, same-handle}
 
 -- ---- names
 
@@ -51,15 +46,7 @@ module _ {u : List ℕ} (g : Good u) where
 
   -- the words of a name, read off the used words
   name-words : {k h : ℕ} (p : Name u k h) → found p .0 .words ≡ every 1 (sizeOf (word u h)) h u
-  name-words {h = h} p =
-      let r = found p .0 in
-      let m = found p .1 in
-      let a : r .at ≡ h = found p .2 in
-      let e = r .words in
-      let w : getD e 0 0 ≡ word u h = sym (entry-head u r m) ∙ ap (word u) a in
-      let l : length e ≡ sizeOf (word u h) = row-sized u (g .sound) r m ∙ ap sizeOf w in
-      let q : h ≡ r .at + 0 = omega arith in
-      sym (rw (← l) (row-every u (g .sound) r m 1 (length e) 0 h q (omega arith)) ∙ every-all e)
+  name-words {h = h} p = row-words g (found p .0) (found p .1) h (found p .2)
 
 pub name-handle : {u : List ℕ} → Distinct u → (k l p q : ℕ) → Name u k p → Name u l q → sameName u p q ≡ true → p ≡ q
 name-handle {u} S k l p q a b e =

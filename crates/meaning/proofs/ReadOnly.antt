@@ -15,11 +15,12 @@ use Rattle.parts.proofs.Parts.{flat, deep, of-struct, of-pointer, all-map}
 use Rattle.parts.proofs.Good.{part-weak, part-adds, good-adds}
 use Rattle.rules.specs.Column.{_⇒_∣_}
 use Rattle.meet_fields.proofs.Finals.{every-length}
+use Rattle.meet.proofs.Nice.{narrow}
 use Rattle.finals.specs.Final.{isFinalOf}
 use Rattle.make_ro.specs.ReadOnly.{fieldType, readOnlyEach, types, structOf, pointerTo, makeRoWithin}
 use Rattle.make_ro.proofs.Finals.{ones-flags}
 use Rattle.make_ro.proofs.Nice.{field-nice, each-nice, struct-kind, make-ro-nice}
-use Rattle.trees.proofs.Tree.{stc, same, _≤ᵇ_, off, on, _≤*_, stop, _⨟_, _⊑_, up, dn, nd, _⊑*_, end, _&_, ≤*-refl, ⊑-refl}
+use Rattle.trees.proofs.Tree.{stc, same, _≤ᵇ_, _≤*_, stop, _⨟_, _⊑_, up, dn, nd, _⊑*_, end, _&_, ≤ᵇ-true, ≤*-refl, ⊑-refl}
 use Rattle.meaning.proofs.View.{vhi, vlo, vnode, row, build}
 use Rattle.meaning.proofs.Values.{pick, pick-cond, flag, flags}
 use Rattle.meaning.proofs.Store.{Distinct, Typed, treeOn, typed, looks, onward-adds, grown, kept, row-kept}
@@ -32,11 +33,7 @@ Above u a g = treeOn u a ⊑ treeOn (g .words) (g .handle)
 -- every flag is at most yes
 to-ones : (vs : List ℕ) → flags vs ≤* flags (replicate (length vs) 1)
 to-ones [] = stop
-to-ones (v ∷ vs) = below (flag v) ⨟ to-ones vs
-  where
-    below : (b : Bool) → b ≤ᵇ true
-    below true = on
-    below false = off
+to-ones (v ∷ vs) = ≤ᵇ-true (flag v) ⨟ to-ones vs
 
 module _ (n : ℕ) (ih : (u : List ℕ) (a : ℕ) → Distinct u → Part u n 33 1 11 a → Above u a (makeRoWithin n u a)) where
   field-above : (u : List ℕ) (v t : ℕ) → Distinct u → Part u n 33 1 11 t → Above u t (fieldType (makeRoWithin n) u v t)
@@ -86,7 +83,7 @@ module _ (n : ℕ) (ih : (u : List ℕ) (a : ℕ) → Distinct u → Part u n 33
         let s = makeRoWithin n u x in
         let r = make-ro-nice n .structs u x D G px in
         let T = grown S (r .adds) in
-        let h : treeOn u x ⊑ treeOn (s .words) (s .handle) = ih u x S (record { entry = px .entry; earlier = px .earlier; least = omega (arith, px .least); most = omega (arith, px .most); shallow = omega (arith, px .shallow, most) }) in
+        let h : treeOn u x ⊑ treeOn (s .words) (s .handle) = ih u x S (part-weak n 33 (omega arith) (omega (arith, most)) (narrow 1 11 px (omega (arith, px .least)) (omega (arith, px .most)))) in
         pick-cond (Above u a) (eqb (s .handle) x)
         (λ e. rw (kept G (T .good) (onward-adds (r .adds)) a v) (⊑-refl (treeOn u a)))
         (λ e. rw (looks G a 10 v k, pointer-tree T D some most (s .handle) (word u (a + 2)) (r .part) (t .flag)) (nd (≤*-refl (flag (word u (a + 2)) ∷ [])) (h & end)))

@@ -17,11 +17,12 @@ use Rattle.words.proofs.Sizes.{pair-size, tuple-size, struct-size, fref-size}
 use Rattle.wellformed.specs.Entry.{kind, count, every}
 use Rattle.call.specs.Handles.{word, kindOn, countOn}
 use Rattle.call.specs.Keep.{Sound}
+use Rattle.structs.proofs.Columns.{half}
 use Rattle.parts.proofs.Spot.{entry-head, row-sized, row-word, row-every}
 use Rattle.rules.specs.Column.{_⇒_∣_}
 use Rattle.trees.proofs.Tree.{all as allTypes, ctl, stc, tup, ptr, str, fre, mem}
 use Rattle.meaning.proofs.View.{View, vhi, vlo, vint, vnode}
-use Rattle.meaning.proofs.Values.{key, flag, flags, half, floatView}
+use Rattle.meaning.proofs.Values.{key, flag, flags, floatView}
 
 -- ---- the view
 

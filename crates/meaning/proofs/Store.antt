@@ -6,9 +6,9 @@ use Prim.Native.Nat.{ℕ, _+_, _*_, _≤_, _<_}
 use native.Mathlib.Omega.{arith}
 use borrow.Author.Tests.{eqb-true, eqb-false}
 use lib.Dec.{eqb}
-use lib.ListN.{length}
+use lib.ListN.{length, getD}
 use Rattle.words.specs.Kinds.{Bot, Top, Ctrl, XCtrl, Int, Float, Tuple, Struct, Fref, MemPtr}
-use Rattle.words.specs.Words.{kindOf}
+use Rattle.words.specs.Words.{sizeOf, kindOf}
 use Rattle.words.specs.Table.{Row, entries, starts, Sized, In, Own, firstOf}
 use Rattle.words.specs.Made.{Grown, make}
 use Rattle.words.specs.declared.Found.the-variants.{At}
@@ -18,8 +18,9 @@ use Rattle.call.specs.Handles.{word, kindOn, depthOn, countOn}
 use Rattle.call.specs.Keep.{Ends, Adds}
 use Rattle.call.proofs.Agree.{at-row}
 use Rattle.call.proofs.Sound.{start-used}
+use Rattle.kept.proofs.Columns.{every-all}
 use Rattle.parts.specs.Parts.{Good, Part, All}
-use Rattle.parts.proofs.Spot.{at-more, entry-head, row-word, row-every}
+use Rattle.parts.proofs.Spot.{at-more, entry-head, row-sized, row-word, row-every}
 use Rattle.parts.proofs.Parts.{flat, of-tuple, of-struct, of-pointer, of-memory, all-map}
 use Rattle.parts.proofs.Good.{part-used, good-adds, Answers}
 use Rattle.trees.proofs.Tree.{Ty, Shape, node}
@@ -53,6 +54,15 @@ typed-struct g p = typed g (record { entry = p .entry; earlier = p .earlier; lea
 
 pub same-handle : (rs : List Row) (r s : Row) → Own rs → In r rs → In s rs → r .words ≡ s .words → r .at ≡ s .at
 same-handle rs r s own i j e = let q : At (r .at) ≡ At (s .at) = sym (own r i) ∙ ap (firstOf rs) e ∙ own s j in cc
+
+-- the words of the entry at h, read off the used words
+pub row-words : {u : List ℕ} → Good u → (r : Row) → In r (entries u) → (h : ℕ) → r .at ≡ h → r .words ≡ every 1 (sizeOf (word u h)) h u
+row-words {u} g r m h a =
+    let e = r .words in
+    let w : getD e 0 0 ≡ word u h = sym (entry-head u r m) ∙ ap (word u) a in
+    let l : length e ≡ sizeOf (word u h) = row-sized u (g .sound) r m ∙ ap sizeOf w in
+    let q : h ≡ r .at + 0 = omega arith in
+    sym (rw (← l) (row-every u (g .sound) r m 1 (length e) 0 h q (omega arith)) ∙ every-all e)
 
 module _ {u : List ℕ} (g : Good u) {h : ℕ} (p : Typed u h) where
   pub rowOf : Row

@@ -18,7 +18,7 @@ use Rattle.call.specs.Keep.{Adds}
 use Rattle.call.proofs.Sound.{adds-none}
 use Rattle.kept.proofs.Fits.{kind-is, StructParts, struct-fits}
 use Rattle.structs.specs.Remade.{fieldsWith, remake}
-use Rattle.structs.proofs.Columns.{with-values}
+use Rattle.structs.proofs.Columns.{half, with-values}
 use Rattle.makers.specs.Entries.{fieldCount, fieldNames, fieldTypes, fieldWords, structEntry}
 use Rattle.words.specs.Kinds.{Struct}
 use Rattle.parts.specs.Parts.{Good, Part, All}
@@ -30,7 +30,7 @@ use Rattle.meet.proofs.Made.{struct-parts, struct-answers}
 use Rattle.meet.proofs.Nice.{wide}
 use Rattle.trees.proofs.Tree.{stc, Shape, str, node}
 use Rattle.meaning.proofs.View.{View, vhi, vlo, vnode, row, build}
-use Rattle.meaning.proofs.Values.{half, flags}
+use Rattle.meaning.proofs.Values.{flags}
 use Rattle.meaning.proofs.Seen.{viewOn, sized}
 use Rattle.meaning.proofs.Store.{Distinct, Typed, treeOn, typed, rowOf, row-in, row-at, row-kind, looks, handle-same, onward-adds, grown, row-kept, word-kept, every-kept, made-tree}
 use Rattle.meaning.proofs.Entries.{remade-view, struct-top-typed, tree-struct-top, struct-bot-typed, tree-struct-bot}

@@ -1,9 +1,9 @@
 -- What values say in a tree: the ends of an Int in their order, flags, floats. Assumes nothing.
-use mathlib.Core.Path.{_≡_, refl, sym}
+use mathlib.Core.Path.{_≡_, refl, sym, _∙_}
 use mathlib.Core.Logic.{_≢_}
-use mathlib.Core.Bool.{Bool, true, false, cond, not, _&&_, _||_}
+use mathlib.Core.Bool.{Bool, true, false, cond, not, _&&_, _||_, true≢false}
 use mathlib.Core.List.{List, [], _∷_}
-use Prim.Native.Nat.{ℕ, zero, suc, _+_, _-_, _*_, _/_, _%_, _^_, _≤_, _<_, min, max}
+use Prim.Native.Nat.{ℕ, zero, suc, _+_, _-_, _*_, _%_, _^_, _≤_, _<_, min, max}
 use native.Mathlib.Omega.{arith}
 use borrow.Author.Tests.{ltb-true, ltb-false, lt-ltb, le-ltb, eqb-true, eqb-false}
 use lib.Dec.{eqb, ltb}
@@ -11,6 +11,7 @@ use lib.IntN.{pos, negsuc}
 use lib.Ieee.{binary64, ofBits}
 use mir.Syntax.{w64}
 use mir.Val.{toZ}
+use Rattle.structs.proofs.Columns.{half}
 use Rattle.rules.specs.Column.{_⇒_∣_}
 use Rattle.type_integer.specs.Signed.{less, smaller, larger}
 use Rattle.type_float.specs.Float.{sizeFrom, isSizeWord, readingOf}
@@ -34,6 +35,9 @@ module _ {A : Type 0} (P : A → Type 0) where
   pub pick-cond : (b : Bool) {x y : A} → (b ≡ true → P x) → (b ≡ false → P y) → P (cond b x y)
   pick-cond true f g = f refl
   pick-cond false f g = g refl
+
+pub clash : {b : Bool} {P : Type 0} → b ≡ true → b ≡ false → P
+clash e f = absurd (true≢false (sym e ∙ f))
 
 -- ---- Ints: two's complement words in the order of their numbers
 
@@ -115,9 +119,6 @@ abbrev pub flags : List ℕ → List Bool
 flags [] = []
 flags (v ∷ vs) = flag v ∷ flags vs
 
-abbrev pub half : ℕ → ℕ
-half v = v / 2
-
 pub flag-either : (x y : ℕ) → flag (max (x % 2) (y % 2)) ≡ (flag x || flag y)
 flag-either x y = go (eqb (x % 2) 1) refl (eqb (y % 2) 1) refl
   where
@@ -178,7 +179,7 @@ floatAnswer t u Single = lo f32
 floatAnswer t u Double = lo f64
 
 -- within a class, whether single or not
-in-64 : (b : Bool) (n : ℕ) → f64 ≼ shapeCls (con b n)
+pub in-64 : (b : Bool) (n : ℕ) → f64 ≼ shapeCls (con b n)
 in-64 true n = wide
 in-64 false n = same
 

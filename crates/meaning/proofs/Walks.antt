@@ -23,6 +23,7 @@ use Rattle.parts.proofs.Parts.{few, flat, deep, of-tuple, of-struct, of-pointer
 use Rattle.parts.proofs.Good.{part-weak, part-adds, good-adds, make-answers}
 use Rattle.meet_fields.proofs.Finals.{every-length}
 use Rattle.meet.specs.Meet.{Many, tupleOf, pointerOf, memoryOf}
+use Rattle.meet.proofs.Nice.{narrow}
 use Rattle.walk_rules.specs.Tables.{endOf, structForm, tupleForm, formFor, intOf, floatOf, nilOf, finalOf, finalsOf, fieldsOf}
 use Rattle.walk_rules.specs.declared.Walk.{Walk}
 use Rattle.walk_rules.specs.declared.Walk.the-variants.{Dual, Glb, Lub}
@@ -30,12 +31,12 @@ use Rattle.walk_rules.specs.declared.Form.{Form}
 use Rattle.walk_rules.proofs.Finals.{nil-flag, finals-length, finals-flags}
 use Rattle.walk.specs.Walked.{walkEach, elements, types, structOf, followForm, walkWithin}
 use Rattle.walk.proofs.Nice.{turned-fits, walk-nice, each-nice, each-part}
-use Rattle.trees.proofs.Tree.{all as allTypes, ctl, f64, stc, _≼_, any, same, wide, Shape, con, tup, ptr, fre, mem, shapeCls, Ty, hi, lo, node, Tys, ε, _◂_, cls, _≤ᵇ_, off, on, _≤*_, stop, _⨟_, _⊑_, up, dn, io, nd, _⊑*_, end, _&_, ≤ᵇ-refl, ⊑-refl}
+use Rattle.trees.proofs.Tree.{all as allTypes, ctl, f64, stc, _≼_, any, same, wide, Shape, con, tup, ptr, fre, mem, Ty, hi, lo, node, Tys, ε, _◂_, cls, _≤ᵇ_, off, _≤*_, stop, _⨟_, _⊑_, up, dn, io, nd, _⊑*_, end, _&_, ≤ᵇ-refl, ≤ᵇ-true, ⊑-refl}
 use Rattle.trees.proofs.Dual.{dual, dual*, nots}
 use Rattle.meaning.proofs.View.{vnode, row, build}
-use Rattle.meaning.proofs.Values.{pick, pick-cond, key-most, flag, flags, flag-not, flag-rest, floatTree, build-float}
+use Rattle.meaning.proofs.Values.{in-64, pick, pick-cond, key-most, flag, flags, flag-not, flag-rest, floatTree, build-float}
 use Rattle.meaning.proofs.Store.{Distinct, Typed, treeOn, typed, looks, onward-adds, grown, kept, row-kept, every-kept, made-tree}
-use Rattle.meaning.proofs.Entries.{int-view, float-view, tree-bot, tree-top, tree-ctrl, tree-xctrl, tree-struct-top, tree-struct-bot, tree-int-top, tree-int-bot, tree-float-top, tree-float-bot}
+use Rattle.meaning.proofs.Entries.{int-view, float-view, float-tree, tree-bot, tree-top, tree-ctrl, tree-xctrl, tree-struct-top, tree-struct-bot, tree-int-top, tree-int-bot, tree-float-top, tree-float-bot}
 use Rattle.meaning.proofs.Around.{tuple-tree, pointer-tree, memory-tree}
 use Rattle.meaning.proofs.Families.{each-kind}
 use Rattle.meaning.proofs.Structs.{shapeOn, typesOn, valuesOn, isTop, isBot, seen, struct-tree, struct-long, not-top, not-bot, remade-tree}
@@ -98,13 +99,9 @@ unfolding finalsOf
 finals-flip w [] = flip-none w
 finals-flip w (v ∷ vs) = flip-more w (flag v) (flag (finalOf w v)) (flags vs) (flags (finalsOf w vs)) (final-flip w v) (finals-flip w vs)
 
-to-true : (b : Bool) → b ≤ᵇ true
-to-true true = on
-to-true false = off
-
 nil-flip : (w : Walk) (v : ℕ) → v ≤ 1 → Flip w (flag v) (flag (nilOf w v))
 nil-flip Dual v l = let e : 1 - v ≡ 1 - v % 2 = omega arith in rw e (flag-not v)
-nil-flip Glb v l = to-true (flag v)
+nil-flip Glb v l = ≤ᵇ-true (flag v)
 nil-flip Lub v l = off
 
 -- ---- Bot, Top, Ctrl and XCtrl
@@ -133,11 +130,7 @@ module _ {u : List ℕ} (G : Good u) where
 -- ---- Ints and Floats
 
 in-float : (s n : ℕ) → f64 ≼ cls (floatTree s n)
-in-float s n = let P : Ty → Type 0 = λ t. f64 ≼ cls t in pick P (eqb s 0) (λ e. same) λ e. pick P (eqb s 32) (λ e. wide) λ e. pick P (eqb s 96) (λ e. wide) λ e. pick P (eqb s 128) (λ e. same) λ e. constant (isSingle n)
-  where
-    constant : (b : Bool) → f64 ≼ shapeCls (con b n)
-    constant true = wide
-    constant false = same
+in-float s n = let P : Ty → Type 0 = λ t. f64 ≼ cls t in pick P (eqb s 0) (λ e. same) λ e. pick P (eqb s 32) (λ e. wide) λ e. pick P (eqb s 96) (λ e. wide) λ e. pick P (eqb s 128) (λ e. same) λ e. in-64 (isSingle n) n
 
 module _ {u : List ℕ} (S : Distinct u) (a : ℕ) (p : Typed u a) where
   abbrev G : Good u
@@ -153,9 +146,6 @@ module _ {u : List ℕ} (S : Distinct u) (a : ℕ) (p : Typed u a) where
   int-right Glb k = rw (tree-int-bot G, looks G a 5 p k) (io zero-le (key-most (word u (a + 2))))
   int-right Lub k = rw (tree-int-top G, looks G a 5 p k) (io (key-most (word u (a + 1))) zero-le)
 
-  float-tree : kindOn u a ≡ 6 → treeOn u a ≡ floatTree (word u (a + 1)) (word u (a + 2))
-  float-tree k = looks G a 6 p k ∙ build-float (treeOn u) (word u (a + 1)) (word u (a + 2))
-
   turned : (n s : ℕ) → isSizeWord s ≡ true → eqb s 64 ≡ false → floatTree (128 - s) 0 ≡ dual (floatTree s n)
   turned n = each-word (λ s. eqb s 64 ≡ false → floatTree (128 - s) 0 ≡ dual (floatTree s n)) (λ e. refl) (λ e. refl) (λ e. let z : _≡_ {A = ℕ} 0 1 = cc in absurd (omega arith)) (λ e. refl) (λ e. refl)
 
@@ -165,13 +155,13 @@ module _ {u : List ℕ} (S : Distinct u) (a : ℕ) (p : Typed u a) where
       let n = word u (a + 2) in
       let ok = size-word s n (of-float (G .sound) p k) in
       pick-cond (λ (g : Grown). treeOn (g .words) (g .handle) ≡ dual (treeOn u a)) (eqb s 64) (λ e.
-      let t : treeOn u a ≡ node (con (isSingle n) n) [] ε = float-tree k ∙ rw (eqb-true s 64 e) in
+      let t : treeOn u a ≡ node (con (isSingle n) n) [] ε = float-tree G a p k ∙ rw (eqb-true s 64 e) in
       t ∙ rw t) (λ e.
       let f = float-fits u (128 - s) 0 (turned-fits s n (of-float (G .sound) p k)) in
       let r = make-answers 33 1 11 (adds-none u 0 (G .sound)) G (floatEntry (128 - s) 0) f (inl refl) (omega arith) (omega arith) (omega arith) in
-      made-tree u (floatEntry (128 - s) 0) S (f .sized) (omega arith) (omega arith) r ∙ rw (float-view (128 - s) 0, build-float (treeOn (make u (floatEntry (128 - s) 0) .words)) (128 - s) 0, float-tree k) (turned n s ok e))
-  float-right Glb k = rw (tree-float-bot G, float-tree k) (dn (in-float (word u (a + 1)) (word u (a + 2))))
-  float-right Lub k = rw (tree-float-top G, float-tree k) (up (in-float (word u (a + 1)) (word u (a + 2))))
+      made-tree u (floatEntry (128 - s) 0) S (f .sized) (omega arith) (omega arith) r ∙ rw (float-view (128 - s) 0, build-float (treeOn (make u (floatEntry (128 - s) 0) .words)) (128 - s) 0, float-tree G a p k) (turned n s ok e))
+  float-right Glb k = rw (tree-float-bot G, float-tree G a p k) (dn (in-float (word u (a + 1)) (word u (a + 2))))
+  float-right Lub k = rw (tree-float-top G, float-tree G a p k) (up (in-float (word u (a + 1)) (word u (a + 2))))
 
 -- ---- parts
 
@@ -231,7 +221,7 @@ module _ (w : Walk) (n : ℕ) (ih : (u : List ℕ) (a : ℕ) → Distinct u → 
         let r = walk-nice w n .structs u x D G′ px in
         let nil = word u (a + 2) in
         let e = pointer-tree (grown S (r .adds)) D some most (s .handle) (nilOf w nil) (r .part) (nil-flag w nil (t .flag)) in
-        let h : Rel w (treeOn u x) (treeOn (s .words) (s .handle)) = ih u x S (record { entry = px .entry; earlier = px .earlier; least = omega (arith, px .least); most = omega (arith, px .most); shallow = omega (arith, px .shallow, most) }) in
+        let h : Rel w (treeOn u x) (treeOn (s .words) (s .handle)) = ih u x S (part-weak n 33 (omega arith) (omega (arith, most)) (narrow 1 11 px (omega (arith, px .least)) (omega (arith, px .most)))) in
         rw (looks G′ a 10 v k, e)
         (rel-node w ptr (flag nil ∷ []) (flag (nilOf w nil) ∷ []) (treeOn u x ◂ ε) (treeOn (s .words) (s .handle) ◂ ε)
         (flip-more w (flag nil) (flag (nilOf w nil)) [] [] (nil-flip w nil (leb-true nil 1 (t .flag))) (flip-none w)) (rel-◂ w (treeOn u x) (treeOn (s .words) (s .handle)) ε ε h (rel-ε w)))

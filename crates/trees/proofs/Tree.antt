@@ -108,6 +108,10 @@ pub ≤ᵇ-refl : (b : Bool) → b ≤ᵇ b
 ≤ᵇ-refl true = on
 ≤ᵇ-refl false = off
 
+pub ≤ᵇ-true : (b : Bool) → b ≤ᵇ true
+≤ᵇ-true true = on
+≤ᵇ-true false = off
+
 ≤ᵇ-trans : {a b c : Bool} → a ≤ᵇ b → b ≤ᵇ c → a ≤ᵇ c
 ≤ᵇ-trans off q = off
 ≤ᵇ-trans on on = on
