@@ -12,6 +12,8 @@ use Rattle.words.specs.declared.Interned.the-variants.{At, Full}
 use Rattle.words.proofs.Extend.{ext-length}
 use Rattle.words.proofs.Room.{Fit, fitted, fit-front, fit-length, then, stop}
 use Rattle.words.proofs.Placed.{make-extends}
+use Rattle.index.specs.Covers.{Covers}
+use Rattle.index.proofs.Keep.{covers-more}
 use Rattle.words.proofs.Kept.{Appends, appends-then, appends-none, make-appends, segments-after}
 
 -- all makings so far have fitted: g is what they make of the used words, and its words now stand in the first v of `old` and `now`; h is
@@ -60,6 +62,10 @@ module _ {old new : List ℕ} {used : ℕ} {g : Grown} {now : List ℕ} {h v : �
       let k = appends-then u g g₂ (so .keeps) (make-appends (g .words) e low (so .keeps .full) sized) in
       let len : length now₂ ≡ length new = omega (arith, fit-length g₂ (old ++ new) (old ++ now₂) h₂ v₂ f, length-append old new, length-append old now₂) in
       record { first = so .first; segments = segments-after old new now₂ used g₂ h₂ v₂ (so .first) k len f; keeps = k; fits = f }
+
+-- an index of the first words stays one
+pub reached-covers : {old new : List ℕ} {used : ℕ} {g : Grown} {now : List ℕ} {h v : ℕ} {index : List ℕ} → Reached old new used g now h v → Covers (take used (old ++ new)) index → Covers (take v (old ++ now)) index
+reached-covers {old} {new} {used} {g} {now} {h} {v} {index} so c = rw (fit-front g (old ++ new) (old ++ now) h v (so .fits)) (covers-more (take used (old ++ new)) (g .words) index (so .keeps .ext) c)
 
 -- where there was no room, there is none with one more
 pub still : {used : ℕ} (g : Grown) {ws ws₁ : List ℕ} (e : List ℕ) → Ran used g ws ws₁ Full → Ran used (make (g .words) e) ws ws₁ Full

@@ -1,15 +1,12 @@
 -- Row 1 reads an entry's parts where they start: words that agree there give the same answer. And rows behind rows. Assumes nothing.
-use mathlib.Core.Path.{_≡_, refl, sym, ap, fun-ext}
+use mathlib.Core.Path.{_≡_, refl, sym, fun-ext}
 use mathlib.Core.Bool.{Bool, true, false, cond, _&&_, _||_}
-use mathlib.Core.Logic.{_⊎_, ⊎-elim}
-use mathlib.Core.List.{List, [], _∷_, _++_, List·Memᴰ·head, List·Memᴰ·tail, List·Memᴰ·not-nil, List·Memᴰ·cases-cons}
-use Prim.Native.Nat.{ℕ, zero, suc, pred, _+_, _≤_, _<_}
-use native.Mathlib.Omega.{arith}
+use mathlib.Core.List.{List, [], _∷_, _++_, List·Memᴰ·head, List·Memᴰ·tail}
+use Prim.Native.Nat.{ℕ, _+_}
 use borrow.Author.Tests.{eqb-true}
-use lib.ListN.{length, take, getD}
+use lib.ListN.{getD}
 use lib.Dec.{eqb}
-use Rattle.words.specs.Words.{sizeOf}
-use Rattle.words.specs.Table.{Row, rows, isAt, In}
+use Rattle.words.specs.Table.{Row, isAt, In}
 use Rattle.bitset.specs.Bitset.{nowhere, also}
 use Rattle.wellformed.specs.Entry.{noHead, okEntry}
 use Rattle.wellformed.specs.Form.{headsAt, okRows}
@@ -60,25 +57,3 @@ rows-behind ws (r ∷ rs) ss start =
 pub starts-only : (rs : List Row) → and-starts rs nowhere ≡ isAt rs
 unfolding nowhere
 starts-only rs = fun-ext (λ h. or-false (isAt rs h))
-
--- where rows stand
-pub rows-bound : (at k : ℕ) (l : List ℕ) (r : Row) → In r (rows at k l) → (at ≤ r .at) × (r .at < at + length l)
-unfolding rows
-rows-bound at zero [] r m = absurd (List·Memᴰ·not-nil m)
-rows-bound at (suc k) [] r m = absurd (List·Memᴰ·not-nil m)
-rows-bound at zero (w ∷ l) r m =
-    ⊎-elim
-    (λ (e : r ≡ record { at = at; words = take (sizeOf w) (w ∷ l) }). let q : r .at ≡ at = ap (λ (x : Row). x .at) e in (omega arith, omega arith))
-    (λ (i : In r (rows (suc at) (pred (sizeOf w)) l)). let b = rows-bound (suc at) (pred (sizeOf w)) l r i in (omega (arith, b .0), omega (arith, b .1)))
-    (List·Memᴰ·cases-cons m)
-rows-bound at (suc k) (w ∷ l) r m = let b = rows-bound (suc at) k l r m in (omega (arith, b .0), omega (arith, b .1))
-
--- a handle that starts an entry is a row's
-pub at-row : (rs : List Row) (h : ℕ) → isAt rs h ≡ true → (r : Row) × (In r rs) × (r .at ≡ h)
-unfolding isAt
-at-row [] h e = let z : _≡_ {A = ℕ} 0 1 = cc in absurd (omega arith)
-at-row (r ∷ rs) h e = go (eqb (r .at) h) refl e (at-row rs h)
-  where
-    go : (t : Bool) → eqb (r .at) h ≡ t → (t || isAt rs h) ≡ true → (isAt rs h ≡ true → (q : Row) × (In q rs) × (q .at ≡ h)) → (q : Row) × (In q (r ∷ rs)) × (q .at ≡ h)
-    go true q f ih = (r, List·Memᴰ·head refl, eqb-true (r .at) h q)
-    go false q f ih = let i = ih f in (i .0, List·Memᴰ·tail (i .1), i .2)

@@ -17,7 +17,8 @@ use Rattle.bitset.specs.Bitset.{nowhere}
 use Rattle.wellformed.specs.Entry.{okEntry}
 use Rattle.wellformed.specs.Form.{headsAt, okRows}
 use Rattle.call.specs.Keep.{Sound, Ends, Fitting, Adds}
-use Rattle.call.proofs.Agree.{heads-same, rows-same, rows-behind, starts-only, rows-bound, at-row}
+use Rattle.words.proofs.Handles.{rows-bound, at-row}
+use Rattle.call.proofs.Agree.{heads-same, rows-same, rows-behind, starts-only}
 
 -- a row of the used words stands in them, past word 0
 pub in-used : (u : List ℕ) → 1 ≤ length u → (r : Row) → In r (entries u) → (1 ≤ r .at) × (r .at < length u)

@@ -7,12 +7,14 @@ use native.Mathlib.Omega.{arith}
 use borrow.Author.Tests.{lt-ltb, le-ltb, not-true, not-false}
 use lib.Dec.{ltb}
 use lib.ListN.{length, take, drop, getD, set, replicate, length-drop, take-append-drop, drop-of-length-le}
-use lib.Seq.{take-all}
+use lib.Seq.{take-all, length-take-le}
 use borrow.Rule.Slice.PartMut.{putMid}
 use Rattle.words.specs.Made.{Grown, Segments, Ran}
 use Rattle.words.specs.declared.Interned.{Interned}
 use Rattle.words.specs.declared.Interned.the-variants.{At, Full}
 use Rattle.words.proofs.Room.{fitted, overflowed}
+use Rattle.index.specs.Covers.{Covers}
+use Rattle.index.proofs.Keep.{covers-none}
 use Rattle.wellformed.specs.Form.{wellFormed, usedWords}
 use Rattle.wellformed.specs.Scan.{Opened}
 use Rattle.wellformed.proofs.Before.{tests, well-segments}
@@ -72,6 +74,8 @@ pub record Begun (ws : List ℕ) (used : ℕ) : Type 0 where
   pub some : 0 < length ws
   pub within : used ≤ length ws
   pub segments : Segments [] ws used
+  -- without an index
+  pub covers : Covers (take used ws) []
 
 pub begun : (ws : List ℕ) (used : ℕ) → used ≡ usedOf ws → (used ≡ 0 → ⊥) → Begun ws used
 unfolding usedOf
@@ -81,7 +85,7 @@ begun ws used is ne = go (wellFormed ws) refl is
     go false e q = absurd (ne q)
     go true e q =
         let t = tests ws e in
-        record { ok = e; is = q; some = omega (arith, t .least); within = omega (arith, t .within); segments = rw q (well-segments ws e) }
+        record { ok = e; is = q; some = omega (arith, t .least); within = omega (arith, t .within); segments = rw q (well-segments ws e); covers = covers-none (take used ws) [] (omega (arith, length-take-le used ws (omega (arith, t .within)), t .enough)) refl }
 
 -- ---- the ways of a call that makes entries
 

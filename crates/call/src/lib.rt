@@ -3,7 +3,7 @@ use words::Interned;
 ghost use mathlib.Core.Path.{_≡_};
 ghost use mathlib.Core.List.{_++_};
 ghost use Prim.Native.Nat.{_+_, _*_, _≤_, _<_, min};
-ghost use lib.ListN.{length, take, replicate};
+ghost use lib.ListN.{length, take};
 ghost use Rattle.words.specs.Words.{depthOf};
 ghost use Rattle.bitset.specs.Bitset.{bitAt};
 ghost use Rattle.wellformed.specs.Entry.{kindIn, kindAt, all, deepest};
@@ -62,17 +62,6 @@ pub fn begin_plain(words: &[u64]) -> usize
 
 // ---- the end
 
-// Zeroes the words of a list.
-pub fn clear(words: &mut [u64])
-    ensures { λ _. ⌜ now (words .exit) ≡ replicate (length (now (words .entry))) 0 ⌝ }
-{
-    let mut i = 0;
-    while i < words.len() {
-        words[i] = 0;
-        i += 1;
-    }
-}
-
 // Writes word 0, once; or zeroes the words past `used`, and answers 12.
 pub fn finish(words: &mut [u64], used: usize, r: Interned) -> Made
     requires { ⌜ (0 < length (now words)) × (used ≤ length (now words)) ⌝ }
@@ -84,7 +73,7 @@ pub fn finish(words: &mut [u64], used: usize, r: Interned) -> Made
             Made::Handle(h as u64)
         }
         Interned::Full => {
-            clear(&mut words[used..]);
+            words::clear(&mut words[used..]);
             Made::Refused(12)
         }
     }

@@ -1,2 +1,4 @@
 pub mod Ways
+pub mod Stays
+pub mod Knows
 pub mod Examples

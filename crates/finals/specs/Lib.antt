@@ -1,1 +1,2 @@
 pub mod Final
+pub mod Known

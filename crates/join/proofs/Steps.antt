@@ -12,16 +12,25 @@ use Rattle.words.specs.Made.{Grown, Ran, Runs}
 use Rattle.words.specs.declared.Interned.{Interned}
 use Rattle.words.specs.declared.Interned.the-variants.{At, Full}
 use Rattle.words.proofs.Extend.{Extends, ext-then}
+use Rattle.index.specs.Covers.{Covers}
 use Rattle.parts.specs.Parts.{Good, Part, Ready, ReadyOne}
-use Rattle.parts.proofs.Good.{part-weak, part-below, good-adds, part-adds, Answers}
+use Rattle.parts.proofs.Good.{part-weak, part-below, good-adds, part-adds, one-segments, Answers}
 use Rattle.meet.specs.Meet.{meetOf, Met}
 use Rattle.meet.proofs.Grows.{meet-grows}
 use Rattle.meet.proofs.Nice.{meet-nice}
-use Rattle.parts.proofs.Grew.{Grew, grew-none, grew-there, grew-long, grew-up, grew-high, grew-words, grew-more, grew-stop, then-made}
+use Rattle.parts.proofs.Grew.{Grew, grew-none, grew-there, grew-long, grew-up, grew-high, grew-words, grew-more, grew-stop, then-made, grew-covers}
 use Rattle.walk_rules.specs.declared.Walk.the-variants.{Dual}
 use Rattle.walk.specs.Walked.{dualOf, Walked}
 use Rattle.walk.proofs.Grows.{walk-grows}
 use Rattle.walk.proofs.Nice.{walk-nice}
+use Rattle.memo.specs.Memo.{Lines}
+use Rattle.later.specs.Right.{Stays}
+use Rattle.later.proofs.Later.{later-adds}
+use Rattle.later.proofs.Right.{lines-later, right-made}
+use Rattle.meet.specs.Remembered.{Remembers as RemembersPairs, Remembered as RememberedPairs}
+use Rattle.meet.proofs.Recall.{settled-stays as pairs-stay}
+use Rattle.walk.specs.Remembered.{Remembers}
+use Rattle.walk.proofs.Recall.{settled-stays}
 use Rattle.join.specs.Join.{dualOfMeet, joinWith, joinOf}
 
 -- ---- growth
@@ -88,6 +97,13 @@ module _ {old new : List ℕ} {used : ℕ} {g₁ : Grown} {now : List ℕ} {m : 
       first = answer-part;
     }
 
+    -- and a memory for it, which the first did not touch
+    grown-lines : {P : List ℕ → ℕ → ℕ → Type 0} → Stays P → {memo : List ℕ} → Lines (P (take used (old ++ new))) memo → Lines (P (take v (old ++ now))) memo
+    grown-lines stays m = rw (are .1) (lines-later stays (later-adds (F .good) (F .res .adds)) m)
+
+    grown-covers : {index : List ℕ} → Covers (take used (old ++ new)) index → Covers (take v (old ++ now)) index
+    grown-covers = grew-covers on
+
     grown-two : (x y : ℕ) → Part (take v (old ++ now)) v 33 1 11 x → Part (take v (old ++ now)) v 33 1 11 y → Ready old now v 1 11 x y
     grown-two x y px py = record {
       over = grown-ready .over;
@@ -130,10 +146,22 @@ module _ (old new : List ℕ) (used a b : ℕ) (rd : Ready old new used 1 11 a b
       pub meet-ready : ReadyOne old now v h
       meet-ready = grown-ready met-first h v f
 
+      pub meet-covers : {index : List ℕ} → Covers u index → Covers (take v (old ++ now)) index
+      meet-covers = grown-covers met-first h v f
+
+      pub meet-remembers : {memo : List ℕ} → Remembers Dual u memo → Remembers Dual (take v (old ++ now)) memo
+      meet-remembers = grown-lines met-first h v f (settled-stays Dual)
+
       pub meet-dualled : (now₂ : List ℕ) (o : Interned) → Walked Dual old now v h now₂ o → Runs (λ w. dualOfMeet w a b) old new used now₂ o
       meet-dualled now₂ o t =
           step-made met-first h v f
           dualOf (λ w k. walk-grows Dual (suc k) w k) now₂ o (t .is (suc h) (omega arith))
+
+      -- the memory of the meet, once the dual has grown the words
+      pub meet-pairs : {pairs : List ℕ} → RemembersPairs (take v (old ++ now)) pairs → (now₂ : List ℕ) (o : Interned) → Walked Dual old now v h now₂ o → RememberedPairs old now₂ o pairs
+      meet-pairs m now₂ o t =
+          let w = take v (old ++ now) in
+          right-made pairs-stay (one-segments meet-ready) m (dualOf w h) (walk-grows Dual (suc h) w h) (t .is (suc h) (omega arith))
 
   -- the second dual, then those
   module _ (now : List ℕ) (m : Interned) (t : Walked Dual old new used b now m) where
@@ -151,6 +179,12 @@ module _ (old new : List ℕ) (used a b : ℕ) (rd : Ready old new used 1 11 a b
           grown-two second h v f a h
           (old-part second h v f (rd .first))
           (answer-part second h v f)
+
+      pub with-covers : {index : List ℕ} → Covers u index → Covers (take v (old ++ now)) index
+      with-covers = grown-covers second h v f
+
+      pub with-pairs : {pairs : List ℕ} → RemembersPairs u pairs → RemembersPairs (take v (old ++ now)) pairs
+      with-pairs = grown-lines second h v f pairs-stay
 
       pub with-made : (now₂ : List ℕ) (o : Interned) → Runs (λ w. dualOfMeet w a h) old now v now₂ o → Runs (λ w. joinWith w a b) old new used now₂ o
       with-made now₂ o l =
@@ -177,6 +211,12 @@ module _ (old new : List ℕ) (used a b : ℕ) (rd : Ready old new used 1 11 a b
           grown-two former h v f h b
           (answer-part former h v f)
           (old-part former h v f (rd .second))
+
+      pub join-covers : {index : List ℕ} → Covers u index → Covers (take v (old ++ now)) index
+      join-covers = grown-covers former h v f
+
+      pub join-pairs : {pairs : List ℕ} → RemembersPairs u pairs → RemembersPairs (take v (old ++ now)) pairs
+      join-pairs = grown-lines former h v f pairs-stay
 
       pub join-made : (now₂ : List ℕ) (o : Interned) → Runs (λ w. joinWith w h b) old now v now₂ o → Runs (λ w. joinOf w a b) old new used now₂ o
       join-made now₂ o l =

@@ -14,7 +14,8 @@ use Rattle.wellformed.proofs.Bools.{and-left, and-right, and-both}
 use Rattle.call.specs.Handles.{word}
 use Rattle.call.specs.Keep.{Sound, Adds}
 use Rattle.call.proofs.Sound.{start-used}
-use Rattle.parts.proofs.Spot.{at-more, row-starts, entry-head}
+use Rattle.words.proofs.Handles.{at-more, row-starts}
+use Rattle.parts.proofs.Spot.{entry-head}
 use Rattle.names.specs.Name.{nameEntry}
 use Rattle.names.proofs.NameEntry.{head-word, name-sized}
 use Rattle.kept.proofs.Heads.{Agree, agree}

@@ -3,4 +3,6 @@ pub mod Grows
 pub mod Nice
 pub mod Finals
 pub mod Loop
+pub mod Settled
+pub mod Recall
 pub mod Ways

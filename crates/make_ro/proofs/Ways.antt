@@ -13,10 +13,11 @@ use Rattle.wellformed.specs.Entry.{every, all, isAliasFinal}
 use Rattle.call.specs.Handles.{kindOn, countOn}
 use Rattle.makers.specs.Entries.{pointerEntry}
 use Rattle.structs.specs.Remade.{remake}
+use Rattle.index.specs.Covers.{Covers}
 use Rattle.parts.specs.Parts.{Part, ReadyOne}
 use Rattle.parts.proofs.Parts.{flat, of-struct, all-map}
 use Rattle.parts.proofs.Good.{part-weak, part-ready, good-adds}
-use Rattle.parts.proofs.Grew.{Grew, grew-none, grew-there, grew-long, grew-high, grew-more, grew-stop, grew-segments, grew-values, then-made}
+use Rattle.parts.proofs.Grew.{Grew, grew-none, grew-there, grew-long, grew-high, grew-more, grew-stop, grew-segments, grew-values, then-made, grew-covers}
 use Rattle.finals.specs.Final.{isFinalOf, Finals}
 use Rattle.finals.proofs.Ways.{pointer-part}
 use Rattle.make_ro.specs.ReadOnly.{types, structOf, pointerTo, makeRoWithin, MadeRo, FieldRo}
@@ -103,6 +104,10 @@ module _ (old new : List ℕ) (used a : ℕ) (rd : ReadyOne old new used a) wher
 
             pub pointer-segments : Segments old now v
             pointer-segments = grew-segments on (omega (arith, rd .near)) (rd .over) (rd .cut)
+
+            -- what the maker of the pointer requires
+            pub pointer-required : {index : List ℕ} → Covers (take used (old ++ new)) index → Segments old now v × Covers (take v (old ++ now)) index
+            pointer-required c = (pointer-segments, grew-covers on c)
 
             then-pointer : (now₂ : List ℕ) (o : Interned) → Ran v (pointerTo u a (there (take v (old ++ now)) h)) (old ++ now) (old ++ now₂) o → MadeRo old new used a now₂ o
             then-pointer now₂ o l = by-struct now₂ o (λ k ka. then-made grew (struct k) now m (make-ro-grows k u to) (told k ka) h v f on (λ w n. pointerTo u a (there w n)) (λ w n. pointer-to-grows u a (there w n)) now₂ o l)

@@ -36,7 +36,7 @@ pub fn tuple_in(words: &mut [u64], bits: &mut [u64], types: &[u64]) -> Made
         return Made::Refused(no);
     }
     let none = [0u64; 0];
-    let r = makers::tuple(&none, words, used, types);
+    let r = makers::tuple(&none, words, used, types, &none);
     call::finish(words, used, r)
 }
 
@@ -53,7 +53,7 @@ pub fn fref_in(words: &mut [u64], bits: &mut [u64], name: u64) -> Made
         return Made::Refused(no);
     }
     let none = [0u64; 0];
-    let r = makers::fref(&none, words, used, name);
+    let r = makers::fref(&none, words, used, name, &none);
     call::finish(words, used, r)
 }
 
@@ -70,7 +70,7 @@ pub fn pointer_in(words: &mut [u64], bits: &mut [u64], to: u64, nil: u64) -> Mad
         return Made::Refused(no);
     }
     let none = [0u64; 0];
-    let r = makers::pointer(&none, words, used, to, nil);
+    let r = makers::pointer(&none, words, used, to, nil, &none);
     call::finish(words, used, r)
 }
 
@@ -87,7 +87,7 @@ pub fn memory_in(words: &mut [u64], bits: &mut [u64], alias: u64, t: u64) -> Mad
         return Made::Refused(no);
     }
     let none = [0u64; 0];
-    let r = makers::memory(&none, words, used, alias, t);
+    let r = makers::memory(&none, words, used, alias, t, &none);
     call::finish(words, used, r)
 }
 
@@ -104,7 +104,7 @@ pub fn struct_in(words: &mut [u64], bits: &mut [u64], name: u64, fields: &[u64])
         return Made::Refused(no);
     }
     let none = [0u64; 0];
-    let r = makers::structure(&none, words, used, name, fields);
+    let r = makers::structure(&none, words, used, name, fields, &none);
     call::finish(words, used, r)
 }
 
@@ -129,6 +129,16 @@ pub fn array_in(
         return Made::Refused(no);
     }
     let none = [0u64; 0];
-    let r = arrays::array(&none, words, used, len, len_alias, body, body_alias, text);
+    let r = arrays::array(
+        &none,
+        words,
+        used,
+        len,
+        len_alias,
+        body,
+        body_alias,
+        text,
+        &none,
+    );
     call::finish(words, used, r)
 }

@@ -7,28 +7,38 @@ ghost use mathlib.Core.List.{_∷_, _++_};
 ghost use Prim.Native.Nat.{_+_, _*_, _≤_, _<_};
 ghost use lib.ListN.{length, take, drop};
 ghost use lib.Ieee.{binary64, ofBits};
+ghost use Rattle.index.specs.Covers.{Covers};
 ghost use Rattle.words.specs.Made.{make, Segments, Runs};
 ghost use Rattle.type_float.specs.Float.{wordOf, isSize};
 ghost use Rattle.wellformed.specs.Entry.{deepest};
 ghost use Rattle.call.specs.Handles.{word};
 ghost use Rattle.makers.specs.Entries.{intEntry, floatEntry, tupleEntry, frefEntry, pointerEntry, memoryEntry, fieldCount, fieldTypes, fieldWords, ValuesFit, structEntry};
 
-pub fn int(old: &[u64], new: &mut [u64], used: usize, min: u64, max: u64) -> Interned
+pub fn int(old: &[u64], new: &mut [u64], used: usize, min: u64, max: u64, index: &[u64]) -> Interned
     requires { ⌜ Segments (now old) (now new) used ⌝ }
+    requires { ⌜ Covers (take used (now old ++ now new)) (now index) ⌝ }
     ensures { λ r. ⌜ Runs (λ u. make u (intEntry min max)) (now (old .entry)) (now (new .entry)) used (now (new .exit)) r ⌝ }
 {
-    words::intern(old, new, used, &[261, min, max])
+    index::intern(old, new, used, &[261, min, max], index)
 }
 
 // A float's size and constant come as a struct. The bits stand beside it, since all NaNs are one f64.
-pub fn float(old: &[u64], new: &mut [u64], used: usize, f: Float, bits: u64) -> Interned
+pub fn float(
+    old: &[u64],
+    new: &mut [u64],
+    used: usize,
+    f: Float,
+    bits: u64,
+    index: &[u64],
+) -> Interned
     requires { ⌜ Segments (now old) (now new) used ⌝ }
     requires { ⌜ (isSize (f .sz) ≡ true) × (f .con ≡ ofBits binary64 bits) ⌝ }
+    requires { ⌜ Covers (take used (now old ++ now new)) (now index) ⌝ }
     ensures { λ r. ⌜ Runs (λ u. make u (floatEntry (wordOf (f .sz)) bits)) (now (old .entry)) (now (new .entry)) used (now (new .exit)) r ⌝ }
 {
     let size = type_float::size_word(f.sz);
     let con = type_float::bits_of(f.con, bits);
-    words::intern(old, new, used, &[262, size, con])
+    index::intern(old, new, used, &[262, size, con], index)
 }
 
 // Fills the first words of `dst` with a head and a list.
@@ -40,39 +50,57 @@ pub fn headed(dst: &mut [u64], head: u64, list: &[u64])
     dst[0] = head;
 }
 
-pub fn tuple(old: &[u64], new: &mut [u64], used: usize, types: &[u64]) -> Interned
+pub fn tuple(old: &[u64], new: &mut [u64], used: usize, types: &[u64], index: &[u64]) -> Interned
     requires { ⌜ Segments (now old) (now new) used ⌝ }
     requires { ⌜ length (now types) ≤ 255 ⌝ }
+    requires { ⌜ Covers (take used (now old ++ now new)) (now index) ⌝ }
     ensures { λ r. ⌜ Runs (λ u. make u (tupleEntry (now (types .entry)) u)) (now (old .entry)) (now (new .entry)) used (now (new .exit)) r ⌝ }
 {
     let mut e = [0u64; 256];
     let d = call::deep(old, new, used, types);
     let n = types.len();
     headed(&mut e, 7 + 256 * (1 + d) + 65536 * (n as u64), types);
-    words::intern(old, new, used, &e[..1 + n])
+    index::intern(old, new, used, &e[..1 + n], index)
 }
 
-pub fn fref(old: &[u64], new: &mut [u64], used: usize, name: u64) -> Interned
+pub fn fref(old: &[u64], new: &mut [u64], used: usize, name: u64, index: &[u64]) -> Interned
     requires { ⌜ Segments (now old) (now new) used ⌝ }
+    requires { ⌜ Covers (take used (now old ++ now new)) (now index) ⌝ }
     ensures { λ r. ⌜ Runs (λ u. make u (frefEntry name)) (now (old .entry)) (now (new .entry)) used (now (new .exit)) r ⌝ }
 {
-    words::intern(old, new, used, &[265, name])
+    index::intern(old, new, used, &[265, name], index)
 }
 
-pub fn pointer(old: &[u64], new: &mut [u64], used: usize, to: u64, nil: u64) -> Interned
+pub fn pointer(
+    old: &[u64],
+    new: &mut [u64],
+    used: usize,
+    to: u64,
+    nil: u64,
+    index: &[u64],
+) -> Interned
     requires { ⌜ Segments (now old) (now new) used ⌝ }
+    requires { ⌜ Covers (take used (now old ++ now new)) (now index) ⌝ }
     ensures { λ r. ⌜ Runs (λ u. make u (pointerEntry to nil u)) (now (old .entry)) (now (new .entry)) used (now (new .exit)) r ⌝ }
 {
     let d = call::depth_on(old, new, used, to);
-    words::intern(old, new, used, &[10 + 256 * (1 + d), to, nil])
+    index::intern(old, new, used, &[10 + 256 * (1 + d), to, nil], index)
 }
 
-pub fn memory(old: &[u64], new: &mut [u64], used: usize, alias: u64, t: u64) -> Interned
+pub fn memory(
+    old: &[u64],
+    new: &mut [u64],
+    used: usize,
+    alias: u64,
+    t: u64,
+    index: &[u64],
+) -> Interned
     requires { ⌜ Segments (now old) (now new) used ⌝ }
+    requires { ⌜ Covers (take used (now old ++ now new)) (now index) ⌝ }
     ensures { λ r. ⌜ Runs (λ u. make u (memoryEntry alias t u)) (now (old .entry)) (now (new .entry)) used (now (new .exit)) r ⌝ }
 {
     let d = call::depth_on(old, new, used, t);
-    words::intern(old, new, used, &[11 + 256 * (1 + d), alias, t])
+    index::intern(old, new, used, &[11 + 256 * (1 + d), alias, t], index)
 }
 
 // The depth of the deepest of the lent fields' types.
@@ -118,14 +146,22 @@ fn struct_words(e: &mut [u64], head: u64, name: u64, fields: &[u64])
     e[0] = head;
 }
 
-pub fn structure(old: &[u64], new: &mut [u64], used: usize, name: u64, fields: &[u64]) -> Interned
+pub fn structure(
+    old: &[u64],
+    new: &mut [u64],
+    used: usize,
+    name: u64,
+    fields: &[u64],
+    index: &[u64],
+) -> Interned
     requires { ⌜ Segments (now old) (now new) used ⌝ }
     requires { ⌜ (fieldCount (now fields) ≤ 255) × ValuesFit (now fields) ⌝ }
+    requires { ⌜ Covers (take used (now old ++ now new)) (now index) ⌝ }
     ensures { λ r. ⌜ Runs (λ u. make u (structEntry name (now (fields .entry)) u)) (now (old .entry)) (now (new .entry)) used (now (new .exit)) r ⌝ }
 {
     let mut e = [0u64; 767];
     let d = fields_deep(old, new, used, fields);
     let n = fields.len() / 4;
     struct_words(&mut e, 8 + 256 * (1 + d) + 65536 * (n as u64), name, fields);
-    words::intern(old, new, used, &e[..2 + 3 * n])
+    index::intern(old, new, used, &e[..2 + 3 * n], index)
 }

@@ -13,7 +13,7 @@ use Rattle.words.proofs.Walk.{size-pos}
 use Rattle.wellformed.specs.Entry.{every}
 use Rattle.wellformed.proofs.Bools.{and-left, and-right, and-both}
 use Rattle.call.specs.Handles.{word}
-use Rattle.call.proofs.Agree.{at-row}
+use Rattle.words.proofs.Handles.{at-row}
 use Rattle.structs.proofs.Columns.{half}
 use Rattle.parts.specs.Parts.{Good, Name, All}
 use Rattle.meet_rules.specs.Names.{sameWords, sameName, sameFields}

@@ -16,11 +16,11 @@ use Rattle.words.proofs.Kept.{make-in}
 use Rattle.wellformed.specs.Entry.{kind, every}
 use Rattle.call.specs.Handles.{word, kindOn, depthOn, countOn}
 use Rattle.call.specs.Keep.{Ends, Adds}
-use Rattle.call.proofs.Agree.{at-row}
+use Rattle.words.proofs.Handles.{at-row, at-more}
 use Rattle.call.proofs.Sound.{start-used}
 use Rattle.kept.proofs.Columns.{every-all}
 use Rattle.parts.specs.Parts.{Good, Part, All}
-use Rattle.parts.proofs.Spot.{at-more, entry-head, row-sized, row-word, row-every}
+use Rattle.parts.proofs.Spot.{entry-head, row-sized, row-word, row-every}
 use Rattle.parts.proofs.Parts.{flat, of-tuple, of-struct, of-pointer, of-memory, all-map}
 use Rattle.parts.proofs.Good.{part-used, good-adds, Answers}
 use Rattle.trees.proofs.Tree.{Ty, Shape, node}

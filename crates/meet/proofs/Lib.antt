@@ -4,4 +4,7 @@ pub mod Made
 pub mod Nice
 pub mod InTurn
 pub mod Loop
+pub mod Names
+pub mod Settled
+pub mod Recall
 pub mod Ways

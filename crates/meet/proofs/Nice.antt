@@ -94,6 +94,10 @@ late-on u w v h hs l first others =
     below [] y = y
     below (x ∷ xs) y = ⊎-elim (λ (k : length w ≤ x). inl (omega arith)) (λ z. inr (below xs z)) y
 
+-- of the kinds 8 and 9, a struct's
+pub eight : (x : ℕ) → 8 ≤ x → x ≤ 9 → (x ≡ 9 → ⊥) → x ≡ 8
+eight x l h no9 = omega arith
+
 module _ (op : Op) (k : ℕ) (nice : Nice 1 11 k op) where
   pub each-nice : (u : List ℕ) (d : ℕ) (xs ys : List ℕ) → Good u → All (Part u k d 1 11) xs → All (Part u k d 1 11) ys → length xs ≡ length ys → EachAnswers u d (length xs) (meetEach op u xs ys)
   unfolding meetEach
@@ -143,9 +147,6 @@ module _ (op : Op) (k : ℕ) (nice : Nice 1 11 k op) where
       sym (either-length (flagsOn w (length hs) a) (flagsOn w (length hs) b) (every-length 3 (length hs) (a + 4) w ∙ sym (every-length 3 (length hs) (b + 4) w)) ∙ every-length 3 (length hs) (a + 4) w) in
       struct-answers (e .adds) g₁ (length w) D (omega (arith, deep (g .sound) pa (omega arith))) (omega (arith, flat (g .sound) pa, flat (g .sound) pb)) d (omega (arith, pa .shallow, pb .shallow))
       hs (e .parts) (e .new) (omega (arith, few (g .sound) pa, e .long)) (eitherFinal (flagsOn w (length hs) a) (flagsOn w (length hs) b)) same (either-flags (flagsOn w (length hs) a) (flagsOn w (length hs) b)) a s₁ n
-    where
-      eight : (x : ℕ) → 8 ≤ x → x ≤ 9 → (x ≡ 9 → ⊥) → x ≡ 8
-      eight x l h no9 = omega arith
 
   pub structs-nice : Nice 8 9 (suc k) (meetStruct op)
   unfolding meetStruct

@@ -19,6 +19,7 @@ use Rattle.makers.specs.Entries.{tupleEntry, pointerEntry, memoryEntry}
 use Rattle.type_float.specs.Float.{isSizeWord}
 use Rattle.makers.proofs.FloatSize.{size-word}
 use Rattle.float_meet.specs.FloatRule.{floatRule}
+use Rattle.index.specs.Covers.{Covers}
 use Rattle.parts.specs.Parts.{Good, Part, Name, All, Ready}
 use Rattle.parts.proofs.Parts.{few, flat, no-fields, of-tuple, of-struct, of-fref, of-pointer, of-memory, of-float, all-map}
 use Rattle.parts.proofs.Good.{part-weak}
@@ -32,8 +33,8 @@ use Rattle.meet_rules.proofs.Sure.{sure-tuples, sure-structs, sure-pointers, su
 use Rattle.meet_fields.specs.Fields.{flagsOn, meetFields}
 use Rattle.meet.specs.Meet.{tupleOf, types, structOf, followStruct, meetStruct, eitherNil, pointerOf, memoryOf, meetInt, follow, meet, Met, MetStruct}
 use Rattle.meet.proofs.Grows.{meet-grows, tuple-grows, struct-grows, pointer-grows, memory-grows, structs-grow}
-use Rattle.meet.proofs.Nice.{meet-nice, structs-nice, narrow}
-use Rattle.parts.proofs.Grew.{Grew, grew-none, grew-there, grew-more, grew-stop, grew-segments, grew-values, then-made}
+use Rattle.meet.proofs.Nice.{eight, meet-nice, structs-nice, narrow}
+use Rattle.parts.proofs.Grew.{Grew, grew-none, grew-there, grew-more, grew-stop, grew-segments, grew-values, then-made, grew-covers}
 use Rattle.meet.proofs.Loop.{Going, going-begin, going-first, going-second, going-ready, going-stop, going-turn, going-end}
 
 -- an answer that is there already
@@ -125,6 +126,10 @@ module _ (old new : List ℕ) (used a b : ℕ) (rd : Ready old new used 1 11 a b
       around-segments : Segments old now v
       around-segments = grew-segments on (omega (arith, rd .near)) (rd .over) (rd .cut)
 
+      -- what the maker of the entry requires
+      around-required : {index : List ℕ} → Covers u index → Segments old now v × Covers (take v (old ++ now)) index
+      around-required c = (around-segments, grew-covers on c)
+
       around-made : (now₂ : List ℕ) (o : Interned) → Ran v (F (there (take v (old ++ now)) h)) (old ++ now) (old ++ now₂) o → Met old new used a b now₂ o
       around-made now₂ o l = by-rule X e now₂ o (λ k ka kb. rw (is k) (then-made grew (part k) now m (grows k) (told k ka kb) h v f on (λ w n. F (there w n)) (λ w n. F-grows (there w n)) now₂ o l))
 
@@ -164,6 +169,9 @@ module _ (old new : List ℕ) (used a b : ℕ) (rd : Ready old new used 1 11 a b
       module _ (h v : ℕ) (f : m ≡ At h v) where
         pub pointer-segments : Segments old now v
         pointer-segments = around-segments Pointers e struct (pointerOf (eitherNil u a b)) is-pointer (pointer-grows (eitherNil u a b)) struct-grown struct-adds now m struct-told h v f
+
+        pub pointer-required : {index : List ℕ} → Covers (take used (old ++ new)) index → Segments old now v × Covers (take v (old ++ now)) index
+        pointer-required = around-required Pointers e struct (pointerOf (eitherNil u a b)) is-pointer (pointer-grows (eitherNil u a b)) struct-grown struct-adds now m struct-told h v f
 
         pub met-pointers : (p q nil : ℕ) → p ≡ getD (take used (old ++ new)) (a + 2) 0 → q ≡ getD (take used (old ++ new)) (b + 2) 0 → nil ≡ max p q → (now₂ : List ℕ) (o : Interned) → Runs (λ w. make w (pointerEntry h nil w)) old now v now₂ o → Met old new used a b now₂ o
         met-pointers p q nil ep eq en now₂ o l =
@@ -206,6 +214,9 @@ module _ (old new : List ℕ) (used a b : ℕ) (rd : Ready old new used 1 11 a b
       module _ (h v : ℕ) (f : m ≡ At h v) where
         pub memory-segments : Segments old now v
         memory-segments = around-segments Memories e type (memoryOf alias) is-memory (memory-grows alias) (λ k. meet-grows k u x y) type-adds now m type-told h v f
+
+        pub memory-required : {index : List ℕ} → Covers (take used (old ++ new)) index → Segments old now v × Covers (take v (old ++ now)) index
+        memory-required = around-required Memories e type (memoryOf alias) is-memory (memory-grows alias) (λ k. meet-grows k u x y) type-adds now m type-told h v f
 
         pub met-memories : (p q shared : ℕ) → p ≡ getD (take used (old ++ new)) (a + 1) 0 → q ≡ getD (take used (old ++ new)) (b + 1) 0 → shared ≡ sharedAlias p q → (now₂ : List ℕ) (o : Interned) → Runs (λ w. make w (memoryEntry shared h w)) old now v now₂ o → Met old new used a b now₂ o
         met-memories p q shared ep eq en now₂ o l =
@@ -305,9 +316,6 @@ module _ (old new : List ℕ) (used a b : ℕ) (rd : Ready old new used 8 9 a b)
           let l = rd .first in
           let m = rd .second in
           (eight (kindOn w a) (l .least) (l .most) (f .0), eight (kindOn w b) (m .least) (m .most) (f .1), f .2)
-        where
-          eight : (x : ℕ) → 8 ≤ x → x ≤ 9 → (x ≡ 9 → ⊥) → x ≡ 8
-          eight x l h no9 = omega arith
 
       module _ (x : ℕ) (ex : x ≡ getD (take used (old ++ new)) a 0) where
         pub struct-few : x / 65536 ≤ 255

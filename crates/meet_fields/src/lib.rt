@@ -5,6 +5,7 @@ ghost use mathlib.Core.Bool.{true};
 ghost use mathlib.Core.List.{_++_};
 ghost use Prim.Native.Nat.{_+_, _*_, _≤_, _<_};
 ghost use lib.ListN.{length, take, drop};
+ghost use Rattle.index.specs.Covers.{Covers};
 ghost use Rattle.words.specs.Made.{Segments, Runs};
 ghost use Rattle.wellformed.specs.Entry.{every, all, isAliasFinal};
 ghost use Rattle.meet_fields.specs.Fields.{eitherFinal, flagsOn, meetFields};
@@ -40,13 +41,15 @@ pub fn meet_fields(
     a: usize,
     b: usize,
     types: &[u64],
+    index: &[u64],
 ) -> Interned
     requires { ⌜ Segments (now old) (now new) used ⌝ }
     requires { ⌜ (length (now types) ≤ 255) × (a < 1048576) × (b < 1048576) × (all isAliasFinal (flagsOn (take used (now old ++ now new)) (length (now types)) a) ≡ true) ⌝ }
+    requires { ⌜ Covers (take used (now old ++ now new)) (now index) ⌝ }
     ensures { λ r. ⌜ Runs (meetFields a b (now (types .entry))) (now (old .entry)) (now (new .entry)) used (now (new .exit)) r ⌝ }
 {
     let mut finals = [0u64; 255];
     let n = types.len();
     either_final(&mut finals, old, new, used, n, a + 4, b + 4);
-    structs::made_again(old, new, used, a, types, &finals[..n])
+    structs::made_again(old, new, used, a, types, &finals[..n], index)
 }

@@ -7,6 +7,7 @@ ghost use mathlib.Core.List.{_++_};
 ghost use Prim.Native.Nat.{_+_, _*_, _^_, _≤_, _<_};
 ghost use lib.Dec.{ltb};
 ghost use lib.ListN.{length, take};
+ghost use Rattle.index.specs.Covers.{Covers};
 ghost use Rattle.words.specs.Made.{make, Segments, Runs};
 ghost use Rattle.type_float.specs.Float.{isSizeWord};
 ghost use Rattle.float_meet.specs.FloatRule.{floatRule};
@@ -249,9 +250,17 @@ pub fn struct_rule(old: &[u64], new: &[u64], used: usize, a: usize, b: usize) ->
 
 // ---- answers
 
-pub fn meet_int(old: &[u64], new: &mut [u64], used: usize, a: usize, b: usize) -> Interned
+pub fn meet_int(
+    old: &[u64],
+    new: &mut [u64],
+    used: usize,
+    a: usize,
+    b: usize,
+    index: &[u64],
+) -> Interned
     requires { ⌜ Segments (now old) (now new) used ⌝ }
     requires { ⌜ (a < 1048576) × (b < 1048576) ⌝ }
+    requires { ⌜ Covers (take used (now old ++ now new)) (now index) ⌝ }
     ensures { λ r. ⌜ Runs (λ u. make u (intEntry (smaller (word u (a + 1)) (word u (b + 1))) (larger (word u (a + 2)) (word u (b + 2))))) (now (old .entry)) (now (new .entry)) used (now (new .exit)) r ⌝ }
 {
     let min = type_integer::smaller_of(
@@ -262,7 +271,7 @@ pub fn meet_int(old: &[u64], new: &mut [u64], used: usize, a: usize, b: usize) -
         words::word(old, new, used, a + 2),
         words::word(old, new, used, b + 2),
     );
-    makers::int(old, new, used, min, max)
+    makers::int(old, new, used, min, max, index)
 }
 
 // The handle of the float that answers.

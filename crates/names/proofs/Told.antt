@@ -1,10 +1,11 @@
--- Comparing with an entry, writing one and appending one, where a function tells its length and its words. Assumes nothing.
-use mathlib.Core.Path.{_≡_, sym, _∙_}
+-- Comparing with an entry, hashing one, writing one and appending one, where a function tells its length and its words. Assumes nothing.
+use mathlib.Core.Path.{_≡_, sym, ap, _∙_}
 use mathlib.Core.Bool.{false}
 use mathlib.Core.List.{List, _++_}
 use Prim.Native.Nat.{ℕ, _+_, _-_, _≤_, _<_}
 use native.Mathlib.Omega.{arith}
 use borrow.Rule.Slice.PartMut.{putMid}
+use lib.Bits.{bitXor}
 use lib.ListN.{length, take, drop, getD, set}
 use Rattle.words.specs.Words.{eqs}
 use Rattle.words.specs.Table.{findIn}
@@ -15,6 +16,8 @@ use Rattle.words.specs.declared.Interned.the-variants.{At, Full}
 use Rattle.words.proofs.Alike.{other-length, other-word, same-word}
 use Rattle.words.proofs.Copy.{front, front-more, front-all}
 use Rattle.words.proofs.Placed.{appended, no-room}
+use Rattle.index.specs.Digest.{stirred, hashFrom}
+use Rattle.index.proofs.Hashed.{hash-word, hash-all}
 
 module _ (a e : List ℕ) where
   pub other-size : (n : ℕ) → n ≡ length e → (length a ≡ n → ⊥) → false ≡ eqs a e
@@ -26,6 +29,13 @@ module _ (a e : List ℕ) where
 
     pub agrees : i < length a → getD a i 0 ≡ w → eqs a e ≡ eqs (drop (i + 1) a) (drop (i + 1) e)
     agrees h q = same-word a e i left long h (q ∙ is)
+
+module _ (e : List ℕ) (h i n : ℕ) (left : hashFrom 0 e ≡ hashFrom h (drop i e)) (long : n ≡ length e) where
+  pub hashed : (w : ℕ) → w ≡ getD e i 0 → i < n → (x : ℕ) → x ≡ stirred (bitXor h w) → hashFrom 0 e ≡ hashFrom x (drop (i + 1) e)
+  hashed w it more x is = hash-word e h i left (omega arith) x (is ∙ ap (λ (k : ℕ). stirred (bitXor h k)) it)
+
+  pub all-hashed : n ≤ i → h ≡ hashFrom 0 e
+  all-hashed out = hash-all e h i left (omega arith)
 
 module _ (e d₀ d : List ℕ) (i n : ℕ) (is : d ≡ front e i d₀) (long : n ≡ length e) where
   pub written : (w : ℕ) → w ≡ getD e i 0 → i < n → length e ≤ length d₀ → set d i w ≡ front e (i + 1) d₀

@@ -1,14 +1,17 @@
 // Names: the search for a name's entry, and making one. What is looked for is the name's bytes, which are lent; its words are made one
-// at a time, so that a name of any length needs no room but the store's. With `wrap`, the name is the lent text in brackets.
+// at a time, so that a name of any length needs no room but the store's. They hash to what the entry's words hash to, and the search goes through
+// the same chains of the index as that for any other entry. With `wrap`, the name is the lent text in brackets.
 ghost use mathlib.Core.Path.{_≡_};
 ghost use mathlib.Core.Bool.{true};
 ghost use mathlib.Core.List.{_++_};
 ghost use Prim.Native.Nat.{_+_, _*_, _^_, _<_, _≤_};
 ghost use lib.ListN.{length, take, drop, getD};
 ghost use lib.Seq.{slice};
-ghost use Rattle.words.specs.Words.{eqs, fills};
-ghost use Rattle.words.specs.Table.{rows, firstOf, findIn};
+ghost use Rattle.words.specs.Words.{sizeOf, eqs, fills};
+ghost use Rattle.words.specs.Table.{rows, firstOf, findIn, starts};
 ghost use Rattle.words.specs.Made.{make, Segments, Runs};
+ghost use Rattle.index.specs.Digest.{hashFrom, bucketOf};
+ghost use Rattle.index.specs.Covers.{indexedTo, Covers, Tail};
 ghost use Rattle.names.specs.Name.{number, nameEntry, wrapped};
 
 // A name's number of bytes.
@@ -131,19 +134,125 @@ fn look_name(
     words::Found::Nothing
 }
 
-// The lowest handle of a name's entry.
-pub fn find_name(old: &[u64], new: &[u64], used: usize, text: &[u8], wrap: bool) -> words::Found
+// The hash of a name's entry.
+fn name_hash(text: &[u8], wrap: bool) -> u64
+    requires { ⌜ length (now text) ≤ 65535 ⌝ }
+    ensures { λ r. ⌜ r ≡ hashFrom 0 (nameEntry (wrapped wrap (now (text .entry)))) ⌝ }
+{
+    let n = name_size(text, wrap);
+    let mut h = 0;
+    let mut i = 0;
+    while i < n {
+        h = index::stir(h ^ entry_word(text, wrap, i));
+        i += 1;
+    }
+    h
+}
+
+fn name_bucket(half: usize, text: &[u8], wrap: bool) -> usize
+    requires { ⌜ 0 < half ⌝ }
+    requires { ⌜ length (now text) ≤ 65535 ⌝ }
+    ensures { λ r. ⌜ (r ≡ bucketOf half (nameEntry (wrapped wrap (now (text .entry))))) × (r < half) ⌝ }
+{
+    let h = name_hash(text, wrap);
+    (h % (half as u64)) as usize
+}
+
+// Whether the entry at a handle is that of a name.
+fn is_name_at(old: &[u64], new: &[u64], used: usize, at: usize, text: &[u8], wrap: bool) -> bool
+    requires { ⌜ Segments (now old) (now new) used × (starts (take used (now old ++ now new)) at ≡ true) ⌝ }
+    requires { ⌜ length (now text) ≤ 65535 ⌝ }
+    ensures { λ r. ⌜ r ≡ eqs (take (sizeOf (getD (take used (now (old .entry) ++ now (new .entry))) at 0)) (drop at (take used (now (old .entry) ++ now (new .entry))))) (nameEntry (wrapped wrap (now (text .entry)))) ⌝ }
+{
+    if at < old.len() {
+        let n = words::size(old[at]);
+        return same_name(&old[at..at + n], text, wrap);
+    }
+    let p = at - old.len();
+    let n = words::size(new[p]);
+    same_name(&new[p..p + n], text, wrap)
+}
+
+// The lowest handle of a name's entry among those in the index.
+fn search_name(
+    old: &[u64],
+    new: &[u64],
+    used: usize,
+    text: &[u8],
+    wrap: bool,
+    index: &[u64],
+) -> words::Found
     requires { ⌜ Segments (now old) (now new) used ⌝ }
     requires { ⌜ length (now text) ≤ 65535 ⌝ }
-    ensures { λ r. ⌜ r ≡ findIn (take used (now (old .entry) ++ now (new .entry))) (nameEntry (wrapped wrap (now (text .entry)))) ⌝ }
+    requires { ⌜ Covers (take used (now old ++ now new)) (now index) ⌝ }
+    ensures { λ r. ⌜ r ≡ findIn (take (indexedTo (now (index .entry))) (take used (now (old .entry) ++ now (new .entry)))) (nameEntry (wrapped wrap (now (text .entry)))) ⌝ }
 {
-    if old.len() == 0 {
-        return look_name(new, 0, 1, used, text, wrap);
+    let half = index.len() / 2;
+    if half == 0 {
+        return words::Found::Nothing;
     }
-    let f = look_name(old, 0, 1, old.len(), text, wrap);
+    let b = name_bucket(half, text, wrap);
+    let mut at = index[b] as usize;
+    let mut lowest = 0;
+    while at != 0 {
+        let same = is_name_at(old, new, used, at, text, wrap);
+        lowest = index::either(same, at, lowest);
+        at = (index[half + at] - 1) as usize;
+    }
+    if lowest == 0 {
+        return words::Found::Nothing;
+    }
+    words::Found::At(lowest)
+}
+
+// The first entry of a name among those from `from` on.
+fn rest_name(
+    old: &[u64],
+    new: &[u64],
+    used: usize,
+    from: usize,
+    text: &[u8],
+    wrap: bool,
+) -> words::Found
+    requires { ⌜ Segments (now old) (now new) used × Tail (now old) (take used (now old ++ now new)) from ⌝ }
+    requires { ⌜ length (now text) ≤ 65535 ⌝ }
+    ensures { λ r. ⌜ r ≡ firstOf (rows from 0 (drop from (take used (now (old .entry) ++ now (new .entry))))) (nameEntry (wrapped wrap (now (text .entry)))) ⌝ }
+{
+    if old.len() <= from {
+        return look_name(
+            new,
+            old.len(),
+            from - old.len(),
+            used - old.len(),
+            text,
+            wrap,
+        );
+    }
+    let f = look_name(old, 0, from, old.len(), text, wrap);
     match f {
         words::Found::At(h) => words::Found::At(h),
         words::Found::Nothing => look_name(new, old.len(), 0, used - old.len(), text, wrap),
+    }
+}
+
+// The lowest handle of a name's entry.
+pub fn find_name(
+    old: &[u64],
+    new: &[u64],
+    used: usize,
+    text: &[u8],
+    wrap: bool,
+    index: &[u64],
+) -> words::Found
+    requires { ⌜ Segments (now old) (now new) used ⌝ }
+    requires { ⌜ length (now text) ≤ 65535 ⌝ }
+    requires { ⌜ Covers (take used (now old ++ now new)) (now index) ⌝ }
+    ensures { λ r. ⌜ r ≡ findIn (take used (now (old .entry) ++ now (new .entry))) (nameEntry (wrapped wrap (now (text .entry)))) ⌝ }
+{
+    let f = search_name(old, new, used, text, wrap, index);
+    match f {
+        words::Found::At(h) => words::Found::At(h),
+        words::Found::Nothing => rest_name(old, new, used, index::covered(index), text, wrap),
     }
 }
 
@@ -168,12 +277,14 @@ pub fn intern_name(
     used: usize,
     text: &[u8],
     wrap: bool,
+    index: &[u64],
 ) -> words::Interned
     requires { ⌜ Segments (now old) (now new) used ⌝ }
     requires { ⌜ length (now text) ≤ 65535 ⌝ }
+    requires { ⌜ Covers (take used (now old ++ now new)) (now index) ⌝ }
     ensures { λ r. ⌜ Runs (λ u. make u (nameEntry (wrapped wrap (now (text .entry))))) (now (old .entry)) (now (new .entry)) used (now (new .exit)) r ⌝ }
 {
-    let f = find_name(old, new, used, text, wrap);
+    let f = find_name(old, new, used, text, wrap, index);
     match f {
         words::Found::At(h) => words::Interned::At(h, used),
         words::Found::Nothing => {

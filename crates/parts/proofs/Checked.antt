@@ -18,7 +18,7 @@ use Rattle.wellformed.proofs.Before.{Checked, checked}
 use Rattle.call.specs.Handles.{word}
 use Rattle.call.specs.Keep.{Sound}
 use Rattle.parts.specs.Parts.{Part, Name, All}
-use Rattle.parts.proofs.Spot.{row-starts}
+use Rattle.words.proofs.Handles.{row-starts}
 
 -- ---- the tests, one by one
 

@@ -26,7 +26,8 @@ use Rattle.call.specs.Keep.{Fitting, Adds}
 use Rattle.call.proofs.Sound.{make-adds, adds-none, adds-then, in-used, start-used}
 use Rattle.call.proofs.Keep.{well-sound}
 use Rattle.parts.specs.Parts.{Good, Part, Name, All, Ready, ReadyOne}
-use Rattle.parts.proofs.Spot.{at-more, row-starts, entry-head}
+use Rattle.words.proofs.Handles.{at-more, row-starts}
+use Rattle.parts.proofs.Spot.{entry-head}
 use Rattle.parts.proofs.Parts.{types-earlier, flat}
 
 -- row 1 has passed them

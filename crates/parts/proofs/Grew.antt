@@ -12,6 +12,8 @@ use Rattle.words.specs.declared.Interned.{Interned}
 use Rattle.words.specs.declared.Interned.the-variants.{At, Full}
 use Rattle.words.proofs.Extend.{Extends, ext-take}
 use Rattle.words.proofs.Room.{Fit, fit, fitted, fit-front, fit-length, then, stop}
+use Rattle.index.specs.Covers.{Covers}
+use Rattle.index.proofs.Keep.{covers-more}
 use Rattle.wellformed.specs.Entry.{every, all, isAliasFinal}
 use Rattle.call.specs.Handles.{word, kindOn, countOn}
 use Rattle.call.specs.Keep.{Adds}
@@ -111,6 +113,10 @@ pub grew-segments : {old new : List ℕ} {used : ℕ} {now : List ℕ} {v : ℕ}
 grew-segments w low over cut =
     let up = grew-up w in
     record { low = omega arith; over = omega arith; high = omega (arith, grew-high w, grew-long w); cut = cut; full = w .adds .sound .full }
+
+-- an index of the first words stays one
+pub grew-covers : {old new : List ℕ} {used : ℕ} {now : List ℕ} {v : ℕ} {index : List ℕ} → Grew old new used now v → Covers (take used (old ++ new)) index → Covers (take v (old ++ now)) index
+grew-covers {old} {new} {used} {now} {v} {index} w c = covers-more (take used (old ++ new)) (take v (old ++ now)) index (ext w) c
 
 -- the aliases of a struct that was there are still there
 pub grew-values : {old new : List ℕ} {used : ℕ} {now : List ℕ} {v top deep low high a : ℕ} → Grew old new used now v → Part (take used (old ++ new)) top deep low high a → kindOn (take used (old ++ new)) a ≡ 8

@@ -14,7 +14,7 @@ use Rattle.wellformed.specs.Form.{headsAt}
 use Rattle.wellformed.proofs.Sizes.{tuple-in, struct-in, fref-name, int-2, float-2, pointer-2, memory-2}
 use Rattle.call.specs.Handles.{word, kindOn, depthOn, countOn}
 use Rattle.call.specs.Keep.{Sound, Ends}
-use Rattle.call.proofs.Agree.{at-row}
+use Rattle.words.proofs.Handles.{at-row}
 use Rattle.parts.specs.Parts.{Part, Name, All}
 use Rattle.parts.proofs.Spot.{entry-head, row-sized, row-word, row-every}
 use Rattle.parts.proofs.Checked.{Tested, tested, parts, names, row-checked}

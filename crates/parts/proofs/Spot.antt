@@ -1,42 +1,20 @@
 -- Where the words of an entry stand, and that its handle starts it. Assumes nothing.
 use mathlib.Core.Path.{_≡_, refl, sym, ap, _∙_}
-use mathlib.Core.Bool.{Bool, true, false, _||_}
+use mathlib.Core.Bool.{true}
 use mathlib.Core.Logic.{⊎-elim}
-use mathlib.Core.List.{List, [], _∷_, _++_, List·Memᴰ·not-nil, List·Memᴰ·cases-cons}
+use mathlib.Core.List.{List, [], _∷_, List·Memᴰ·not-nil, List·Memᴰ·cases-cons}
 use Prim.Native.Nat.{ℕ, zero, suc, pred, _+_, _-_, _*_, _≤_, _<_}
 use native.Mathlib.Omega.{arith}
 use native.Mathlib.Nat.{add-zero}
-use borrow.Author.Tests.{eq-eqb}
-use lib.Dec.{eqb}
 use lib.ListN.{length, take, drop, getD, length-drop}
 use lib.Seq.{length-take-le, getD-take, getD-drop}
 use Rattle.words.specs.Words.{sizeOf, fills}
-use Rattle.words.specs.Table.{Row, rows, entries, isAt, Sized, In}
+use Rattle.words.specs.Table.{Row, rows, entries, Sized, In}
 use Rattle.words.proofs.Walk.{size-pos, long}
 use Rattle.wellformed.specs.Entry.{every}
 use Rattle.call.specs.Handles.{word}
 use Rattle.call.specs.Keep.{Sound}
-use Rattle.call.proofs.Agree.{rows-bound}
-
--- ---- handles
-
-pub at-more : (rs ss : List Row) (h : ℕ) → isAt rs h ≡ true → isAt (rs ++ ss) h ≡ true
-unfolding isAt
-at-more [] ss h a = let z : _≡_ {A = ℕ} 0 1 = cc in absurd (omega arith)
-at-more (r ∷ rs) ss h a = go (eqb (r .at) h) a (at-more rs ss h)
-  where
-    go : (t : Bool) → (t || isAt rs h) ≡ true → (isAt rs h ≡ true → isAt (rs ++ ss) h ≡ true) → (t || isAt (rs ++ ss) h) ≡ true
-    go true q ih = refl
-    go false q ih = ih q
-
-pub row-starts : (rs : List Row) (r : Row) → In r rs → isAt rs (r .at) ≡ true
-unfolding isAt
-row-starts [] r m = absurd (List·Memᴰ·not-nil m)
-row-starts (q ∷ rs) r m = ⊎-elim (λ (e : r ≡ q). rw (e, eq-eqb (q .at) (q .at) refl)) (λ (i : In r rs). go (eqb (q .at) (r .at)) (row-starts rs r i)) (List·Memᴰ·cases-cons m)
-  where
-    go : (t : Bool) → isAt rs (r .at) ≡ true → (t || isAt rs (r .at)) ≡ true
-    go true e = refl
-    go false e = e
+use Rattle.words.proofs.Handles.{rows-bound}
 
 -- ---- words
 

@@ -5,6 +5,7 @@ ghost use mathlib.Core.Bool.{true};
 ghost use mathlib.Core.List.{_++_};
 ghost use Prim.Native.Nat.{_+_, _*_, _≤_, _<_};
 ghost use lib.ListN.{length, take, drop};
+ghost use Rattle.index.specs.Covers.{Covers};
 ghost use Rattle.words.specs.Made.{Segments, Runs};
 ghost use Rattle.wellformed.specs.Entry.{every, all, isFlag, isAliasFinal};
 ghost use Rattle.structs.specs.Remade.{fieldsWith, remake};
@@ -42,15 +43,17 @@ pub fn made_again(
     a: usize,
     types: &[u64],
     finals: &[u64],
+    index: &[u64],
 ) -> Interned
     requires { ⌜ Segments (now old) (now new) used ⌝ }
     requires { ⌜ (length (now types) ≤ 255) × (length (now types) ≡ length (now finals)) × (a ≤ 1048576) ⌝ }
     requires { ⌜ (all isAliasFinal (every 3 (length (now types)) (a + 4) (take used (now old ++ now new))) ≡ true) × (all isFlag (now finals) ≡ true) ⌝ }
+    requires { ⌜ Covers (take used (now old ++ now new)) (now index) ⌝ }
     ensures { λ r. ⌜ Runs (remake a (now (types .entry)) (now (finals .entry))) (now (old .entry)) (now (new .entry)) used (now (new .exit)) r ⌝ }
 {
     let mut fields = [0u64; 1020];
     let n = types.len();
     fields_with(&mut fields, old, new, used, a + 2, types, finals);
     let name = words::word(old, new, used, a + 1);
-    makers::structure(old, new, used, name, &fields[..4 * n])
+    makers::structure(old, new, used, name, &fields[..4 * n], index)
 }

@@ -1,5 +1,5 @@
 -- What the calls on types know past their rows, and what meet leaves of the used words alone. Assumes nothing.
-use mathlib.Core.Path.{_≡_, sym, ap, _∙_}
+use mathlib.Core.Path.{_≡_, refl, sym, ap, _∙_}
 use mathlib.Core.Bool.{true, false}
 use mathlib.Core.Logic.{⊎-elim}
 use mathlib.Core.List.{List, [], _∷_, _++_, append-nil}
@@ -22,6 +22,8 @@ use Rattle.call.specs.Handles.{word, kindOn, noEntry, wrongKind, typesRows}
 use Rattle.call.proofs.Ways.{Begun}
 use Rattle.kept.proofs.Fits.{Right}
 use Rattle.kept.proofs.Rows.{two-off, right-of}
+use Rattle.index.specs.Covers.{Covers}
+use Rattle.index.proofs.Keep.{covers-none}
 use Rattle.parts.specs.Parts.{Good, Part, Ready, ReadyOne}
 use Rattle.parts.proofs.Good.{well-good, handle-part, part-weak, part-below}
 use Rattle.meet.specs.Meet.{meetOf, isaOf, Met}
@@ -118,6 +120,10 @@ module _ (ws : List ℕ) (used a b : ℕ) (begun : Begun ws used) (q : typesRows
     first = rw read (part-weak used 33 (omega (arith, long ws used begun)) (omega arith) (parts .0));
     second = rw read (part-weak used 33 (omega (arith, long ws used begun)) (omega arith) (parts .1));
   }
+
+  -- without an index
+  pub ask-covers : Covers (take used (u ++ [])) []
+  ask-covers = covers-none (take used (u ++ [])) [] (rw read (good ws used begun .sound .low)) refl
 
   -- ---- what meet leaves of them
 

@@ -1,6 +1,8 @@
-// The calls on types, on any words whatever. Each takes the bits that row 1 marks the entries in; `ty` lends them.
+// The calls on types, on any words whatever. Each takes the bits that row 1 marks the entries in; `ty` lends them. Once the rows are read, is_final and
+// make_ro may keep in the same bits which types are known to be final.
 use call::Flag;
 use call::Made;
+use own_memory::Operation;
 use walk_rules::Walk;
 use words::Interned;
 ghost use mathlib.Core.Path.{_≡_};
@@ -22,7 +24,9 @@ pub fn meet_in(words: &mut [u64], bits: &mut [u64], a: u64, b: u64) -> Made
         return Made::Refused(no);
     }
     let none = [0u64; 0];
-    let met = meet::meet_type(&none, words, used, a as usize, b as usize);
+    let mut known = [0u64; 0];
+    let op = Operation::Meet(b as usize);
+    let met = own_memory::run(op, &none, words, used, a as usize, &mut known, &none);
     call::finish(words, used, met)
 }
 
@@ -40,7 +44,15 @@ pub fn isa_in(words: &[u64], bits: &mut [u64], a: u64, b: u64) -> Flag
         return Flag::Refused(no);
     }
     let mut none = [0u64; 0];
-    let m = meet::meet_type(&words[..used], &mut none, used, a as usize, b as usize);
+    let plain = [0u64; 0];
+    let m = own_memory::ask(
+        &words[..used],
+        &mut none,
+        used,
+        a as usize,
+        b as usize,
+        &plain,
+    );
     match m {
         Interned::At(h, _) => Flag::Is(h as u64 == b),
         Interned::Full => Flag::Is(false),
@@ -61,7 +73,9 @@ pub fn walk_in(words: &mut [u64], bits: &mut [u64], op: Walk, a: u64) -> Made
         return Made::Refused(no);
     }
     let none = [0u64; 0];
-    let r = walk::walk_type(op, &none, words, used, a as usize);
+    let mut known = [0u64; 0];
+    let walk = Operation::Walk(op);
+    let r = own_memory::run(walk, &none, words, used, a as usize, &mut known, &none);
     call::finish(words, used, r)
 }
 
@@ -78,7 +92,7 @@ pub fn join_in(words: &mut [u64], bits: &mut [u64], a: u64, b: u64) -> Made
         return Made::Refused(no);
     }
     let none = [0u64; 0];
-    let r = join::join(&none, words, used, a as usize, b as usize);
+    let r = own_memory::join(&none, words, used, a as usize, b as usize, &none);
     call::finish(words, used, r)
 }
 
@@ -95,7 +109,7 @@ pub fn is_final_in(words: &[u64], bits: &mut [u64], a: u64) -> Flag
         return Flag::Refused(no);
     }
     let none = [0u64; 0];
-    Flag::Is(finals::is_final(&none, words, used, a as usize))
+    Flag::Is(own_memory::is_final(&none, words, used, a as usize, bits))
 }
 
 pub fn make_ro_in(words: &mut [u64], bits: &mut [u64], a: u64) -> Made
@@ -111,6 +125,6 @@ pub fn make_ro_in(words: &mut [u64], bits: &mut [u64], a: u64) -> Made
         return Made::Refused(no);
     }
     let none = [0u64; 0];
-    let r = make_ro::make_ro(&none, words, used, a as usize);
+    let r = own_memory::make_ro(&none, words, used, a as usize, bits, &none);
     call::finish(words, used, r)
 }

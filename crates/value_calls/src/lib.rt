@@ -15,7 +15,7 @@ pub fn fresh(words: &mut [u64]) -> Done
     if words.len() > 1048576 {
         return Done::Refused(1);
     }
-    call::clear(words);
+    words::clear(words);
     makers::headed(words, 94, &wellformed::FRESH);
     Done::Accepted
 }
@@ -44,7 +44,7 @@ pub fn make_int(words: &mut [u64], min: u64, max: u64) -> Made
         return Made::Refused(1);
     }
     let none = [0u64; 0];
-    let r = makers::int(&none, words, used, min, max);
+    let r = makers::int(&none, words, used, min, max, &none);
     call::finish(words, used, r)
 }
 
@@ -61,7 +61,7 @@ pub fn make_float(words: &mut [u64], sz: u64, bits: u64) -> Made
     }
     let f = type_float::float_of(size, bits);
     let none = [0u64; 0];
-    let r = makers::float(&none, words, used, f, bits);
+    let r = makers::float(&none, words, used, f, bits, &none);
     call::finish(words, used, r)
 }
 
@@ -76,6 +76,6 @@ pub fn get_str(words: &mut [u64], name: &[u8]) -> Made
         return Made::Refused(5);
     }
     let none = [0u64; 0];
-    let r = names::intern_name(&none, words, used, name, false);
+    let r = names::intern_name(&none, words, used, name, false, &none);
     call::finish(words, used, r)
 }

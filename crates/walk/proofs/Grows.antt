@@ -21,12 +21,12 @@ use Rattle.walk.specs.Walked.{Op₁, walkEach, elements, types, structOf
 abbrev pub Grows₁ : Op₁ → Type 0
 Grows₁ op = (u : List ℕ) (a : ℕ) → Extends u (op u a .words)
 
-int-grows : (w : Walk) (a : ℕ) (u : List ℕ) → Extends u (intOf w a u .words)
+pub int-grows : (w : Walk) (a : ℕ) (u : List ℕ) → Extends u (intOf w a u .words)
 int-grows Dual a u = make-extends u (intEntry (word u (a + 2)) (word u (a + 1)))
 int-grows Glb a u = ext-same u
 int-grows Lub a u = ext-same u
 
-float-grows : (w : Walk) (a : ℕ) (u : List ℕ) → Extends u (floatOf w a u .words)
+pub float-grows : (w : Walk) (a : ℕ) (u : List ℕ) → Extends u (floatOf w a u .words)
 float-grows Dual a u = go (eqb (word u (a + 1)) 64)
   where
     go : (t : Bool) → Extends u (cond t (there u a) (make u (floatEntry (128 - word u (a + 1)) 0)) .words)

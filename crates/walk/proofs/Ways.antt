@@ -1,4 +1,4 @@
--- Each way through the walk gives what the definition gives. Assumes nothing.
+-- Each way through the walk gives what the definition gives, and leaves a memory of settled answers. Assumes nothing.
 use mathlib.Core.Path.{_≡_, refl, sym, _∙_}
 use mathlib.Core.Bool.{true}
 use mathlib.Core.List.{List, _++_}
@@ -15,22 +15,26 @@ use Rattle.call.specs.Handles.{word, kindOn, depthOn, countOn}
 use Rattle.makers.specs.Entries.{tupleEntry, pointerEntry, memoryEntry}
 use Rattle.makers.proofs.FloatSize.{size-word}
 use Rattle.type_float.specs.Float.{isSizeWord}
+use Rattle.index.specs.Covers.{Covers}
 use Rattle.parts.specs.Parts.{Part, All, ReadyOne}
 use Rattle.parts.proofs.Parts.{few, flat, of-tuple, of-struct, of-pointer, of-memory, of-float, all-map}
-use Rattle.parts.proofs.Good.{part-weak, part-ready}
-use Rattle.meet.specs.Meet.{tupleOf, pointerOf, memoryOf}
+use Rattle.parts.proofs.Good.{part-weak, part-ready, one-segments}
+use Rattle.later.proofs.Right.{right-full, right-same, right-made}
+use Rattle.meet.specs.Meet.{Many, tupleOf, pointerOf, memoryOf}
 use Rattle.meet.proofs.Grows.{tuple-grows, pointer-grows, memory-grows}
 use Rattle.meet.proofs.Nice.{narrow}
-use Rattle.parts.proofs.Grew.{Grew, grew-none, grew-there, grew-more, grew-stop, grew-segments, grew-values, then-made}
+use Rattle.parts.proofs.Grew.{Grew, grew-none, grew-there, grew-more, grew-stop, grew-segments, grew-values, then-made, grew-covers}
 use Rattle.walk_rules.specs.Tables.{formFor, intOf, floatOf, nilOf, fieldsOf}
 use Rattle.walk_rules.specs.declared.Walk.{Walk}
 use Rattle.walk_rules.specs.declared.Form.{Form}
 use Rattle.walk_rules.specs.declared.Form.the-variants.{Is, Ints, Floats, Tuples, Fields, Pointers, Memories}
 use Rattle.walk_rules.proofs.Sure.{form-floats, form-tuples, form-fields, form-pointers, form-memories}
 use Rattle.walk.specs.Walked.{types, structOf, followForm, walkWithin, Walked}
-use Rattle.walk.proofs.Grows.{walk-grows, struct-grows}
+use Rattle.walk.specs.Remembered.{Settled, Remembers}
+use Rattle.walk.proofs.Grows.{walk-grows, int-grows, float-grows, struct-grows}
 use Rattle.walk.proofs.Nice.{walk-nice}
-use Rattle.walk.proofs.Loop.{Going₁, going-begin, going-first, going-ready, going-stop, going-turn, going-end}
+use Rattle.walk.proofs.Loop.{Going₁, going-begin, going-first, going-ready, going-stop, going-turn, going-end, going-segments}
+use Rattle.walk.proofs.Recall.{Both, settled-stays}
 
 module _ (walk : Walk) (old new : List ℕ) (used a : ℕ) (rd : ReadyOne old new used a) (r : Form) (er : r ≡ formFor walk a (kindOn (take used (old ++ new)) a)) where
   abbrev u : List ℕ
@@ -47,35 +51,36 @@ module _ (walk : Walk) (old new : List ℕ) (used a : ℕ) (rd : ReadyOne old ne
       go zero h = absurd (omega arith)
       go (suc n) h = rw (sym er ∙ e) (f n (omega arith))
 
-  pub walked-is : (h : ℕ) → r ≡ Is h → Walked walk old new used a new (At h used)
-  unfolding followForm
-  walked-is h e = by-form (Is h) e new (At h used) (λ k ka. grew-there h grew)
+  module _ (memo : List ℕ) (M : Remembers walk (take used (old ++ new)) memo) where
+    pub walked-is : (h : ℕ) → r ≡ Is h → Both walk old new used a new (At h used) memo
+    unfolding followForm
+    walked-is h e = (by-form (Is h) e new (At h used) (λ k ka. grew-there h grew), right-same (Settled walk) M)
 
-  pub walked-ints : r ≡ Ints → (new′ : List ℕ) (m : Interned) → Runs (intOf walk a) old new used new′ m → Walked walk old new used a new′ m
-  unfolding followForm
-  walked-ints e new′ m t = by-form Ints e new′ m (λ k ka. t)
+    pub walked-ints : r ≡ Ints → (new′ : List ℕ) (m : Interned) → Runs (intOf walk a) old new used new′ m → Both walk old new used a new′ m memo
+    unfolding followForm
+    walked-ints e new′ m t = (by-form Ints e new′ m (λ k ka. t), right-made (settled-stays walk) (one-segments rd) M (intOf walk a u) (int-grows walk a u) t)
+
+    pub walked-floats : r ≡ Floats → (new′ : List ℕ) (m : Interned) → Runs (floatOf walk a) old new used new′ m → Both walk old new used a new′ m memo
+    unfolding followForm
+    walked-floats e new′ m t = (by-form Floats e new′ m (λ k ka. t), right-made (settled-stays walk) (one-segments rd) M (floatOf walk a u) (float-grows walk a u) t)
 
   pub float-size : r ≡ Floats → isSizeWord (word u (a + 1)) ≡ true
   float-size e = size-word (word u (a + 1)) (word u (a + 2)) (of-float (rd .good .sound) (rd .first) (form-floats walk a (kindOn u a) (sym er ∙ e)))
-
-  pub walked-floats : r ≡ Floats → (new′ : List ℕ) (m : Interned) → Runs (floatOf walk a) old new used new′ m → Walked walk old new used a new′ m
-  unfolding followForm
-  walked-floats e new′ m t = by-form Floats e new′ m (λ k ka. t)
 
   -- an entry around one part x, which F makes of the part's walk
   module _ (X : Form) (e : r ≡ X) (x : ℕ) (px : Part u a 33 1 11 x) (F : Grown → Grown) (is : (k : ℕ) → followForm walk (walkWithin walk k) u a X ≡ F (walkWithin walk k u x)) (F-grows : (g : Grown) → Extends (g .words) (F g .words)) where
     around-next : (x < a) × ReadyOne old new used x
     around-next = part-ready rd px
 
-    module _ (now : List ℕ) (m : Interned) (t : Walked walk old new used x now m) where
+    module _ (now : List ℕ) (m : Interned) (memo : List ℕ) (b : Both walk old new used x now m memo) where
       abbrev part : ℕ → Grown
       part k = walkWithin walk k u x
 
       told : (k : ℕ) → a ≤ k → Ran used (part k) (old ++ new) (old ++ now) m
-      told k ka = t .is k (omega (arith, px .earlier))
+      told k ka = b .0 .is k (omega (arith, px .earlier))
 
-      around-full : m ≡ Full → Walked walk old new used a now Full
-      around-full f = by-form X e now Full (λ k ka. rw (is k) (grew-stop grew (part k) now m (walk-grows walk k u x) (told k ka) f (F (part k)) (F-grows (part k))))
+      around-full : m ≡ Full → Both walk old new used a now Full memo
+      around-full f = (by-form X e now Full (λ k ka. rw (is k) (grew-stop grew (part k) now m (walk-grows walk k u x) (told k ka) f (F (part k)) (F-grows (part k)))), right-full)
 
       module _ (h v : ℕ) (f : m ≡ At h v) where
         on : Grew old new used now v
@@ -84,8 +89,12 @@ module _ (walk : Walk) (old new : List ℕ) (used a : ℕ) (rd : ReadyOne old ne
         around-segments : Segments old now v
         around-segments = grew-segments on (omega (arith, rd .near)) (rd .over) (rd .cut)
 
-        around-made : (now₂ : List ℕ) (o : Interned) → Ran v (F (there (take v (old ++ now)) h)) (old ++ now) (old ++ now₂) o → Walked walk old new used a now₂ o
-        around-made now₂ o l = by-form X e now₂ o (λ k ka. rw (is k) (then-made grew (part k) now m (walk-grows walk k u x) (told k ka) h v f on (λ w n. F (there w n)) (λ w n. F-grows (there w n)) now₂ o l))
+        -- what the maker of the entry requires
+        around-required : {index : List ℕ} → Covers u index → Segments old now v × Covers (take v (old ++ now)) index
+        around-required c = (around-segments, grew-covers on c)
+
+        around-made : (now₂ : List ℕ) (o : Interned) → Ran v (F (there (take v (old ++ now)) h)) (old ++ now) (old ++ now₂) o → Both walk old new used a now₂ o memo
+        around-made now₂ o l = (by-form X e now₂ o (λ k ka. rw (is k) (then-made grew (part k) now m (walk-grows walk k u x) (told k ka) h v f on (λ w n. F (there w n)) (λ w n. F-grows (there w n)) now₂ o l)), right-made (settled-stays walk) around-segments (b .1 .is h v f) (F (there (take v (old ++ now)) h)) (F-grows (there (take v (old ++ now)) h)) l)
 
   -- pointers
   module _ (e : r ≡ Pointers) where
@@ -109,18 +118,18 @@ module _ (walk : Walk) (old new : List ℕ) (used a : ℕ) (rd : ReadyOne old ne
       pub pointer-next : (x < a) × ReadyOne old new used x
       pointer-next = around-next Pointers e x to-struct pointing is-pointer (pointer-grows (nilOf walk (word u (a + 2))))
 
-      module _ (now : List ℕ) (m : Interned) (t : Walked walk old new used x now m) where
-        pub pointer-full : m ≡ Full → Walked walk old new used a now Full
-        pointer-full = around-full Pointers e x to-struct pointing is-pointer (pointer-grows (nilOf walk (word u (a + 2)))) now m t
+      module _ (now : List ℕ) (m : Interned) (memo : List ℕ) (b : Both walk old new used x now m memo) where
+        pub pointer-full : m ≡ Full → Both walk old new used a now Full memo
+        pointer-full = around-full Pointers e x to-struct pointing is-pointer (pointer-grows (nilOf walk (word u (a + 2)))) now m memo b
 
         module _ (h v : ℕ) (f : m ≡ At h v) where
-          pub pointer-segments : Segments old now v
-          pointer-segments = around-segments Pointers e x to-struct pointing is-pointer (pointer-grows (nilOf walk (word u (a + 2)))) now m t h v f
+          pub pointer-required : {index : List ℕ} → Covers (take used (old ++ new)) index → Segments old now v × Covers (take v (old ++ now)) index
+          pointer-required = around-required Pointers e x to-struct pointing is-pointer (pointer-grows (nilOf walk (word u (a + 2)))) now m memo b h v f
 
-          pub walked-pointers : (q nil : ℕ) → q ≡ getD (take used (old ++ new)) (a + 2) 0 → nil ≡ nilOf walk q → (now₂ : List ℕ) (o : Interned) → Runs (λ z. make z (pointerEntry h nil z)) old now v now₂ o → Walked walk old new used a now₂ o
+          pub walked-pointers : (q nil : ℕ) → q ≡ getD (take used (old ++ new)) (a + 2) 0 → nil ≡ nilOf walk q → (now₂ : List ℕ) (o : Interned) → Runs (λ z. make z (pointerEntry h nil z)) old now v now₂ o → Both walk old new used a now₂ o memo
           walked-pointers q nil eq en now₂ o l =
               let n : nil ≡ nilOf walk (word u (a + 2)) = en ∙ rw eq in
-              around-made Pointers e x to-struct pointing is-pointer (pointer-grows (nilOf walk (word u (a + 2)))) now m t h v f now₂ o (rw n at l)
+              around-made Pointers e x to-struct pointing is-pointer (pointer-grows (nilOf walk (word u (a + 2)))) now m memo b h v f now₂ o (rw n at l)
 
   -- memories
   module _ (e : r ≡ Memories) (x : ℕ) (ex : x ≡ getD (take used (old ++ new)) (a + 2) 0) where
@@ -139,16 +148,16 @@ module _ (walk : Walk) (old new : List ℕ) (used a : ℕ) (rd : ReadyOne old ne
     pub memory-next : (x < a) × ReadyOne old new used x
     memory-next = around-next Memories e x to-type keeping is-memory (memory-grows (word u (a + 1)))
 
-    module _ (now : List ℕ) (m : Interned) (t : Walked walk old new used x now m) where
-      pub memory-full : m ≡ Full → Walked walk old new used a now Full
-      memory-full = around-full Memories e x to-type keeping is-memory (memory-grows (word u (a + 1))) now m t
+    module _ (now : List ℕ) (m : Interned) (memo : List ℕ) (b : Both walk old new used x now m memo) where
+      pub memory-full : m ≡ Full → Both walk old new used a now Full memo
+      memory-full = around-full Memories e x to-type keeping is-memory (memory-grows (word u (a + 1))) now m memo b
 
       module _ (h v : ℕ) (f : m ≡ At h v) where
-        pub memory-segments : Segments old now v
-        memory-segments = around-segments Memories e x to-type keeping is-memory (memory-grows (word u (a + 1))) now m t h v f
+        pub memory-required : {index : List ℕ} → Covers (take used (old ++ new)) index → Segments old now v × Covers (take v (old ++ now)) index
+        memory-required = around-required Memories e x to-type keeping is-memory (memory-grows (word u (a + 1))) now m memo b h v f
 
-        pub walked-memories : (alias : ℕ) → alias ≡ getD (take used (old ++ new)) (a + 1) 0 → (now₂ : List ℕ) (o : Interned) → Runs (λ z. make z (memoryEntry alias h z)) old now v now₂ o → Walked walk old new used a now₂ o
-        walked-memories alias eq now₂ o l = around-made Memories e x to-type keeping is-memory (memory-grows (word u (a + 1))) now m t h v f now₂ o (rw eq at l)
+        pub walked-memories : (alias : ℕ) → alias ≡ getD (take used (old ++ new)) (a + 1) 0 → (now₂ : List ℕ) (o : Interned) → Runs (λ z. make z (memoryEntry alias h z)) old now v now₂ o → Both walk old new used a now₂ o memo
+        walked-memories alias eq now₂ o l = around-made Memories e x to-type keeping is-memory (memory-grows (word u (a + 1))) now m memo b h v f now₂ o (rw eq at l)
 
   -- parts below 33
   shallower : (hs : List ℕ) → All (Part u a (depthOn u a) 1 11) hs → All (Part u a 33 1 11) hs
@@ -166,13 +175,13 @@ module _ (walk : Walk) (old new : List ℕ) (used a : ℕ) (rd : ReadyOne old ne
           (rw ex (shallower (every 1 (countOn u a) (a + 1) u) (of-tuple (rd .good .sound) (rd .first) (form-tuples walk a (kindOn u a) (sym er ∙ e)) .types)))
 
       module _ (now parts : List ℕ) (v i : ℕ) (J : Going₁ walk 1 old new used a (x / 65536) (a + 1) now parts v i) where
-        pub tuple-stop : (more : i < x / 65536) (p : ℕ) → p ≡ getD (take used (old ++ now)) (a + 1 + i) 0 → (now₂ : List ℕ) (m : Interned) → Walked walk old now v p now₂ m → m ≡ Full → Walked walk old new used a now₂ Full
+        pub tuple-stop : (more : i < x / 65536) (p : ℕ) → p ≡ getD (take used (old ++ now)) (a + 1 + i) 0 → (now₂ : List ℕ) (m : Interned) → Walked walk old now v p now₂ m → m ≡ Full → (memo : List ℕ) → Both walk old new used a now₂ Full memo
         unfolding followForm
-        tuple-stop more p ep now₂ m t f = by-form Tuples e now₂ Full (λ k ka. rw (← ex) (going-stop J more (a + 1 + i) p (omega arith) ep t f tupleOf tuple-grows k ka))
+        tuple-stop more p ep now₂ m t f memo = (by-form Tuples e now₂ Full (λ k ka. rw (← ex) (going-stop J more (a + 1 + i) p (omega arith) ep t f tupleOf tuple-grows k ka)), right-full)
 
-        pub tuple-end : x / 65536 ≤ i → i ≤ x / 65536 → (now₂ : List ℕ) (m : Interned) → Runs (λ z. make z (tupleEntry (take (x / 65536) parts) z)) old now v now₂ m → Walked walk old new used a now₂ m
+        pub tuple-end : x / 65536 ≤ i → i ≤ x / 65536 → (now₂ : List ℕ) (m : Interned) → Runs (λ z. make z (tupleEntry (take (x / 65536) parts) z)) old now v now₂ m → (memo : List ℕ) → Remembers walk (take v (old ++ now)) memo → Both walk old new used a now₂ m memo
         unfolding followForm
-        tuple-end lo hi now₂ m t = by-form Tuples e now₂ m (λ k ka. rw (← ex) (going-end J lo hi tupleOf tuple-grows now₂ m t k ka))
+        tuple-end lo hi now₂ m t memo M = let many : Many = record { words = take v (old ++ now); handles = take (x / 65536) parts } in (by-form Tuples e now₂ m (λ k ka. rw (← ex) (going-end J lo hi tupleOf tuple-grows now₂ m t k ka)), right-made (settled-stays walk) (going-segments J) M (tupleOf many) (tuple-grows many) t)
 
     -- structs
     module _ (e : r ≡ Fields) where
@@ -185,13 +194,13 @@ module _ (walk : Walk) (old new : List ℕ) (used a : ℕ) (rd : ReadyOne old ne
           (rw ex (shallower (every 3 (countOn u a) (a + 3) u) (of-struct (rd .good .sound) (rd .first) is-struct .types)))
 
       module _ (now parts : List ℕ) (v i : ℕ) (J : Going₁ walk 3 old new used a (x / 65536) (a + 3) now parts v i) where
-        pub struct-stop : (more : i < x / 65536) (p : ℕ) → p ≡ getD (take used (old ++ now)) (a + 3 + 3 * i) 0 → (now₂ : List ℕ) (m : Interned) → Walked walk old now v p now₂ m → m ≡ Full → Walked walk old new used a now₂ Full
+        pub struct-stop : (more : i < x / 65536) (p : ℕ) → p ≡ getD (take used (old ++ now)) (a + 3 + 3 * i) 0 → (now₂ : List ℕ) (m : Interned) → Walked walk old now v p now₂ m → m ≡ Full → (memo : List ℕ) → Both walk old new used a now₂ Full memo
         unfolding followForm
-        struct-stop more p ep now₂ m t f = by-form Fields e now₂ Full (λ k ka. rw (← ex) (going-stop J more (a + 3 + 3 * i) p refl ep t f (structOf walk a) (struct-grows walk a) k ka))
+        struct-stop more p ep now₂ m t f memo = (by-form Fields e now₂ Full (λ k ka. rw (← ex) (going-stop J more (a + 3 + 3 * i) p refl ep t f (structOf walk a) (struct-grows walk a) k ka)), right-full)
 
-        pub struct-end : x / 65536 ≤ i → i ≤ x / 65536 → (now₂ : List ℕ) (m : Interned) → Runs (fieldsOf walk a (take (x / 65536) parts)) old now v now₂ m → Walked walk old new used a now₂ m
+        pub struct-end : x / 65536 ≤ i → i ≤ x / 65536 → (now₂ : List ℕ) (m : Interned) → Runs (fieldsOf walk a (take (x / 65536) parts)) old now v now₂ m → (memo : List ℕ) → Remembers walk (take v (old ++ now)) memo → Both walk old new used a now₂ m memo
         unfolding followForm
-        struct-end lo hi now₂ m t = by-form Fields e now₂ m (λ k ka. rw (← ex) (going-end J lo hi (structOf walk a) (struct-grows walk a) now₂ m t k ka))
+        struct-end lo hi now₂ m t memo M = let many : Many = record { words = take v (old ++ now); handles = take (x / 65536) parts } in (by-form Fields e now₂ m (λ k ka. rw (← ex) (going-end J lo hi (structOf walk a) (struct-grows walk a) now₂ m t k ka)), right-made (settled-stays walk) (going-segments J) M (structOf walk a many) (struct-grows walk a many) t)
 
         -- the aliases of a are still there
         pub struct-values : all isAliasFinal (every 3 (x / 65536) (a + 4) (take v (old ++ now))) ≡ true

@@ -5,6 +5,7 @@ ghost use mathlib.Core.Bool.{true};
 ghost use mathlib.Core.List.{_++_};
 ghost use Prim.Native.Nat.{_+_, _*_, _≤_, _<_};
 ghost use lib.ListN.{length, take, drop};
+ghost use Rattle.index.specs.Covers.{Covers};
 ghost use Rattle.words.specs.Made.{Segments, Runs};
 ghost use Rattle.type_float.specs.Float.{isSizeWord};
 ghost use Rattle.wellformed.specs.Entry.{every, all, isAliasFinal};
@@ -136,25 +137,34 @@ pub fn form_of(walk: Walk, old: &[u64], new: &[u64], used: usize, a: usize) -> F
 
 // ---- answers
 
-pub fn int_of(walk: Walk, old: &[u64], new: &mut [u64], used: usize, a: usize) -> Interned
+pub fn int_of(
+    walk: Walk,
+    old: &[u64],
+    new: &mut [u64],
+    used: usize,
+    a: usize,
+    index: &[u64],
+) -> Interned
     requires { ⌜ Segments (now old) (now new) used ⌝ }
     requires { ⌜ a < 1048576 ⌝ }
+    requires { ⌜ Covers (take used (now old ++ now new)) (now index) ⌝ }
     ensures { λ r. ⌜ Runs (intOf walk a) (now (old .entry)) (now (new .entry)) used (now (new .exit)) r ⌝ }
 {
     match walk {
         Walk::Dual => {
             let min = words::word(old, new, used, a + 2);
             let max = words::word(old, new, used, a + 1);
-            makers::int(old, new, used, min, max)
+            makers::int(old, new, used, min, max, index)
         }
         Walk::Glb => Interned::At(25, used),
         Walk::Lub => Interned::At(22, used),
     }
 }
 
-fn dual_float(old: &[u64], new: &mut [u64], used: usize, a: usize) -> Interned
+fn dual_float(old: &[u64], new: &mut [u64], used: usize, a: usize, index: &[u64]) -> Interned
     requires { ⌜ Segments (now old) (now new) used ⌝ }
     requires { ⌜ (a < 1048576) × (isSizeWord (word (take used (now old ++ now new)) (a + 1)) ≡ true) ⌝ }
+    requires { ⌜ Covers (take used (now old ++ now new)) (now index) ⌝ }
     ensures { λ r. ⌜ Runs (floatOf Dual a) (now (old .entry)) (now (new .entry)) used (now (new .exit)) r ⌝ }
 {
     let size = words::word(old, new, used, a + 1);
@@ -162,16 +172,24 @@ fn dual_float(old: &[u64], new: &mut [u64], used: usize, a: usize) -> Interned
         return Interned::At(a, used);
     }
     let f = type_float::float_of(128 - size, 0);
-    makers::float(old, new, used, f, 0)
+    makers::float(old, new, used, f, 0, index)
 }
 
-pub fn float_of(walk: Walk, old: &[u64], new: &mut [u64], used: usize, a: usize) -> Interned
+pub fn float_of(
+    walk: Walk,
+    old: &[u64],
+    new: &mut [u64],
+    used: usize,
+    a: usize,
+    index: &[u64],
+) -> Interned
     requires { ⌜ Segments (now old) (now new) used ⌝ }
     requires { ⌜ (a < 1048576) × (isSizeWord (word (take used (now old ++ now new)) (a + 1)) ≡ true) ⌝ }
+    requires { ⌜ Covers (take used (now old ++ now new)) (now index) ⌝ }
     ensures { λ r. ⌜ Runs (floatOf walk a) (now (old .entry)) (now (new .entry)) used (now (new .exit)) r ⌝ }
 {
     match walk {
-        Walk::Dual => dual_float(old, new, used, a),
+        Walk::Dual => dual_float(old, new, used, a, index),
         Walk::Glb => Interned::At(61, used),
         Walk::Lub => Interned::At(49, used),
     }
@@ -219,13 +237,15 @@ pub fn fields_of(
     used: usize,
     a: usize,
     types: &[u64],
+    index: &[u64],
 ) -> Interned
     requires { ⌜ Segments (now old) (now new) used ⌝ }
     requires { ⌜ (length (now types) ≤ 255) × (a < 1048576) × (all isAliasFinal (every 3 (length (now types)) (a + 4) (take used (now old ++ now new))) ≡ true) ⌝ }
+    requires { ⌜ Covers (take used (now old ++ now new)) (now index) ⌝ }
     ensures { λ r. ⌜ Runs (fieldsOf walk a (now (types .entry))) (now (old .entry)) (now (new .entry)) used (now (new .exit)) r ⌝ }
 {
     let mut finals = [0u64; 255];
     let n = types.len();
     finals_of(walk, &mut finals, old, new, used, n, a + 4);
-    structs::made_again(old, new, used, a, types, &finals[..n])
+    structs::made_again(old, new, used, a, types, &finals[..n], index)
 }

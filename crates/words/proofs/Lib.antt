@@ -1,10 +1,11 @@
 pub mod Sizes
 pub mod Alike
 pub mod Walk
+pub mod Handles
 pub mod Copy
+pub mod Zeros
 pub mod Join
 pub mod Grow
-pub mod Two
 pub mod Extend
 pub mod Room
 pub mod Placed

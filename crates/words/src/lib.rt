@@ -1,14 +1,13 @@
-// The store: reading its words, the search for an equal entry, and making an entry. A store's words stand in two segments, `old` and then
-// `new`; entries are appended to `new` only.
+// The store: reading its words, looking through its entries one by one, and writing an entry. A store's words stand in two segments, `old` and
+// then `new`; entries are appended to `new` only.
 ghost use mathlib.Core.Path.{_≡_};
 ghost use mathlib.Core.Bool.{true};
 ghost use Prim.Native.Nat.{_+_, _-_, _*_, _^_, _<_, _≤_};
 ghost use mathlib.Core.List.{_++_};
-ghost use lib.ListN.{length, take, drop, getD};
+ghost use lib.ListN.{length, take, drop, getD, replicate};
 ghost use lib.Seq.{slice};
 ghost use Rattle.words.specs.Words.{sizeOf, eqs, fills};
-ghost use Rattle.words.specs.Table.{rows, firstOf, findIn};
-ghost use Rattle.words.specs.Made.{make, Segments, Runs};
+ghost use Rattle.words.specs.Table.{rows, firstOf};
 
 pub enum Found {
     At(usize),
@@ -63,7 +62,7 @@ pub fn word(old: &[u64], new: &[u64], used: usize, p: usize) -> u64
 }
 
 // The first entry equal to `entry` among those from `from` to `to` of one segment, whose first word is at position `base` of the store.
-fn look(words: &[u64], base: usize, from: usize, to: usize, entry: &[u64]) -> Found
+pub fn look(words: &[u64], base: usize, from: usize, to: usize, entry: &[u64]) -> Found
     requires { ⌜ (to ≤ length (now words)) × (base + length (now words) < 2 ^ 63) × (fills 0 (slice from to (now words)) ≡ true) ⌝ }
     ensures { λ r. ⌜ r ≡ firstOf (rows (base + from) 0 (slice from to (now (words .entry)))) (now (entry .entry)) ⌝ }
 {
@@ -76,21 +75,6 @@ fn look(words: &[u64], base: usize, from: usize, to: usize, entry: &[u64]) -> Fo
         at += n;
     }
     Found::Nothing
-}
-
-// The lowest handle of an entry equal to `entry`.
-pub fn find(old: &[u64], new: &[u64], used: usize, entry: &[u64]) -> Found
-    requires { ⌜ Segments (now old) (now new) used ⌝ }
-    ensures { λ r. ⌜ r ≡ findIn (take used (now (old .entry) ++ now (new .entry))) (now (entry .entry)) ⌝ }
-{
-    if old.len() == 0 {
-        return look(new, 0, 1, used, entry);
-    }
-    let f = look(old, 0, 1, old.len(), entry);
-    match f {
-        Found::At(h) => Found::At(h),
-        Found::Nothing => look(new, old.len(), 0, used - old.len(), entry),
-    }
 }
 
 // An entry's handle and the number of words used then, or no room for it.
@@ -111,22 +95,13 @@ pub fn write(dst: &mut [u64], entry: &[u64])
     }
 }
 
-// Hands back the lowest handle of an entry equal to `entry`, else appends it, where it fits.
-pub fn intern(old: &[u64], new: &mut [u64], used: usize, entry: &[u64]) -> Interned
-    requires { ⌜ Segments (now old) (now new) used ⌝ }
-    ensures { λ r. ⌜ Runs (λ u. make u (now (entry .entry))) (now (old .entry)) (now (new .entry)) used (now (new .exit)) r ⌝ }
+// Zeroes the words of a list.
+pub fn clear(words: &mut [u64])
+    ensures { λ _. ⌜ now (words .exit) ≡ replicate (length (now (words .entry))) 0 ⌝ }
 {
-    let f = find(old, new, used, entry);
-    match f {
-        Found::At(h) => Interned::At(h, used),
-        Found::Nothing => {
-            let at = used - old.len();
-            if entry.len() <= new.len() - at {
-                write(&mut new[at..], entry);
-                Interned::At(used, used + entry.len())
-            } else {
-                Interned::Full
-            }
-        }
+    let mut i = 0;
+    while i < words.len() {
+        words[i] = 0;
+        i += 1;
     }
 }

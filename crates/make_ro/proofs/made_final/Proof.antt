@@ -11,7 +11,7 @@ slice-aggregate-made-again : tie.Need-slice-aggregate-made-again
 slice-aggregate-made-again c = search ones-many
 
 made-again-requires : tie.Need-made-again-requires
-made-again-requires c κs = (search needs, ((search needs, search ones-many, search needs), (search needs, search ones-fit)))
+made-again-requires c κs = (search needs, ((search needs, search ones-many, search needs), ((search needs, search ones-fit), search needs)))
 
 same-length : tie.Need-same-length
 same-length c = search needs

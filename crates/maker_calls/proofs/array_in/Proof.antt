@@ -34,17 +34,20 @@ returns-2 c = turned _ _ _ _ (c .before .before .before .before .before .before 
 slice-aggregate-array : tie.Need-slice-aggregate-array
 slice-aggregate-array c = search needs
 
+slice-aggregate-array-2 : tie.Need-slice-aggregate-array-2
+slice-aggregate-array-2 c = search needs
+
 array-requires : tie.Need-array-requires
 array-requires c κs =
-    let n = c .before .before in
+    let n = c .before .before .before in
     let i = n .before .before .before .before in
     let g = begun _ _ (i .before .before .before .begin .ensures .is) (i .if1 .left) in
-    (g .segments, ary-fine _ _ _ _ _ _ (sym (n .before .ary-rows .ensures) ∙ n .if2 .left))
+    (g .segments, (ary-fine _ _ _ _ _ _ (sym (n .before .ary-rows .ensures) ∙ n .if2 .left), g .covers))
 
 finish-requires : tie.Need-finish-requires
 finish-requires c κs =
     let m = c .before .before .before in
-    let i = m .before .before .before .before .before .before .before in
+    let i = m .before .before .before .before .before .before .before .before in
     let g = begun _ _ (i .before .before .before .begin .ensures .is) (i .if1 .left) in
     (omega (arith, g .some, m .array .kept .1 .0), omega (arith, g .within, m .array .kept .1 .0))
 
@@ -58,7 +61,7 @@ returns-3 : tie.Need-returns-3
 returns-3 c =
     let f = c .before .before in
     let m = f .before .before .before .before in
-    let n = m .before .before .before in
+    let n = m .before .before .before .before in
     let i = n .before .before .before .before in
     ended _ _ _ _ (i .before .before .before .begin .ensures .is) (i .if1 .left) (sym (n .before .ary-rows .ensures) ∙ n .if2 .left) _ _ (m .array .kept .1 .0) (m .array .ensures) _ (f .finish .ensures)
 
@@ -75,6 +78,7 @@ array-in-spec =
     same-length-4
     returns-2
     slice-aggregate-array
+    slice-aggregate-array-2
     array-requires
     finish-requires
     same-length-5

@@ -34,17 +34,20 @@ returns-2 c = turned _ _ _ _ (c .before .before .before .before .before .before 
 slice-aggregate-structure : tie.Need-slice-aggregate-structure
 slice-aggregate-structure c = search needs
 
+slice-aggregate-structure-2 : tie.Need-slice-aggregate-structure-2
+slice-aggregate-structure-2 c = search needs
+
 structure-requires : tie.Need-structure-requires
 structure-requires c κs =
-    let n = c .before .before in
+    let n = c .before .before .before in
     let i = n .before .before .before .before in
     let g = begun _ _ (i .before .before .before .begin .ensures .is) (i .if1 .left) in
-    (g .segments, struct-fine _ _ _ (sym (n .before .struct-rows .ensures) ∙ n .if2 .left))
+    (g .segments, (struct-fine _ _ _ (sym (n .before .struct-rows .ensures) ∙ n .if2 .left), g .covers))
 
 finish-requires : tie.Need-finish-requires
 finish-requires c κs =
     let m = c .before .before .before in
-    let i = m .before .before .before .before .before .before .before in
+    let i = m .before .before .before .before .before .before .before .before in
     let g = begun _ _ (i .before .before .before .begin .ensures .is) (i .if1 .left) in
     (omega (arith, g .some, m .structure .kept .1 .0), omega (arith, g .within, m .structure .kept .1 .0))
 
@@ -58,7 +61,7 @@ returns-3 : tie.Need-returns-3
 returns-3 c =
     let f = c .before .before in
     let m = f .before .before .before .before in
-    let n = m .before .before .before in
+    let n = m .before .before .before .before in
     let i = n .before .before .before .before in
     ended _ _ _ _ (i .before .before .before .begin .ensures .is) (i .if1 .left) (sym (n .before .struct-rows .ensures) ∙ n .if2 .left) _ _ (m .structure .kept .1 .0) (m .structure .ensures) _ (f .finish .ensures)
 
@@ -75,6 +78,7 @@ struct-in-spec =
     same-length-4
     returns-2
     slice-aggregate-structure
+    slice-aggregate-structure-2
     structure-requires
     finish-requires
     same-length-5

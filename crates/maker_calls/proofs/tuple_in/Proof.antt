@@ -34,17 +34,20 @@ returns-2 c = turned _ _ _ _ (c .before .before .before .before .before .before 
 slice-aggregate-tuple : tie.Need-slice-aggregate-tuple
 slice-aggregate-tuple c = search needs
 
+slice-aggregate-tuple-2 : tie.Need-slice-aggregate-tuple-2
+slice-aggregate-tuple-2 c = search needs
+
 tuple-requires : tie.Need-tuple-requires
 tuple-requires c κs =
-    let n = c .before .before in
+    let n = c .before .before .before in
     let i = n .before .before .before .before in
     let g = begun _ _ (i .before .before .before .begin .ensures .is) (i .if1 .left) in
-    (g .segments, tuple-few _ _ (sym (n .before .tuple-rows .ensures) ∙ n .if2 .left))
+    (g .segments, (tuple-few _ _ (sym (n .before .tuple-rows .ensures) ∙ n .if2 .left), g .covers))
 
 finish-requires : tie.Need-finish-requires
 finish-requires c κs =
     let m = c .before .before .before in
-    let i = m .before .before .before .before .before .before .before in
+    let i = m .before .before .before .before .before .before .before .before in
     let g = begun _ _ (i .before .before .before .begin .ensures .is) (i .if1 .left) in
     (omega (arith, g .some, m .tuple .kept .1 .0), omega (arith, g .within, m .tuple .kept .1 .0))
 
@@ -58,7 +61,7 @@ returns-3 : tie.Need-returns-3
 returns-3 c =
     let f = c .before .before in
     let m = f .before .before .before .before in
-    let n = m .before .before .before in
+    let n = m .before .before .before .before in
     let i = n .before .before .before .before in
     ended _ _ _ _ (i .before .before .before .begin .ensures .is) (i .if1 .left) (sym (n .before .tuple-rows .ensures) ∙ n .if2 .left) _ _ (m .tuple .kept .1 .0) (m .tuple .ensures) _ (f .finish .ensures)
 
@@ -75,6 +78,7 @@ tuple-in-spec =
     same-length-4
     returns-2
     slice-aggregate-tuple
+    slice-aggregate-tuple-2
     tuple-requires
     finish-requires
     same-length-5

@@ -25,7 +25,7 @@ returns c =
     let b = i .before .before .before in
     let s = b .before in
     let t = s .before in
-    float-made _ _ _ _ _ _ _ _ _ (passed-on (t .before .before .before .args .f .sz) record { sfits = t .struct-told .given .0 .1 } _ (s .size-word .ensures)) (b .bits-of .ensures) (i .intern .ensures)
+    float-made _ _ _ _ _ _ _ _ _ (passed-on (t .before .before .before .before .args .f .sz) record { sfits = t .struct-told .given .0 .1 } _ (s .size-word .ensures)) (b .bits-of .ensures) (i .intern .ensures)
 
 pub float-spec : {M : Type 1} → statement M
 float-spec =

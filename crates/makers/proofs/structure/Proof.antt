@@ -57,7 +57,7 @@ returns c =
     let i = c .before .before in
     let h = i .before .before .before .before in
     let d = h .before .before in
-    let s = d .before .before .before .before .before in
+    let s = d .before .before .before .before .before .before in
     struct-made _ _ _ _ _ (s .args .name) (now (s .args .fields)) _ _ _ (d .fields-deep .ensures .0) (h .struct-words .ensures) (i .intern .ensures)
 
 pub structure-spec : {M : Type 1} → statement M

@@ -1,17 +1,11 @@
--- `names::find_name` meets its contract: it looks through `old` and then through `new`.
-use Rattle.words.proofs.Two.{alone-filled, alone, old-filled, new-filled, in-old, in-new}
+-- `names::find_name` meets its contract.
+use Rattle.index.proofs.Chain.{found-first, found-later, tail-of}
 use borrow.Author.Needs.{needs}
 use Rattle.names.proofs.find_name.Statement.{statement}
 use Rattle.names.proofs.find_name.Tie as tie
 
-look-name-requires : tie.Need-look-name-requires
-look-name-requires c κs = ((search needs, search needs, search alone-filled), search needs)
-
-returns : tie.Need-returns
-returns c = search alone
-
-look-name-requires-2 : tie.Need-look-name-requires-2
-look-name-requires-2 c κs = ((search needs, search needs, search old-filled), search needs)
+search-name-requires : tie.Need-search-name-requires
+search-name-requires c κs = search needs
 
 enum-known-f : tie.Need-enum-known-f
 enum-known-f c = search needs
@@ -19,28 +13,26 @@ enum-known-f c = search needs
 enum-told : tie.Need-enum-told
 enum-told c = search needs
 
-sub-look-name : tie.Need-sub-look-name
-sub-look-name c = search needs
+covered-requires : tie.Need-covered-requires
+covered-requires c κs = search needs
 
-look-name-requires-3 : tie.Need-look-name-requires-3
-look-name-requires-3 c κs = ((search needs, search needs, search new-filled), search needs)
+rest-name-requires : tie.Need-rest-name-requires
+rest-name-requires c κs = ((c .before .before .before .before .before .before .before .before .pre .0, tail-of _ _ _ _ (c .before .before .before .before .before .before .before .before .pre .0) (c .before .before .before .before .before .before .before .before .pre .1 .1) _ (c .covered .ensures)), search needs)
+
+returns : tie.Need-returns
+returns c = found-first _ _ (c .before .before .before .before .before .before .before .before .pre .1 .1) (c .before .before .before .before .before .before .before .before .pre .0 .full) _ _ (c .before .before .before .search-name .ensures) _ (c .before .f .given .1)
 
 returns-2 : tie.Need-returns-2
-returns-2 c = search in-old
-
-returns-3 : tie.Need-returns-3
-returns-3 c = search in-new
+returns-2 c = found-later _ _ (c .before .before .before .before .before .before .before .before .before .pre .1 .1) (c .before .before .before .before .before .before .before .before .before .pre .0 .full) _ _ (c .before .before .before .before .search-name .ensures) (c .before .before .enum-told .given .1) _ (c .before .covered .ensures) _ (c .rest-name .ensures)
 
 pub find-name-spec : {M : Type 1} → statement M
 find-name-spec =
     tie.close
     (tie.spec
-    look-name-requires
-    returns
-    look-name-requires-2
+    search-name-requires
     enum-known-f
     enum-told
-    sub-look-name
-    look-name-requires-3
-    returns-2
-    returns-3)
+    covered-requires
+    rest-name-requires
+    returns
+    returns-2)

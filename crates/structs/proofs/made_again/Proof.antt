@@ -29,7 +29,7 @@ slice-aggregate-structure : tie.Need-slice-aggregate-structure
 slice-aggregate-structure c = search fields-many
 
 structure-requires : tie.Need-structure-requires
-structure-requires c κs = (search needs, (search fields-few, search fields-fit))
+structure-requires c κs = (search needs, ((search fields-few, search fields-fit), search needs))
 
 same-length : tie.Need-same-length
 same-length c = search needs

@@ -34,13 +34,13 @@ slice-aggregate-is-final : tie.Need-slice-aggregate-is-final
 slice-aggregate-is-final c = search needs
 
 is-final-requires : tie.Need-is-final-requires
-is-final-requires c κs = one-ready _ _ _ (begun _ _ (c .before .before .before .before .before .before .before .before .begin .ensures .is) (c .before .before .before .before .before .if1 .left)) (sym (c .before .before .types-rows .ensures) ∙ (c .before .if2 .left))
+is-final-requires c κs = one-ready _ _ _ (begun _ _ (c .before .before .before .before .before .before .before .before .before .begin .ensures .is) (c .before .before .before .before .before .before .if1 .left)) (sym (c .before .before .before .types-rows .ensures) ∙ (c .before .before .if2 .left))
 
 same-length-3 : tie.Need-same-length-3
 same-length-3 c = search needs
 
 returns-3 : tie.Need-returns-3
-returns-3 c = answered _ _ _ _ (c .before .before .before .before .before .before .before .before .before .begin .ensures .is) (c .before .before .before .before .before .before .if1 .left) (sym (c .before .before .before .types-rows .ensures) ∙ (c .before .before .if2 .left)) _ (ap flag (c .is-final .ensures .is (suc (c .before .before .before .before .before .before .before .before .before .before .before .before .before .args .a)) (omega arith)))
+returns-3 c = answered _ _ _ _ (c .before .before .before .before .before .before .before .before .before .before .before .before .begin .ensures .is) (c .before .before .before .before .before .before .before .before .before .if1 .left) (sym (c .before .before .before .before .before .before .types-rows .ensures) ∙ (c .before .before .before .before .before .if2 .left)) _ (ap flag (c .before .before .is-final .ensures .is (suc (c .before .before .before .before .before .before .before .before .before .before .before .before .before .before .before .before .args .a)) (omega arith)))
 
 pub is-final-in-spec : {M : Type 1} → statement M
 is-final-in-spec =

@@ -37,12 +37,17 @@ returns-2 c = turned _ _ _ _ (c .before .before .before .before .before .before 
 slice-aggregate-join : tie.Need-slice-aggregate-join
 slice-aggregate-join c = search needs
 
+slice-aggregate-join-2 : tie.Need-slice-aggregate-join-2
+slice-aggregate-join-2 c = search needs
+
 join-requires : tie.Need-join-requires
-join-requires c κs = call-ready _ _ _ _ (begun _ _ (c .before .before .before .before .before .before .before .before .before .before .begin .ensures .is) (c .before .before .before .before .before .before .before .if1 .left)) (sym (c .before .before .before .types-rows .ensures) ∙ (c .before .before .if2 .left))
+join-requires c κs =
+    let g = begun _ _ (c .before .before .before .before .before .before .before .before .before .before .before .begin .ensures .is) (c .before .before .before .before .before .before .before .before .if1 .left) in
+    (call-ready _ _ _ _ g (sym (c .before .before .before .before .types-rows .ensures) ∙ (c .before .before .before .if2 .left)), g .covers)
 
 finish-requires : tie.Need-finish-requires
 finish-requires c κs =
-    let g = begun _ _ (c .before .before .before .before .before .before .before .before .before .before .before .before .before .before .begin .ensures .is) (c .before .before .before .before .before .before .before .before .before .before .before .if1 .left) in
+    let g = begun _ _ (c .before .before .before .before .before .before .before .before .before .before .before .before .before .before .before .begin .ensures .is) (c .before .before .before .before .before .before .before .before .before .before .before .before .if1 .left) in
     let k = c .before .before .before .join .kept .1 .0 in
     (omega (arith, g .some, k), omega (arith, g .within, k))
 
@@ -53,7 +58,7 @@ same-length-6 : tie.Need-same-length-6
 same-length-6 c = search needs
 
 returns-3 : tie.Need-returns-3
-returns-3 c = ended _ _ _ _ (c .before .before .before .before .before .before .before .before .before .before .before .before .before .before .before .before .before .begin .ensures .is) (c .before .before .before .before .before .before .before .before .before .before .before .before .before .before .if1 .left) (sym (c .before .before .before .before .before .before .before .before .before .before .types-rows .ensures) ∙ (c .before .before .before .before .before .before .before .before .before .if2 .left)) _ _ (c .before .before .before .before .before .before .join .kept .1 .0) (c .before .before .before .before .before .before .join .ensures) _ (c .before .before .finish .ensures)
+returns-3 c = ended _ _ _ _ (c .before .before .before .before .before .before .before .before .before .before .before .before .before .before .before .before .before .before .begin .ensures .is) (c .before .before .before .before .before .before .before .before .before .before .before .before .before .before .before .if1 .left) (sym (c .before .before .before .before .before .before .before .before .before .before .before .types-rows .ensures) ∙ (c .before .before .before .before .before .before .before .before .before .before .if2 .left)) _ _ (c .before .before .before .before .before .before .join .kept .1 .0) (c .before .before .before .before .before .before .join .ensures) _ (c .before .before .finish .ensures)
 
 pub join-in-spec : {M : Type 1} → statement M
 join-in-spec =
@@ -69,6 +74,7 @@ join-in-spec =
     same-length-4
     returns-2
     slice-aggregate-join
+    slice-aggregate-join-2
     join-requires
     finish-requires
     same-length-5

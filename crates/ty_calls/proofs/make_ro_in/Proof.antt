@@ -38,13 +38,18 @@ returns-2 c = turned _ _ _ _ (c .before .before .before .before .before .before 
 slice-aggregate-make-ro : tie.Need-slice-aggregate-make-ro
 slice-aggregate-make-ro c = search needs
 
+slice-aggregate-make-ro-2 : tie.Need-slice-aggregate-make-ro-2
+slice-aggregate-make-ro-2 c = search needs
+
 make-ro-requires : tie.Need-make-ro-requires
-make-ro-requires c κs = one-ready _ _ _ (begun _ _ (c .before .before .before .before .before .before .before .before .before .before .begin .ensures .is) (c .before .before .before .before .before .before .before .if1 .left)) (sym (c .before .before .before .types-rows .ensures) ∙ (c .before .before .if2 .left))
+make-ro-requires c κs =
+    let g = begun _ _ (c .before .before .before .before .before .before .before .before .before .before .before .before .begin .ensures .is) (c .before .before .before .before .before .before .before .before .before .if1 .left) in
+    (one-ready _ _ _ g (sym (c .before .before .before .before .before .types-rows .ensures) ∙ (c .before .before .before .before .if2 .left)), g .covers)
 
 finish-requires : tie.Need-finish-requires
 finish-requires c κs =
-    let g = begun _ _ (c .before .before .before .before .before .before .before .before .before .before .before .before .before .before .begin .ensures .is) (c .before .before .before .before .before .before .before .before .before .before .before .if1 .left) in
-    let k = c .before .before .before .make-ro .kept .1 .0 in
+    let g = begun _ _ (c .before .before .before .before .before .before .before .before .before .before .before .before .before .before .before .before .before .before .begin .ensures .is) (c .before .before .before .before .before .before .before .before .before .before .before .before .before .before .before .if1 .left) in
+    let k = c .before .before .before .before .before .make-ro .kept .1 .0 in
     (omega (arith, g .some, k), omega (arith, g .within, k))
 
 same-length-5 : tie.Need-same-length-5
@@ -54,7 +59,7 @@ same-length-6 : tie.Need-same-length-6
 same-length-6 c = search needs
 
 returns-3 : tie.Need-returns-3
-returns-3 c = ended _ _ _ _ (c .before .before .before .before .before .before .before .before .before .before .before .before .before .before .before .before .before .begin .ensures .is) (c .before .before .before .before .before .before .before .before .before .before .before .before .before .before .if1 .left) (sym (c .before .before .before .before .before .before .before .before .before .before .types-rows .ensures) ∙ (c .before .before .before .before .before .before .before .before .before .if2 .left)) _ _ (c .before .before .before .before .before .before .make-ro .kept .1 .0) (c .before .before .before .before .before .before .make-ro .ensures .is (suc (c .before .before .before .before .before .before .before .before .before .before .before .before .before .before .before .before .before .before .before .before .before .before .args .a)) (omega arith)) _ (c .before .before .finish .ensures)
+returns-3 c = ended _ _ _ _ (c .before .before .before .before .before .before .before .before .before .before .before .before .before .before .before .before .before .before .before .before .before .begin .ensures .is) (c .before .before .before .before .before .before .before .before .before .before .before .before .before .before .before .before .before .before .if1 .left) (sym (c .before .before .before .before .before .before .before .before .before .before .before .before .before .before .types-rows .ensures) ∙ (c .before .before .before .before .before .before .before .before .before .before .before .before .before .if2 .left)) _ _ (c .before .before .before .before .before .before .before .before .make-ro .kept .1 .0) (c .before .before .before .before .before .before .before .before .make-ro .ensures .is (suc (c .before .before .before .before .before .before .before .before .before .before .before .before .before .before .before .before .before .before .before .before .before .before .before .before .before .before .args .a)) (omega arith)) _ (c .before .before .finish .ensures)
 
 pub make-ro-in-spec : {M : Type 1} → statement M
 make-ro-in-spec =
@@ -70,6 +75,7 @@ make-ro-in-spec =
     same-length-4
     returns-2
     slice-aggregate-make-ro
+    slice-aggregate-make-ro-2
     make-ro-requires
     finish-requires
     same-length-5

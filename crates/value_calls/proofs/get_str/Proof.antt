@@ -24,15 +24,19 @@ returns-2 c = turned _ _ _ _ (c .before .before .begin-plain .ensures) (c .befor
 slice-aggregate-intern-name : tie.Need-slice-aggregate-intern-name
 slice-aggregate-intern-name c = search needs
 
+slice-aggregate-intern-name-2 : tie.Need-slice-aggregate-intern-name-2
+slice-aggregate-intern-name-2 c = search needs
+
 intern-name-requires : tie.Need-intern-name-requires
 intern-name-requires c κs =
-    let i = c .before .before .before in
-    (begun _ _ (i .before .begin-plain .ensures) (i .if1 .left) .segments, search needs)
+    let i = c .before .before .before .before in
+    let g = begun _ _ (i .before .begin-plain .ensures) (i .if1 .left) in
+    (g .segments, (search needs, g .covers))
 
 finish-requires : tie.Need-finish-requires
 finish-requires c κs =
     let m = c .before .before .before in
-    let i = m .before .before .before .before in
+    let i = m .before .before .before .before .before in
     let g = begun _ _ (i .before .begin-plain .ensures) (i .if1 .left) in
     (omega (arith, g .some, m .intern-name .kept .1 .0), omega (arith, g .within, m .intern-name .kept .1 .0))
 
@@ -43,7 +47,7 @@ returns-3 : tie.Need-returns-3
 returns-3 c =
     let f = c .before .before in
     let m = f .before .before .before .before in
-    let n = m .before .before .before in
+    let n = m .before .before .before .before in
     let i = n .before in
     ended _ _ _ _ (i .before .begin-plain .ensures) (i .if1 .left) (short-name _ (n .if2 .left)) _ _ (m .intern-name .kept .1 .0) (plain-name _ _ _ _ _ _ (m .intern-name .ensures)) _ (f .finish .ensures)
 
@@ -57,6 +61,7 @@ get-str-spec =
     same-length-2
     returns-2
     slice-aggregate-intern-name
+    slice-aggregate-intern-name-2
     intern-name-requires
     finish-requires
     same-length-3

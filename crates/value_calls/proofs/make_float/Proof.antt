@@ -36,18 +36,22 @@ float-of-requires c κs = size-known _ _ _ (c .before .before .wrapping-add-u64 
 slice-aggregate-float : tie.Need-slice-aggregate-float
 slice-aggregate-float c = search needs
 
+slice-aggregate-float-2 : tie.Need-slice-aggregate-float-2
+slice-aggregate-float-2 c = search needs
+
 float-requires : tie.Need-float-requires
 float-requires c κs =
-    let o = c .before .before in
+    let o = c .before .before .before in
     let n = o .before in
     let w = n .before .before in
     let i = w .before in
-    (begun _ _ (i .before .begin-plain .ensures) (i .if1 .left) .segments, (size-fits _ _ _ (w .wrapping-add-u64 .ensures) _ (n .before .float-ok .ensures) (n .if2 .left) _ (o .float-of .ensures .0), o .float-of .ensures .1))
+    let g = begun _ _ (i .before .begin-plain .ensures) (i .if1 .left) in
+    (g .segments, ((size-fits _ _ _ (w .wrapping-add-u64 .ensures) _ (n .before .float-ok .ensures) (n .if2 .left) _ (o .float-of .ensures .0), o .float-of .ensures .1), g .covers))
 
 finish-requires : tie.Need-finish-requires
 finish-requires c κs =
     let m = c .before .before .before in
-    let i = m .before .before .before .before .before .before .before in
+    let i = m .before .before .before .before .before .before .before .before in
     let g = begun _ _ (i .before .begin-plain .ensures) (i .if1 .left) in
     (omega (arith, g .some, m .float .kept .1 .0), omega (arith, g .within, m .float .kept .1 .0))
 
@@ -58,7 +62,7 @@ returns-3 : tie.Need-returns-3
 returns-3 c =
     let f = c .before .before in
     let m = f .before .before .before .before in
-    let o = m .before .before .before in
+    let o = m .before .before .before .before in
     let n = o .before in
     let w = n .before .before in
     let i = w .before in
@@ -78,6 +82,7 @@ make-float-spec =
     returns-2
     float-of-requires
     slice-aggregate-float
+    slice-aggregate-float-2
     float-requires
     finish-requires
     same-length-3

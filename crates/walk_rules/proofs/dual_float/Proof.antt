@@ -23,7 +23,7 @@ float-of-requires : tie.Need-float-of-requires
 float-of-requires c κs = search other-known
 
 float-requires : tie.Need-float-requires
-float-requires c κs = (search needs, (search other-fits, search needs))
+float-requires c κs = (search needs, ((search other-fits, search needs), search needs))
 
 same-length-2 : tie.Need-same-length-2
 same-length-2 c = search needs

@@ -1,0 +1,13 @@
+pub mod Hashed
+pub mod Older
+pub mod Place
+pub mod Split
+pub mod Seek
+pub mod More
+pub mod Zero
+pub mod Told
+pub mod Built
+pub mod Prefix
+pub mod Chain
+pub mod Keep
+pub mod Two

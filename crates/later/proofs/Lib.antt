@@ -1,0 +1,3 @@
+pub mod Later
+pub mod Keeps
+pub mod Right

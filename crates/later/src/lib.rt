@@ -1,0 +1,1 @@
+// Theorems alone: used words that came after others.

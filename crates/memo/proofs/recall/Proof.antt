@@ -1,0 +1,73 @@
+-- `memo::recall` meets its contract.
+use borrow.Author.Needs.{needs}
+use mathlib.Core.Path.{_≡_}
+use Prim.Native.Nat.{_≤_, _<_}
+use lib.ListN.{length}
+use Rattle.memo.proofs.Lines.{tells-nothing, tells-line}
+use Rattle.memo.proofs.recall.Statement.{statement}
+use Rattle.memo.proofs.recall.Tie as tie
+
+abbrev Inv-loop : tie.InvT-loop
+Inv-loop memo key lines i₀ n₀ i n = (i < lines) × (n ≤ lines) × (lines ≡ length memo) × (0 < key)
+
+abbrev μ-loop : tie.MeasureT-loop
+μ-loop memo key lines i₀ n₀ i n = n
+
+returns : tie.Need-returns Inv-loop μ-loop
+returns c = tells-nothing _ _
+
+returns-2 : tie.Need-returns-2 Inv-loop μ-loop
+returns-2 c = tells-nothing _ _
+
+home-requires : tie.Need-home-requires Inv-loop μ-loop
+home-requires c κs = search needs
+
+loop-holds : tie.Need-loop-holds Inv-loop μ-loop
+loop-holds c = search needs
+
+mul-line : tie.Need-mul-line Inv-loop μ-loop
+mul-line c = search needs
+
+shared-slice-read-line : tie.Need-shared-slice-read-line Inv-loop μ-loop
+shared-slice-read-line c = search needs
+
+returns-3 : tie.Need-returns-3 Inv-loop μ-loop
+returns-3 c = tells-nothing _ _
+
+returns-4 : tie.Need-returns-4 Inv-loop μ-loop
+returns-4 c = search tells-line
+
+after-requires : tie.Need-after-requires Inv-loop μ-loop
+after-requires c κs = search needs
+
+sub-n : tie.Need-sub-n Inv-loop μ-loop
+sub-n c = search needs
+
+loop-less : tie.Need-loop-less Inv-loop μ-loop
+loop-less c = search needs
+
+loop-again : tie.Need-loop-again Inv-loop μ-loop
+loop-again c = search needs
+
+returns-5 : tie.Need-returns-5 Inv-loop μ-loop
+returns-5 c = tells-nothing _ _
+
+pub recall-spec : {M : Type 1} → statement M
+recall-spec =
+    tie.close
+    (tie.spec
+    Inv-loop
+    μ-loop
+    returns
+    returns-2
+    home-requires
+    loop-holds
+    mul-line
+    shared-slice-read-line
+    returns-3
+    returns-4
+    after-requires
+    sub-n
+    loop-less
+    loop-again
+    returns-5)

@@ -1,0 +1,131 @@
+// A memory of answers: one word a line, a key times 2 to the 20 and the answer, which is below 2 to the 20. A word of 0 is an empty line, and a key of 0 is
+// none: nothing is remembered under it. A key is looked for from the line that it asks for on, round the memory, up to the first empty one. Where no
+// line is free, a new key takes the place of the one in the line that it asks for. With no line nothing is remembered.
+use words::Interned;
+ghost use mathlib.Core.Path.{_≡_};
+ghost use Prim.Native.Nat.{_<_};
+ghost use lib.ListN.{length};
+ghost use Rattle.memo.specs.Memo.{Tells, Noted, Learned, isFull, Forgot};
+
+pub enum Recalled {
+    Is(u64),
+    Nothing,
+}
+
+// The line that a key asks for. Keys below 2 to the 20 ask for different lines where there are as many; a pair's second half moves its first.
+fn home(lines: usize, key: u64) -> usize
+    requires { ⌜ 0 < lines ⌝ }
+    ensures { λ r. ⌜ r < lines ⌝ }
+{
+    ((key % 1048576 + key / 1048576 * 40503) % (lines as u64)) as usize
+}
+
+// The line behind line i.
+fn after(lines: usize, i: usize) -> usize
+    requires { ⌜ i < lines ⌝ }
+    ensures { λ r. ⌜ r < lines ⌝ }
+{
+    if i + 1 < lines {
+        return i + 1;
+    }
+    0
+}
+
+// The answer to a key, if a line has it.
+pub fn recall(memo: &[u64], key: u64) -> Recalled
+    ensures { λ r. ⌜ Tells (now (memo .entry)) key r ⌝ }
+{
+    let lines = memo.len();
+    if lines == 0 {
+        return Recalled::Nothing;
+    }
+    if key == 0 {
+        return Recalled::Nothing;
+    }
+    let mut i = home(lines, key);
+    let mut n = lines;
+    while 0 < n {
+        let line = memo[i];
+        if line == 0 {
+            return Recalled::Nothing;
+        }
+        if line / 1048576 == key {
+            return Recalled::Is(line % 1048576);
+        }
+        i = after(lines, i);
+        n -= 1;
+    }
+    Recalled::Nothing
+}
+
+// A line for a key: one that has it, else the first empty one, else the one that it asks for.
+fn free(memo: &[u64], key: u64) -> usize
+    requires { ⌜ 0 < length (now memo) ⌝ }
+    ensures { λ r. ⌜ r < length (now (memo .entry)) ⌝ }
+{
+    let lines = memo.len();
+    let mut i = home(lines, key);
+    let mut n = lines;
+    while 0 < n {
+        let line = memo[i];
+        if line == 0 || line / 1048576 == key {
+            return i;
+        }
+        i = after(lines, i);
+        n -= 1;
+    }
+    home(lines, key)
+}
+
+// From now on a line has the key, where the key and the answer fit in one.
+pub fn note(memo: &mut [u64], key: u64, answer: u64)
+    ensures { λ _. ⌜ Noted (now (memo .entry)) key answer (now (memo .exit)) ⌝ }
+{
+    if memo.len() == 0 {
+        return;
+    }
+    if key == 0 {
+        return;
+    }
+    if 17592186044416 <= key {
+        return;
+    }
+    if 1048576 <= answer {
+        return;
+    }
+    let i = free(memo, key);
+    memo[i] = key * 1048576 + answer;
+}
+
+// The same for the handle that an operation answers, on the answer's way through.
+pub fn noted(memo: &mut [u64], key: u64, r: Interned) -> Interned
+    ensures { λ m. ⌜ m ≡ r ⌝ }
+    ensures { λ _. ⌜ Learned (now (memo .entry)) key r (now (memo .exit)) ⌝ }
+{
+    match r {
+        Interned::At(h, v) => {
+            note(memo, key, h as u64);
+            Interned::At(h, v)
+        }
+        Interned::Full => Interned::Full,
+    }
+}
+
+// Whether an operation had no room.
+fn was_full(r: Interned) -> bool
+    ensures { λ t. ⌜ t ≡ isFull r ⌝ }
+{
+    match r {
+        Interned::At(_h, _v) => false,
+        Interned::Full => true,
+    }
+}
+
+// For a memory that lives from call to call: after Full the store is put back as it was, and whatever was remembered on the way is forgotten.
+pub fn forget(r: Interned, memo: &mut [u64])
+    ensures { λ _. ⌜ Forgot r (now (memo .entry)) (now (memo .exit)) ⌝ }
+{
+    if was_full(r) {
+        words::clear(memo);
+    }
+}

@@ -1,0 +1,274 @@
+// The operations that walk, with a memory of their own: blank at the start, gone at the end. Its size goes by the store, since blanking a memory must
+// cost little beside row 1, which reads the whole store: up to 4,096 words a line for each word, and so a line of its own for each type; above that 8,192
+// lines, and a few for a small type, which asks no more.
+//
+// Each range of sizes is a function of its own, so that a call on a small store does not set up the frame that a large memory needs.
+use walk_rules::Walk;
+use words::Interned;
+ghost use mathlib.Core.Path.{_≡_};
+ghost use mathlib.Core.List.{_++_};
+ghost use Prim.Native.Nat.{ℕ, _+_, _≤_};
+ghost use lib.ListN.{length, take, getD};
+ghost use Rattle.index.specs.Covers.{Covers};
+ghost use Rattle.words.specs.Made.{Runs};
+ghost use Rattle.parts.specs.Parts.{Ready, ReadyOne};
+ghost use Rattle.join.specs.Join.{joinOf};
+ghost use Rattle.finals.specs.Final.{Finals};
+ghost use Rattle.finals.specs.Known.{Knows};
+ghost use Rattle.own_memory.specs.declared.Operation.the-variants.{Meet, MakeRo};
+ghost use Rattle.own_memory.specs.Done.{Asked, Done};
+
+// An operation on a type, with its other operand.
+pub enum Operation {
+    Meet(usize),
+    Walk(Walk),
+    MakeRo,
+}
+
+// With a blank memory. `known` marks types that are known to be final; make_ro asks it.
+fn operate(
+    op: Operation,
+    old: &[u64],
+    new: &mut [u64],
+    used: usize,
+    a: usize,
+    memo: &mut [u64],
+    known: &mut [u64],
+    index: &[u64],
+) -> Interned
+    requires { ⌜ Asked op (now old) (now new) used a ⌝ }
+    requires { ⌜ ((i : ℕ) → getD (now memo) i 0 ≡ 0) ⌝ }
+    requires { ⌜ Knows (take used (now old ++ now new)) (now known) ⌝ }
+    requires { ⌜ Covers (take used (now old ++ now new)) (now index) ⌝ }
+    ensures { λ r. ⌜ Done op (now (old .entry)) (now (new .entry)) used a (now (new .exit)) r ⌝ }
+{
+    match op {
+        Operation::Meet(b) => meet::meet_type(old, new, used, a, b, memo, index),
+        Operation::Walk(walk) => walk::walk_type(walk, old, new, used, a, memo, index),
+        Operation::MakeRo => make_ro::make_ro(old, new, used, a, memo, known, index),
+    }
+}
+
+// Stores of at most 512 words.
+fn up_to_512(
+    op: Operation,
+    old: &[u64],
+    new: &mut [u64],
+    used: usize,
+    a: usize,
+    known: &mut [u64],
+    index: &[u64],
+) -> Interned
+    requires { ⌜ Asked op (now old) (now new) used a ⌝ }
+    requires { ⌜ Knows (take used (now old ++ now new)) (now known) ⌝ }
+    requires { ⌜ Covers (take used (now old ++ now new)) (now index) ⌝ }
+    ensures { λ r. ⌜ Done op (now (old .entry)) (now (new .entry)) used a (now (new .exit)) r ⌝ }
+{
+    let n = old.len() + new.len();
+    if n <= 128 {
+        let mut memo = [0u64; 128];
+        return operate(op, old, new, used, a, &mut memo, known, index);
+    }
+    if n <= 256 {
+        let mut memo = [0u64; 256];
+        return operate(op, old, new, used, a, &mut memo, known, index);
+    }
+    let mut memo = [0u64; 512];
+    operate(op, old, new, used, a, &mut memo, known, index)
+}
+
+// Stores of at most 4,096 words.
+fn up_to_4096(
+    op: Operation,
+    old: &[u64],
+    new: &mut [u64],
+    used: usize,
+    a: usize,
+    known: &mut [u64],
+    index: &[u64],
+) -> Interned
+    requires { ⌜ Asked op (now old) (now new) used a ⌝ }
+    requires { ⌜ Knows (take used (now old ++ now new)) (now known) ⌝ }
+    requires { ⌜ Covers (take used (now old ++ now new)) (now index) ⌝ }
+    ensures { λ r. ⌜ Done op (now (old .entry)) (now (new .entry)) used a (now (new .exit)) r ⌝ }
+{
+    let n = old.len() + new.len();
+    if n <= 1024 {
+        let mut memo = [0u64; 1024];
+        return operate(op, old, new, used, a, &mut memo, known, index);
+    }
+    if n <= 2048 {
+        let mut memo = [0u64; 2048];
+        return operate(op, old, new, used, a, &mut memo, known, index);
+    }
+    let mut memo = [0u64; 4096];
+    operate(op, old, new, used, a, &mut memo, known, index)
+}
+
+// Larger stores.
+fn above(
+    op: Operation,
+    old: &[u64],
+    new: &mut [u64],
+    used: usize,
+    a: usize,
+    known: &mut [u64],
+    index: &[u64],
+) -> Interned
+    requires { ⌜ Asked op (now old) (now new) used a ⌝ }
+    requires { ⌜ Knows (take used (now old ++ now new)) (now known) ⌝ }
+    requires { ⌜ Covers (take used (now old ++ now new)) (now index) ⌝ }
+    ensures { λ r. ⌜ Done op (now (old .entry)) (now (new .entry)) used a (now (new .exit)) r ⌝ }
+{
+    if small::is_small(old, new, used, a) {
+        let mut memo = [0u64; 16];
+        return operate(op, old, new, used, a, &mut memo, known, index);
+    }
+    let mut memo = [0u64; 8192];
+    operate(op, old, new, used, a, &mut memo, known, index)
+}
+
+// An operation on a store that it may append to. A type without parts asks no memory.
+pub fn run(
+    op: Operation,
+    old: &[u64],
+    new: &mut [u64],
+    used: usize,
+    a: usize,
+    known: &mut [u64],
+    index: &[u64],
+) -> Interned
+    requires { ⌜ Asked op (now old) (now new) used a ⌝ }
+    requires { ⌜ Knows (take used (now old ++ now new)) (now known) ⌝ }
+    requires { ⌜ Covers (take used (now old ++ now new)) (now index) ⌝ }
+    ensures { λ r. ⌜ Done op (now (old .entry)) (now (new .entry)) used a (now (new .exit)) r ⌝ }
+{
+    if words::word(old, new, used, a) % 256 < 7 {
+        let mut none = [0u64; 0];
+        return operate(op, old, new, used, a, &mut none, known, index);
+    }
+    let n = old.len() + new.len();
+    if n <= 512 {
+        return up_to_512(op, old, new, used, a, known, index);
+    }
+    if n <= 4096 {
+        return up_to_4096(op, old, new, used, a, known, index);
+    }
+    above(op, old, new, used, a, known, index)
+}
+
+// A meet that nothing is appended for: the used words are lent to be read, and there is no word behind them.
+pub fn ask(old: &[u64], new: &mut [u64], used: usize, a: usize, b: usize, index: &[u64]) -> Interned
+    requires { ⌜ Ready (now old) (now new) used 1 11 a b ⌝ }
+    requires { ⌜ Covers (take used (now old ++ now new)) (now index) ⌝ }
+    ensures { λ r. ⌜ Done (Meet b) (now (old .entry)) (now (new .entry)) used a (now (new .exit)) r ⌝ }
+{
+    let mut known = [0u64; 0];
+    if words::word(old, new, used, a) % 256 < 7 {
+        let mut none = [0u64; 0];
+        return operate(
+            Operation::Meet(b),
+            old,
+            new,
+            used,
+            a,
+            &mut none,
+            &mut known,
+            index,
+        );
+    }
+    let n = old.len();
+    if n <= 512 {
+        return up_to_512(Operation::Meet(b), old, new, used, a, &mut known, index);
+    }
+    if n <= 4096 {
+        return up_to_4096(Operation::Meet(b), old, new, used, a, &mut known, index);
+    }
+    above(Operation::Meet(b), old, new, used, a, &mut known, index)
+}
+
+// Whether both operands are small.
+fn both_small(old: &[u64], new: &[u64], used: usize, a: usize, b: usize) -> bool
+    requires { ⌜ (length (now old) ≤ used) × (used ≤ length (now old) + length (now new)) × (used ≤ 1048576) ⌝ }
+{
+    if small::is_small(old, new, used, a) {
+        return small::is_small(old, new, used, b);
+    }
+    false
+}
+
+// join has a memory for its three duals, of both operands and of a meet that is no larger than both together, and one for the meet.
+pub fn join(
+    old: &[u64],
+    new: &mut [u64],
+    used: usize,
+    a: usize,
+    b: usize,
+    index: &[u64],
+) -> Interned
+    requires { ⌜ Ready (now old) (now new) used 1 11 a b ⌝ }
+    requires { ⌜ Covers (take used (now old ++ now new)) (now index) ⌝ }
+    ensures { λ r. ⌜ Runs (λ u. joinOf u a b) (now (old .entry)) (now (new .entry)) used (now (new .exit)) r ⌝ }
+{
+    if both_small(old, new, used, a, b) {
+        let mut memo = [0u64; 64];
+        let mut pairs = [0u64; 16];
+        return join::join(old, new, used, a, b, &mut memo, &mut pairs, index);
+    }
+    if old.len() + new.len() <= 1024 {
+        let mut memo = [0u64; 1024];
+        let mut pairs = [0u64; 1024];
+        return join::join(old, new, used, a, b, &mut memo, &mut pairs, index);
+    }
+    let mut memo = [0u64; 8192];
+    let mut pairs = [0u64; 8192];
+    join::join(old, new, used, a, b, &mut memo, &mut pairs, index)
+}
+
+// The set of types that are known to be final is kept in `bits`, a bit for each word of the store, whatever they held.
+pub fn is_final(old: &[u64], new: &[u64], used: usize, a: usize, bits: &mut [u64]) -> bool
+    requires { ⌜ ReadyOne (now old) (now new) used a ⌝ }
+    ensures { λ r. ⌜ Finals (take used (now (old .entry) ++ now (new .entry))) a r ⌝ }
+{
+    bitset::clear(bits);
+    finals::is_final(old, new, used, a, bits)
+}
+
+// Whether make_ro walks at most one struct of a type with this head: it is neither struct nor pointer, or its parts have no parts.
+fn is_flat(head: u64) -> bool {
+    if head % 256 < 8 {
+        return true;
+    }
+    head / 256 % 256 <= 2
+}
+
+// As with is_final, `bits` may hold anything.
+pub fn make_ro(
+    old: &[u64],
+    new: &mut [u64],
+    used: usize,
+    a: usize,
+    bits: &mut [u64],
+    index: &[u64],
+) -> Interned
+    requires { ⌜ ReadyOne (now old) (now new) used a ⌝ }
+    requires { ⌜ Covers (take used (now old ++ now new)) (now index) ⌝ }
+    ensures { λ r. ⌜ Done MakeRo (now (old .entry)) (now (new .entry)) used a (now (new .exit)) r ⌝ }
+{
+    if is_flat(words::word(old, new, used, a)) {
+        let mut none = [0u64; 0];
+        let mut known = [0u64; 0];
+        return operate(
+            Operation::MakeRo,
+            old,
+            new,
+            used,
+            a,
+            &mut none,
+            &mut known,
+            index,
+        );
+    }
+    bitset::clear(bits);
+    run(Operation::MakeRo, old, new, used, a, bits, index)
+}

@@ -1,0 +1,43 @@
+-- What the functions for the benchmark hand on. Assumes nothing.
+use mathlib.Core.Path.{_≡_, sym, ap, _∙_}
+use mathlib.Core.Bool.{Bool, true, false, not}
+use mathlib.Core.List.{List}
+use Prim.Native.Nat.{ℕ, _≤_, _<_}
+use native.Mathlib.Omega.{arith}
+use borrow.Author.Tests.{not-true, not-false}
+use lib.ListN.{length, take, drop, getD}
+use Rattle.words.specs.Words.{fills}
+use Rattle.words.specs.Made.{make, Ran}
+use Rattle.words.specs.declared.Found.{Found}
+use Rattle.words.specs.declared.Interned.{Interned}
+use Rattle.index.specs.Covers.{Opened}
+use Rattle.names.specs.Name.{nameEntry, wrapped}
+use Rattle.wellformed.specs.Form.{wellFormed}
+use Rattle.wellformed.proofs.Before.{tests}
+use Rattle.search_c.specs.Handle.{ofFound, ofInterned, Ready, Left}
+
+module _ (ws : List ℕ) (t : Bool) (is : t ≡ wellFormed ws) where
+  pub not-ready : (index : List ℕ) → not t ≡ true → Ready ws index false
+  not-ready index n = record { is = sym (not-true t n) ∙ is; opened = λ e. let z : _≡_ {A = ℕ} 0 1 = cc in absurd (omega arith) }
+
+  module _ (y : not t ≡ false) where
+    -- word 0 may be read
+    pub first-word : 0 < length ws
+    first-word = omega (arith, tests ws (sym is ∙ not-false t y) .least)
+
+    pub to-open : (1 ≤ getD ws 0 0) × (getD ws 0 0 ≤ length ws) × (fills 0 (drop 1 (take (getD ws 0 0) ws)) ≡ true)
+    to-open =
+        let k = tests ws (sym is ∙ not-false t y) in
+        (omega (arith, k .enough), k .within, k .filled)
+
+    pub ready : (index : List ℕ) → Opened (take (getD ws 0 0) ws) index → Ready ws index true
+    ready index o = record { is = sym (not-false t y) ∙ is; opened = λ e. o }
+
+pub found : (f g : Found) (r : ℕ) → f ≡ g → r ≡ ofFound f → r ≡ ofFound g
+found f g r e is = is ∙ ap ofFound e
+
+-- a name that stands in no brackets
+pub left-name : (used : ℕ) (u name ws ws′ : List ℕ) (i : Interned) (r : ℕ) → Ran used (make u (nameEntry (wrapped false name))) ws ws′ i → r ≡ ofInterned i
+    → Left used (make u (nameEntry name)) ws ws′ r
+unfolding wrapped
+left-name used u name ws ws′ i r ran e = record { answer = i; ran = ran; told = e }
