@@ -20,10 +20,10 @@ first-same zero m x h = refl
 first-same (suc n) zero x h = absurd (omega arith)
 first-same (suc n) (suc m) x h = ap (λ (l : List ℕ). x ∷ l) (first-same n m x (omega arith))
 
--- the finals of some types, lent as the front of 255 ones
-module _ (types finals : List ℕ) (few : length types ≤ 255) (is : finals ≡ replicate 255 1) where
+-- the finals of some types, lent as the front of at least as many ones
+module _ (types finals : List ℕ) (m : ℕ) (few : length types ≤ m) (is : finals ≡ replicate m 1) where
   front : take (length types) finals ≡ replicate (length types) 1
-  front = rw is (first-same (length types) 255 1 few)
+  front = rw is (first-same (length types) m 1 few)
 
   pub ones-many : length types ≡ length (take (length types) finals)
   ones-many = rw front (sym (length-replicate (length types) 1))

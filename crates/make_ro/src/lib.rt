@@ -18,7 +18,7 @@ ghost use Rattle.finals.specs.Final.{isFinalOf};
 ghost use Rattle.make_ro.specs.ReadOnly.{MadeRo, FieldRo};
 ghost use Rattle.make_ro.specs.Remembered.{Remembers, Remembered};
 
-// Makes the struct at a again with these types, every field final.
+// Makes the struct at a again with these types, every field final. Few fields are given few words, since all of them are set at each call.
 fn made_final(
     old: &[u64],
     new: &mut [u64],
@@ -32,9 +32,13 @@ fn made_final(
     requires { ⌜ Covers (take used (now old ++ now new)) (now index) ⌝ }
     ensures { λ r. ⌜ Runs (remake a (now (types .entry)) (replicate (length (now (types .entry))) 1)) (now (old .entry)) (now (new .entry)) used (now (new .exit)) r ⌝ }
 {
-    let finals = [1u64; 255];
     let n = types.len();
-    structs::made_again(old, new, used, a, types, &finals[..n], index)
+    if n <= 8 {
+        let few = [1u64; 8];
+        return structs::made_again(old, new, used, a, types, &few[..n], index);
+    }
+    let many = [1u64; 255];
+    structs::made_again(old, new, used, a, types, &many[..n], index)
 }
 
 // What a type is remembered under: its handle; or 0, which is nothing, for a type that is its own answer.

@@ -50,17 +50,39 @@ pub fn headed(dst: &mut [u64], head: u64, list: &[u64])
     dst[0] = head;
 }
 
+// A tuple, whose entry is built in the first words of `e`.
+fn tuple_in(
+    old: &[u64],
+    new: &mut [u64],
+    used: usize,
+    types: &[u64],
+    e: &mut [u64],
+    index: &[u64],
+) -> Interned
+    requires { ⌜ Segments (now old) (now new) used ⌝ }
+    requires { ⌜ (length (now types) ≤ 255) × (1 + length (now types) ≤ length (now e)) ⌝ }
+    requires { ⌜ Covers (take used (now old ++ now new)) (now index) ⌝ }
+    ensures { λ r. ⌜ Runs (λ u. make u (tupleEntry (now (types .entry)) u)) (now (old .entry)) (now (new .entry)) used (now (new .exit)) r ⌝ }
+{
+    let d = call::deep(old, new, used, types);
+    let n = types.len();
+    headed(e, 7 + 256 * (1 + d) + 65536 * (n as u64), types);
+    index::intern(old, new, used, &e[..1 + n], index)
+}
+
+// Few elements are given few words for their entry, since all of them are cleared at each call.
 pub fn tuple(old: &[u64], new: &mut [u64], used: usize, types: &[u64], index: &[u64]) -> Interned
     requires { ⌜ Segments (now old) (now new) used ⌝ }
     requires { ⌜ length (now types) ≤ 255 ⌝ }
     requires { ⌜ Covers (take used (now old ++ now new)) (now index) ⌝ }
     ensures { λ r. ⌜ Runs (λ u. make u (tupleEntry (now (types .entry)) u)) (now (old .entry)) (now (new .entry)) used (now (new .exit)) r ⌝ }
 {
-    let mut e = [0u64; 256];
-    let d = call::deep(old, new, used, types);
-    let n = types.len();
-    headed(&mut e, 7 + 256 * (1 + d) + 65536 * (n as u64), types);
-    index::intern(old, new, used, &e[..1 + n], index)
+    if types.len() <= 7 {
+        let mut few = [0u64; 8];
+        return tuple_in(old, new, used, types, &mut few, index);
+    }
+    let mut many = [0u64; 256];
+    tuple_in(old, new, used, types, &mut many, index)
 }
 
 pub fn fref(old: &[u64], new: &mut [u64], used: usize, name: u64, index: &[u64]) -> Interned
@@ -146,6 +168,28 @@ fn struct_words(e: &mut [u64], head: u64, name: u64, fields: &[u64])
     e[0] = head;
 }
 
+// A struct, whose entry is built in the first words of `e`.
+fn structure_in(
+    old: &[u64],
+    new: &mut [u64],
+    used: usize,
+    name: u64,
+    fields: &[u64],
+    e: &mut [u64],
+    index: &[u64],
+) -> Interned
+    requires { ⌜ Segments (now old) (now new) used ⌝ }
+    requires { ⌜ (fieldCount (now fields) ≤ 255) × (2 + 3 * fieldCount (now fields) ≤ length (now e)) × ValuesFit (now fields) ⌝ }
+    requires { ⌜ Covers (take used (now old ++ now new)) (now index) ⌝ }
+    ensures { λ r. ⌜ Runs (λ u. make u (structEntry name (now (fields .entry)) u)) (now (old .entry)) (now (new .entry)) used (now (new .exit)) r ⌝ }
+{
+    let d = fields_deep(old, new, used, fields);
+    let n = fields.len() / 4;
+    struct_words(e, 8 + 256 * (1 + d) + 65536 * (n as u64), name, fields);
+    index::intern(old, new, used, &e[..2 + 3 * n], index)
+}
+
+// Few fields are given few words for their entry, since all of them are cleared at each call.
 pub fn structure(
     old: &[u64],
     new: &mut [u64],
@@ -159,9 +203,10 @@ pub fn structure(
     requires { ⌜ Covers (take used (now old ++ now new)) (now index) ⌝ }
     ensures { λ r. ⌜ Runs (λ u. make u (structEntry name (now (fields .entry)) u)) (now (old .entry)) (now (new .entry)) used (now (new .exit)) r ⌝ }
 {
-    let mut e = [0u64; 767];
-    let d = fields_deep(old, new, used, fields);
-    let n = fields.len() / 4;
-    struct_words(&mut e, 8 + 256 * (1 + d) + 65536 * (n as u64), name, fields);
-    index::intern(old, new, used, &e[..2 + 3 * n], index)
+    if fields.len() / 4 <= 10 {
+        let mut few = [0u64; 32];
+        return structure_in(old, new, used, name, fields, &mut few, index);
+    }
+    let mut many = [0u64; 767];
+    structure_in(old, new, used, name, fields, &mut many, index)
 }

@@ -33,7 +33,29 @@ fn either_final(
     }
 }
 
-// Makes the struct that the structs at a and b meet in, with these types.
+// The struct that the structs at a and b meet in, its finals in the first words of `finals`.
+fn meet_fields_in(
+    old: &[u64],
+    new: &mut [u64],
+    used: usize,
+    a: usize,
+    b: usize,
+    types: &[u64],
+    finals: &mut [u64],
+    index: &[u64],
+) -> Interned
+    requires { ⌜ Segments (now old) (now new) used ⌝ }
+    requires { ⌜ (length (now types) ≤ 255) × (length (now types) ≤ length (now finals)) × (a < 1048576) × (b < 1048576) ⌝ }
+    requires { ⌜ all isAliasFinal (flagsOn (take used (now old ++ now new)) (length (now types)) a) ≡ true ⌝ }
+    requires { ⌜ Covers (take used (now old ++ now new)) (now index) ⌝ }
+    ensures { λ r. ⌜ Runs (meetFields a b (now (types .entry))) (now (old .entry)) (now (new .entry)) used (now (new .exit)) r ⌝ }
+{
+    let n = types.len();
+    either_final(finals, old, new, used, n, a + 4, b + 4);
+    structs::made_again(old, new, used, a, types, &finals[..n], index)
+}
+
+// Makes the struct that the structs at a and b meet in, with these types. Few fields are given few words, since all of them are cleared at each call.
 pub fn meet_fields(
     old: &[u64],
     new: &mut [u64],
@@ -48,8 +70,10 @@ pub fn meet_fields(
     requires { ⌜ Covers (take used (now old ++ now new)) (now index) ⌝ }
     ensures { λ r. ⌜ Runs (meetFields a b (now (types .entry))) (now (old .entry)) (now (new .entry)) used (now (new .exit)) r ⌝ }
 {
-    let mut finals = [0u64; 255];
-    let n = types.len();
-    either_final(&mut finals, old, new, used, n, a + 4, b + 4);
-    structs::made_again(old, new, used, a, types, &finals[..n], index)
+    if types.len() <= 8 {
+        let mut few = [0u64; 8];
+        return meet_fields_in(old, new, used, a, b, types, &mut few, index);
+    }
+    let mut many = [0u64; 255];
+    meet_fields_in(old, new, used, a, b, types, &mut many, index)
 }

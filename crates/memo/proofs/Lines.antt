@@ -1,4 +1,4 @@
--- What recalling, noting and forgetting do to a memory's lines. Assumes nothing.
+-- What recalling and noting do to a memory's lines. Assumes nothing.
 use mathlib.Core.Path.{_≡_, refl, sym, _∙_}
 use mathlib.Core.Bool.{Bool, true, false}
 use mathlib.Core.Logic.{_⊎_, inl, inr, ⊎-elim}
@@ -12,7 +12,7 @@ use lib.Seq.{getD-set-same, getD-set-other}
 use Rattle.words.proofs.Zeros.{zeros}
 use Rattle.words.specs.declared.Interned.{Interned}
 use Rattle.words.specs.declared.Interned.the-variants.{At, Full}
-use Rattle.memo.specs.Memo.{Line, Lines, Tells, Noted, Learned, isFull, Forgot}
+use Rattle.memo.specs.Memo.{Line, Lines, Tells, Noted, Learned}
 use Rattle.memo.specs.declared.Recalled.{Recalled}
 use Rattle.memo.specs.declared.Recalled.the-variants.{Is, Nothing}
 
@@ -46,26 +46,6 @@ learned-at memo key h v memo′ r e n = record { at = λ k w f. let q : h ≡ k 
 
 pub learned-none : (memo : List ℕ) (key : ℕ) (memo′ : List ℕ) (r : Interned) → r ≡ Full → Learned memo key r memo′
 learned-none memo key memo′ r e = record { at = λ h v f. let z : _≡_ {A = ℕ} 0 1 = cc in absurd (omega arith) }
-
-pub not-full : (r : Interned) (h v : ℕ) → r ≡ At h v → false ≡ isFull r
-unfolding isFull
-not-full r h v e = rw e
-
-pub is-full : (r : Interned) → r ≡ Full → true ≡ isFull r
-unfolding isFull
-is-full r e = rw e
-
-pub forgot-none : (r : Interned) (memo : List ℕ) (t : Bool) → t ≡ isFull r → t ≡ false → Forgot r memo memo
-unfolding isFull
-forgot-none (At h v) memo t e f = record { fitted = λ k w q. refl; full = λ q. let z : _≡_ {A = ℕ} 0 1 = cc in absurd (omega arith) }
-forgot-none Full memo t e f = let z : _≡_ {A = ℕ} 0 1 = cc in absurd (omega arith)
-
-pub forgot-all : (r : Interned) (memo memo′ : List ℕ) (t : Bool) → t ≡ isFull r → t ≡ true → memo′ ≡ replicate (length memo) 0 → Forgot r memo memo′
-unfolding isFull
-forgot-all (At h v) memo memo′ t e f q = let z : _≡_ {A = ℕ} 0 1 = cc in absurd (omega arith)
-forgot-all Full memo memo′ t e f q = record { fitted = λ h v g. let z : _≡_ {A = ℕ} 0 1 = cc in absurd (omega arith); full = λ g. q }
-
--- ---- what holds of every line
 
 -- it holds of a memory without any
 pub lines-none : {P : ℕ → ℕ → Type 0} {memo : List ℕ} → ((i : ℕ) → getD memo i 0 ≡ 0) → Lines P memo

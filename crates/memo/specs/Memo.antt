@@ -1,13 +1,12 @@
 -- A memory of answers: one word a line, key * 1048576 + answer. A word of 0 is an empty line, a key of 0 is none. Which line a key gets is the code's
 -- business: what a memory is right for does not depend on it.
 use mathlib.Core.Path.{_≡_}
-use mathlib.Core.Bool.{Bool, true, false}
 use mathlib.Core.Logic.{_⊎_}
 use mathlib.Core.List.{List}
 use Prim.Native.Nat.{ℕ, _+_, _*_, _<_}
-use lib.ListN.{length, getD, replicate}
+use lib.ListN.{getD}
 use Rattle.words.specs.declared.Interned.{Interned}
-use Rattle.words.specs.declared.Interned.the-variants.{At, Full}
+use Rattle.words.specs.declared.Interned.the-variants.{At}
 use Rattle.memo.specs.declared.Recalled.{Recalled}
 use Rattle.memo.specs.declared.Recalled.the-variants.{Is}
 
@@ -32,12 +31,3 @@ pub record Noted (memo : List ℕ) (key answer : ℕ) (memo′ : List ℕ) : Typ
 -- the handle that an operation answered is noted; of an operation that had no room nothing is said
 pub record Learned (memo : List ℕ) (key : ℕ) (r : Interned) (memo′ : List ℕ) : Type 0 where
   pub at : (h v : ℕ) → r ≡ At h v → Noted memo key h memo′
-
-unfoldable pub isFull : Interned → Bool
-isFull (At h v) = false
-isFull Full = true
-
--- after an operation on a store that may have been full
-pub record Forgot (r : Interned) (memo memo′ : List ℕ) : Type 0 where
-  pub fitted : (h v : ℕ) → r ≡ At h v → memo′ ≡ memo
-  pub full : r ≡ Full → memo′ ≡ replicate (length memo) 0

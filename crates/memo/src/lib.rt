@@ -1,23 +1,40 @@
 // A memory of answers: one word a line, a key times 2 to the 20 and the answer, which is below 2 to the 20. A word of 0 is an empty line, and a key of 0 is
-// none: nothing is remembered under it. A key is looked for from the line that it asks for on, round the memory, up to the first empty one. Where no
-// line is free, a new key takes the place of the one in the line that it asks for. With no line nothing is remembered.
+// none: nothing is remembered under it. A key is looked for in 64 lines, from the line that it asks for on, round the memory, up to the first empty one: so
+// a full memory costs no more than 64 reads. Where none of these lines is free, a new key takes the place of the one in the line that it asks for. With
+// no line nothing is remembered.
 use words::Interned;
 ghost use mathlib.Core.Path.{_≡_};
-ghost use Prim.Native.Nat.{_<_};
+ghost use Prim.Native.Nat.{_<_, _≤_};
 ghost use lib.ListN.{length};
-ghost use Rattle.memo.specs.Memo.{Tells, Noted, Learned, isFull, Forgot};
+ghost use Rattle.memo.specs.Memo.{Tells, Noted, Learned};
 
 pub enum Recalled {
     Is(u64),
     Nothing,
 }
 
-// The line that a key asks for. Keys below 2 to the 20 ask for different lines where there are as many; a pair's second half moves its first.
+// The line that a key asks for. Keys below 2 to the 20 ask for different lines where there are as many. Of a pair both halves are spread over the
+// lines, since pairs come in rows and columns, whose lines would else lie in heaps.
 fn home(lines: usize, key: u64) -> usize
     requires { ⌜ 0 < lines ⌝ }
     ensures { λ r. ⌜ r < lines ⌝ }
 {
-    ((key % 1048576 + key / 1048576 * 40503) % (lines as u64)) as usize
+    if key < 1048576 {
+        return (key % (lines as u64)) as usize;
+    }
+    let first = key / 1048576 % 1073741824 * 2654435761;
+    let second = key % 1048576 * 2246822519;
+    ((first + second) / 32768 % (lines as u64)) as usize
+}
+
+// In how many lines a key is looked for.
+fn probes(lines: usize) -> usize
+    ensures { λ r. ⌜ r ≤ lines ⌝ }
+{
+    if lines < 64 {
+        return lines;
+    }
+    64
 }
 
 // The line behind line i.
@@ -31,7 +48,7 @@ fn after(lines: usize, i: usize) -> usize
     0
 }
 
-// The answer to a key, if a line has it.
+// The answer to a key, if one of its lines has it.
 pub fn recall(memo: &[u64], key: u64) -> Recalled
     ensures { λ r. ⌜ Tells (now (memo .entry)) key r ⌝ }
 {
@@ -43,7 +60,7 @@ pub fn recall(memo: &[u64], key: u64) -> Recalled
         return Recalled::Nothing;
     }
     let mut i = home(lines, key);
-    let mut n = lines;
+    let mut n = probes(lines);
     while 0 < n {
         let line = memo[i];
         if line == 0 {
@@ -58,14 +75,14 @@ pub fn recall(memo: &[u64], key: u64) -> Recalled
     Recalled::Nothing
 }
 
-// A line for a key: one that has it, else the first empty one, else the one that it asks for.
+// A line for a key: one that has it, or the first empty one, else the one that it asks for.
 fn free(memo: &[u64], key: u64) -> usize
     requires { ⌜ 0 < length (now memo) ⌝ }
     ensures { λ r. ⌜ r < length (now (memo .entry)) ⌝ }
 {
     let lines = memo.len();
     let mut i = home(lines, key);
-    let mut n = lines;
+    let mut n = probes(lines);
     while 0 < n {
         let line = memo[i];
         if line == 0 || line / 1048576 == key {
@@ -108,24 +125,5 @@ pub fn noted(memo: &mut [u64], key: u64, r: Interned) -> Interned
             Interned::At(h, v)
         }
         Interned::Full => Interned::Full,
-    }
-}
-
-// Whether an operation had no room.
-fn was_full(r: Interned) -> bool
-    ensures { λ t. ⌜ t ≡ isFull r ⌝ }
-{
-    match r {
-        Interned::At(_h, _v) => false,
-        Interned::Full => true,
-    }
-}
-
-// For a memory that lives from call to call: after Full the store is put back as it was, and whatever was remembered on the way is forgotten.
-pub fn forget(r: Interned, memo: &mut [u64])
-    ensures { λ _. ⌜ Forgot r (now (memo .entry)) (now (memo .exit)) ⌝ }
-{
-    if was_full(r) {
-        words::clear(memo);
     }
 }

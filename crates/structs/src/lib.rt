@@ -35,7 +35,30 @@ fn fields_with(
     }
 }
 
-// Makes the struct at a again with these types and finals.
+// The same struct with these types and finals, its fields laid out in the first words of `fields`.
+fn made_again_in(
+    old: &[u64],
+    new: &mut [u64],
+    used: usize,
+    a: usize,
+    types: &[u64],
+    finals: &[u64],
+    fields: &mut [u64],
+    index: &[u64],
+) -> Interned
+    requires { ⌜ Segments (now old) (now new) used ⌝ }
+    requires { ⌜ (length (now types) ≤ 255) × (length (now types) ≡ length (now finals)) × (4 * length (now types) ≤ length (now fields)) × (a ≤ 1048576) ⌝ }
+    requires { ⌜ (all isAliasFinal (every 3 (length (now types)) (a + 4) (take used (now old ++ now new))) ≡ true) × (all isFlag (now finals) ≡ true) ⌝ }
+    requires { ⌜ Covers (take used (now old ++ now new)) (now index) ⌝ }
+    ensures { λ r. ⌜ Runs (remake a (now (types .entry)) (now (finals .entry))) (now (old .entry)) (now (new .entry)) used (now (new .exit)) r ⌝ }
+{
+    let n = types.len();
+    fields_with(fields, old, new, used, a + 2, types, finals);
+    let name = words::word(old, new, used, a + 1);
+    makers::structure(old, new, used, name, &fields[..4 * n], index)
+}
+
+// Makes the struct at a again with these types and finals. Few fields are given few words, since all of them are cleared at each call.
 pub fn made_again(
     old: &[u64],
     new: &mut [u64],
@@ -51,9 +74,10 @@ pub fn made_again(
     requires { ⌜ Covers (take used (now old ++ now new)) (now index) ⌝ }
     ensures { λ r. ⌜ Runs (remake a (now (types .entry)) (now (finals .entry))) (now (old .entry)) (now (new .entry)) used (now (new .exit)) r ⌝ }
 {
-    let mut fields = [0u64; 1020];
-    let n = types.len();
-    fields_with(&mut fields, old, new, used, a + 2, types, finals);
-    let name = words::word(old, new, used, a + 1);
-    makers::structure(old, new, used, name, &fields[..4 * n], index)
+    if types.len() <= 8 {
+        let mut few = [0u64; 32];
+        return made_again_in(old, new, used, a, types, finals, &mut few, index);
+    }
+    let mut many = [0u64; 1020];
+    made_again_in(old, new, used, a, types, finals, &mut many, index)
 }

@@ -229,7 +229,29 @@ fn finals_of(walk: Walk, dst: &mut [u64], old: &[u64], new: &[u64], used: usize,
     }
 }
 
-// Makes the struct at a with these types and the walk's finals.
+// The struct at a with these types and the walk's finals, which stand in the first words of `finals`.
+fn fields_in(
+    walk: Walk,
+    old: &[u64],
+    new: &mut [u64],
+    used: usize,
+    a: usize,
+    types: &[u64],
+    finals: &mut [u64],
+    index: &[u64],
+) -> Interned
+    requires { ⌜ Segments (now old) (now new) used ⌝ }
+    requires { ⌜ (length (now types) ≤ 255) × (length (now types) ≤ length (now finals)) × (a < 1048576) ⌝ }
+    requires { ⌜ all isAliasFinal (every 3 (length (now types)) (a + 4) (take used (now old ++ now new))) ≡ true ⌝ }
+    requires { ⌜ Covers (take used (now old ++ now new)) (now index) ⌝ }
+    ensures { λ r. ⌜ Runs (fieldsOf walk a (now (types .entry))) (now (old .entry)) (now (new .entry)) used (now (new .exit)) r ⌝ }
+{
+    let n = types.len();
+    finals_of(walk, finals, old, new, used, n, a + 4);
+    structs::made_again(old, new, used, a, types, &finals[..n], index)
+}
+
+// Makes the struct at a with these types and the walk's finals. Few fields are given few words, since all of them are cleared at each call.
 pub fn fields_of(
     walk: Walk,
     old: &[u64],
@@ -244,8 +266,10 @@ pub fn fields_of(
     requires { ⌜ Covers (take used (now old ++ now new)) (now index) ⌝ }
     ensures { λ r. ⌜ Runs (fieldsOf walk a (now (types .entry))) (now (old .entry)) (now (new .entry)) used (now (new .exit)) r ⌝ }
 {
-    let mut finals = [0u64; 255];
-    let n = types.len();
-    finals_of(walk, &mut finals, old, new, used, n, a + 4);
-    structs::made_again(old, new, used, a, types, &finals[..n], index)
+    if types.len() <= 8 {
+        let mut few = [0u64; 8];
+        return fields_in(walk, old, new, used, a, types, &mut few, index);
+    }
+    let mut many = [0u64; 255];
+    fields_in(walk, old, new, used, a, types, &mut many, index)
 }

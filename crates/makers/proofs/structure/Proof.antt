@@ -1,81 +1,42 @@
--- `makers::structure` meets its contract: the entry is built, and interned.
-use mathlib.Core.Path.{sym}
-use denote.Ref.{now}
+-- `makers::structure` meets its contract: it lends as many words as the entry needs.
 use native.Mathlib.Omega.{arith}
-use lib.Seq.{length-take-le}
-use Rattle.makers.proofs.Fields.{struct-made}
 use borrow.Author.Needs.{needs}
 use Rattle.makers.proofs.structure.Statement.{statement}
 use Rattle.makers.proofs.structure.Tie as tie
 
-fields-deep-requires : tie.Need-fields-deep-requires
-fields-deep-requires c κs = search needs
+slice-aggregate-structure-in : tie.Need-slice-aggregate-structure-in
+slice-aggregate-structure-in c = search needs
 
-slice-aggregate-struct-words : tie.Need-slice-aggregate-struct-words
-slice-aggregate-struct-words c = search needs
-
-add-struct-words : tie.Need-add-struct-words
-add-struct-words c = search needs
-
-mul-struct-words : tie.Need-mul-struct-words
-mul-struct-words c = search needs
-
-add-struct-words-2 : tie.Need-add-struct-words-2
-add-struct-words-2 c = search needs
-
-mul-struct-words-2 : tie.Need-mul-struct-words-2
-mul-struct-words-2 c = search needs
-
-add-struct-words-3 : tie.Need-add-struct-words-3
-add-struct-words-3 c = search needs
-
-struct-words-requires : tie.Need-struct-words-requires
-struct-words-requires c κs = search needs
-
-mul-e : tie.Need-mul-e
-mul-e c = search needs
-
-add-e : tie.Need-add-e
-add-e c = search needs
-
-array-share-prefix-e : tie.Need-array-share-prefix-e
-array-share-prefix-e c = search needs
-
-slice-aggregate-intern : tie.Need-slice-aggregate-intern
-slice-aggregate-intern c =
-    let h = c .before .before .before in
-    sym (length-take-le _ (h .struct-words .last .0) (omega (arith, h .struct-words .kept .0)))
-
-intern-requires : tie.Need-intern-requires
-intern-requires c κs = search needs
+structure-in-requires : tie.Need-structure-in-requires
+structure-in-requires c κs = (search needs, ((search needs, omega (arith, c .before .before .if1 .taken), search needs), search needs))
 
 same-length : tie.Need-same-length
 same-length c = search needs
 
 returns : tie.Need-returns
-returns c =
-    let i = c .before .before in
-    let h = i .before .before .before .before in
-    let d = h .before .before in
-    let s = d .before .before .before .before .before .before in
-    struct-made _ _ _ _ _ (s .args .name) (now (s .args .fields)) _ _ _ (d .fields-deep .ensures .0) (h .struct-words .ensures) (i .intern .ensures)
+returns c = search needs
+
+slice-aggregate-structure-in-2 : tie.Need-slice-aggregate-structure-in-2
+slice-aggregate-structure-in-2 c = search needs
+
+structure-in-requires-2 : tie.Need-structure-in-requires-2
+structure-in-requires-2 c κs = (search needs, ((search needs, omega (arith, c .before .before .before .before .before .before .before .pre .1 .0 .0), search needs), search needs))
+
+same-length-2 : tie.Need-same-length-2
+same-length-2 c = search needs
+
+returns-2 : tie.Need-returns-2
+returns-2 c = search needs
 
 pub structure-spec : {M : Type 1} → statement M
 structure-spec =
     tie.close
     (tie.spec
-    fields-deep-requires
-    slice-aggregate-struct-words
-    add-struct-words
-    mul-struct-words
-    add-struct-words-2
-    mul-struct-words-2
-    add-struct-words-3
-    struct-words-requires
-    mul-e
-    add-e
-    array-share-prefix-e
-    slice-aggregate-intern
-    intern-requires
+    slice-aggregate-structure-in
+    structure-in-requires
     same-length
-    returns)
+    returns
+    slice-aggregate-structure-in-2
+    structure-in-requires-2
+    same-length-2
+    returns-2)

@@ -15,6 +15,9 @@ abbrev μ-loop : tie.MeasureT-loop
 home-requires : tie.Need-home-requires Inv-loop μ-loop
 home-requires c κs = search needs
 
+probes-requires : tie.Need-probes-requires Inv-loop μ-loop
+probes-requires c κs = search needs
+
 loop-holds : tie.Need-loop-holds Inv-loop μ-loop
 loop-holds c = search needs
 
@@ -52,6 +55,7 @@ free-spec =
     Inv-loop
     μ-loop
     home-requires
+    probes-requires
     loop-holds
     mul-line
     shared-slice-read-line

@@ -22,6 +22,9 @@ returns-2 c = tells-nothing _ _
 home-requires : tie.Need-home-requires Inv-loop μ-loop
 home-requires c κs = search needs
 
+probes-requires : tie.Need-probes-requires Inv-loop μ-loop
+probes-requires c κs = search needs
+
 loop-holds : tie.Need-loop-holds Inv-loop μ-loop
 loop-holds c = search needs
 
@@ -61,6 +64,7 @@ recall-spec =
     returns
     returns-2
     home-requires
+    probes-requires
     loop-holds
     mul-line
     shared-slice-read-line

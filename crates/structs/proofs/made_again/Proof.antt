@@ -1,54 +1,42 @@
--- `structs::made_again` meets its contract: the fields are filled in, and the struct of them is made.
-use Rattle.structs.proofs.Filled.{fields-many, fields-few, fields-fit, again-made}
+-- `structs::made_again` meets its contract: it lends as many words as the fields need.
+use native.Mathlib.Omega.{arith}
 use borrow.Author.Needs.{needs}
 use Rattle.structs.proofs.made_again.Statement.{statement}
 use Rattle.structs.proofs.made_again.Tie as tie
 
-slice-aggregate-fields-with : tie.Need-slice-aggregate-fields-with
-slice-aggregate-fields-with c = search needs
+slice-aggregate-made-again-in : tie.Need-slice-aggregate-made-again-in
+slice-aggregate-made-again-in c = search needs
 
-add-fields-with : tie.Need-add-fields-with
-add-fields-with c = search needs
-
-fields-with-requires : tie.Need-fields-with-requires
-fields-with-requires c κs = search needs
-
-add-word : tie.Need-add-word
-add-word c = search needs
-
-word-requires : tie.Need-word-requires
-word-requires c κs = search needs
-
-mul-fields : tie.Need-mul-fields
-mul-fields c = search needs
-
-array-share-prefix-fields : tie.Need-array-share-prefix-fields
-array-share-prefix-fields c = search needs
-
-slice-aggregate-structure : tie.Need-slice-aggregate-structure
-slice-aggregate-structure c = search fields-many
-
-structure-requires : tie.Need-structure-requires
-structure-requires c κs = (search needs, ((search fields-few, search fields-fit), search needs))
+made-again-in-requires : tie.Need-made-again-in-requires
+made-again-in-requires c κs = (search needs, ((search needs, search needs, omega (arith, c .before .before .if1 .taken), search needs), ((search needs, search needs), search needs)))
 
 same-length : tie.Need-same-length
 same-length c = search needs
 
 returns : tie.Need-returns
-returns c = search again-made
+returns c = search needs
+
+slice-aggregate-made-again-in-2 : tie.Need-slice-aggregate-made-again-in-2
+slice-aggregate-made-again-in-2 c = search needs
+
+made-again-in-requires-2 : tie.Need-made-again-in-requires-2
+made-again-in-requires-2 c κs = (search needs, ((search needs, search needs, omega (arith, c .before .before .before .before .before .before .before .before .pre .1 .0 .0), search needs), ((search needs, search needs), search needs)))
+
+same-length-2 : tie.Need-same-length-2
+same-length-2 c = search needs
+
+returns-2 : tie.Need-returns-2
+returns-2 c = search needs
 
 pub made-again-spec : {M : Type 1} → statement M
 made-again-spec =
     tie.close
     (tie.spec
-    slice-aggregate-fields-with
-    add-fields-with
-    fields-with-requires
-    add-word
-    word-requires
-    mul-fields
-    array-share-prefix-fields
-    slice-aggregate-structure
-    structure-requires
+    slice-aggregate-made-again-in
+    made-again-in-requires
     same-length
-    returns)
+    returns
+    slice-aggregate-made-again-in-2
+    made-again-in-requires-2
+    same-length-2
+    returns-2)
