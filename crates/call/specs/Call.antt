@@ -8,10 +8,8 @@ use Rattle.words.specs.Made.{Grown}
 use Rattle.wellformed.specs.Form.{wellFormed, usedWords}
 use Rattle.call.specs.declared.Made.{Made}
 use Rattle.call.specs.declared.Made.the-variants as Made-variants
-use Rattle.call.specs.declared.Number.{Number}
-use Rattle.call.specs.declared.Number.the-variants as Number-variants
-use Rattle.call.specs.declared.Flag.{Flag}
-use Rattle.call.specs.declared.Flag.the-variants as Flag-variants
+use Rattle.call.specs.declared.Answer.{Answer}
+use Rattle.call.specs.declared.Answer.the-variants as Answer-variants
 use Rattle.call.specs.declared.Done.{Done}
 use Rattle.call.specs.declared.Done.the-variants as Done-variants
 
@@ -36,13 +34,11 @@ abbrev pub made : Made → Reply
 made (Made-variants.Handle h) = handle h
 made (Made-variants.Refused n) = refused n
 
-abbrev pub told : Number → Reply
-told (Number-variants.Is n) = number n
-told (Number-variants.Refused n) = refused n
-
-abbrev pub said : Flag → Reply
-said (Flag-variants.Is b) = flag b
-said (Flag-variants.Refused n) = refused n
+abbrev pub told : Answer → Reply
+told (Answer-variants.Handle h) = handle h
+told (Answer-variants.Number n) = number n
+told (Answer-variants.Flag b) = flag b
+told (Answer-variants.Refused n) = refused n
 
 abbrev pub done : Done → Reply
 done Done-variants.Accepted = accepted

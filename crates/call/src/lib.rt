@@ -8,7 +8,7 @@ ghost use Rattle.words.specs.Words.{depthOf};
 ghost use Rattle.bitset.specs.Bitset.{bitAt};
 ghost use Rattle.wellformed.specs.Entry.{kindIn, kindAt, all, deepest};
 ghost use Rattle.call.specs.Call.{made, left};
-ghost use Rattle.call.specs.Steps.{usedOf, Opening, finishIn};
+ghost use Rattle.call.specs.Steps.{Opening, finishIn};
 ghost use Rattle.call.specs.Handles.{word, kindOn};
 
 // The answer of a call that hands back a handle.
@@ -17,15 +17,11 @@ pub enum Made {
     Refused(u8),
 }
 
-// The answer of a call that tells a number.
-pub enum Number {
-    Is(u64),
-    Refused(u8),
-}
-
-// The answer of a call that tells yes or no.
-pub enum Flag {
-    Is(bool),
+// The answer of a call that only reads: a handle, a number, or yes or no, by the call.
+pub enum Answer {
+    Handle(u64),
+    Number(u64),
+    Flag(bool),
     Refused(u8),
 }
 
@@ -43,17 +39,6 @@ pub fn begin(words: &[u64], bits: &mut [u64]) -> usize
     ensures { λ r. ⌜ Opening (now (words .entry)) (now (bits .exit)) r ⌝ }
 {
     if !wellformed::verify(words, bits) {
-        return 0;
-    }
-    let w = words[0];
-    w as usize
-}
-
-// The same for a call that takes no handles.
-pub fn begin_plain(words: &[u64]) -> usize
-    ensures { λ r. ⌜ r ≡ usedOf (now (words .entry)) ⌝ }
-{
-    if !wellformed::well_formed(words) {
         return 0;
     }
     let w = words[0];

@@ -27,8 +27,8 @@ use Rattle.join.specs.Join.{joinOf}
 use Rattle.join.proofs.Adds.{Given, answered, join-given}
 use Rattle.make_ro.specs.ReadOnly.{makeRoOf}
 use Rattle.make_ro.proofs.Nice.{make-ro-nice}
-use Rattle.ty_calls.proofs.Ready.{one-part, two-parts}
-use Rattle.ty_calls.proofs.Keeps.{meet-answers}
+use Rattle.every_call.proofs.Parts.{one-part, two-parts}
+use Rattle.every_call.proofs.Keeps.{meet-answers}
 use Rattle.trees.proofs.Order.{Order, le-of-lub, turn}
 use Rattle.trees.proofs.Tree.{Ty, _⊑_, ⊑-order}
 use Rattle.trees.proofs.Meet.{Meet}
@@ -39,7 +39,8 @@ use Rattle.meaning.proofs.Meets.{Side, meet-right}
 use Rattle.meaning.proofs.Walks.{Rel, walk-right}
 use Rattle.meaning.proofs.ReadOnly.{ro-above}
 use Rattle.meaning.proofs.Joins.{join-right}
-use Rattle.demand3.specs.Demand3.{Call, meet, isa, join, dual, glb, lub, make_ro, run, reaches, leaves, Gave, finalWords, Isa, Plain, Bracketing, single, pair, In, AllPlain, SameSet, Laws, Demand3}
+use Rattle.every_call.specs.Run.{Call, meet, isa, join, dual, glb, lub, make_ro, run, allTyped}
+use Rattle.demand3.specs.Demand3.{reaches, leaves, Gave, finalWords, Isa, Plain, Bracketing, single, pair, In, AllPlain, SameSet, Laws, Demand3}
 use Rattle.demand3.proofs.Runs.{Store, Later, fresh-store, leaves-store, gave-at}
 use Rattle.demand3.proofs.Accepted.{accepted}
 use Rattle.demand3.proofs.Reaching.{no-mem, no-fre}
@@ -53,7 +54,7 @@ asked : (k : ℕ) (b : Bool) → replyAfter k (flag b) ≡ flag true → (k ≡ 
 asked zero b e = (refl, cc)
 asked (suc k) b e = let z : _≡_ {A = ℕ} 0 1 = cc in absurd (omega arith)
 
-module _ (cs : List Call) (ws : List ℕ) (s : Store ws) where
+module _ (cs : List Call) (typed : allTyped cs ≡ true) (ws : List ℕ) (s : Store ws) where
   abbrev final : List ℕ
   final = leaves run cs ws
 
@@ -61,10 +62,10 @@ module _ (cs : List Call) (ws : List ℕ) (s : Store ws) where
   u = finalWords run cs ws
 
   S : Distinct u
-  S = distinct final (leaves-store cs ws s .0)
+  S = distinct final (leaves-store cs typed ws s .0)
 
   well : wellFormed final ≡ true
-  well = leaves-store cs ws s .0 .well
+  well = leaves-store cs typed ws s .0 .well
 
   abbrev T : ℕ → Ty
   T = treeOn u
@@ -81,7 +82,7 @@ module _ (cs : List Call) (ws : List ℕ) (s : Store ws) where
 
   ran : (c : Call) (rows : List ℕ → ℕ) (op : List ℕ → Grown) (h : ℕ) → ((vs : List ℕ) → run c vs ≡ call rows op vs) → ((v : List ℕ) → Good v → rows v ≡ 0 → Adds v (op v)) → Gave run cs ws c h → Ran rows op h
   ran c rows op h does adds g =
-      let w = gave-at cs ws c h s g in
+      let w = gave-at cs typed ws c h s g in
       let vs = w .0 in
       let D = distinct vs (w .1) in
       let a = accepted rows op vs h (w .1 .well) (λ x q. adds (usedWords vs) (D .good) q) (rw (does vs) at (w .2)) in
@@ -334,4 +335,4 @@ module _ (cs : List Call) (ws : List ℕ) (s : Store ws) where
 
 -- the calls are what the functions' contracts say
 pub demand3 : Demand3
-demand3 ws ok cs = laws cs (freshCall ws .words) (fresh-store ws ok)
+demand3 ws ok cs typed = laws cs typed (freshCall ws .words) (fresh-store ws ok)

@@ -4,9 +4,8 @@ use mathlib.Core.Path.{_≡_, refl}
 use mathlib.Core.Bool.{true}
 use mathlib.Core.Logic.{_⊎_, inl, inr, ⊎-elim}
 use mathlib.Core.List.{List, [], _∷_, _++_}
-use Prim.Native.Nat.{ℕ, _^_}
+use Prim.Native.Nat.{ℕ}
 use native.Mathlib.Omega.{arith}
-use lib.Dec.{ltb}
 use lib.ListN.{replicate}
 use Rattle.words.specs.Words.{wordsAfter, sizeOf, fills, eqs}
 use Rattle.words.specs.Table.{rows, entries, firstOf, findIn, isAt}
@@ -28,12 +27,10 @@ use Rattle.walk_rules.specs.Tables.{formFor, finalsOf, fieldsOf}
 use Rattle.walk.specs.Walked.{walkEach, followForm, walkWithin}
 use Rattle.finals.specs.Final.{allFinal, isFinalWithin}
 use Rattle.make_ro.specs.ReadOnly.{readOnlyEach, makeRoWithin}
-use Rattle.ty_calls.specs.Ty.{meetCall}
-use Rattle.demand3.specs.Demand3.{Word, Bytes, Call, make_int, get_str, get_struct, make_struct_fref, get_mem, meet, join, dual, glb, lub, make_ro, runWith, run, some, reachesWithin, leaves, Gave, Isa, Plain, Bracketing, single, pair, Laws}
+use Rattle.every_call.specs.Ty.{meetCall}
+use Rattle.every_call.specs.Run.{Call, make_int, get_str, get_struct, make_struct_fref, get_mem, meet, join, dual, glb, lub, make_ro, runWith, run, allTyped}
+use Rattle.demand3.specs.Demand3.{some, reachesWithin, leaves, Gave, Isa, Plain, Bracketing, single, pair, Laws}
 use Rattle.demand3.proofs.Demand3.{demand3}
-
-abbrev word : (n : ℕ) → ltb n (2 ^ 64) ≡ true → Word
-word n small = record { number = n; small = small }
 
 abbrev lent : List ℕ
 lent = replicate 200 0
@@ -44,7 +41,11 @@ start = freshCall lent .words
 -- ---- "0..7 meet 8..8 = 0..8": 0..7 is 94, 8..8 is 97, and 0..8 is 100 in both orders
 
 abbrev calls : List Call
-calls = make_int (word 0 refl) (word 7 refl) ∷ make_int (word 8 refl) (word 8 refl) ∷ meet 94 97 ∷ meet 97 94 ∷ []
+calls = make_int 0 7 ∷ make_int 8 8 ∷ meet 94 97 ∷ meet 97 94 ∷ []
+
+calls-typed : allTyped calls ≡ true
+unfolding allTyped all
+calls-typed = refl
 
 -- the store that the list leaves; both orders' answers; both are isa it; and what the theorem asks of the two
 pub computed : (leaves run calls start ≡ (103 ∷ freshWords) ++ (intEntry 0 7 ++ (intEntry 8 8 ++ (intEntry 0 8 ++ replicate 97 0))))
@@ -77,12 +78,16 @@ back x = ⊎-elim (λ e. inr e) (λ e. inl e)
 -- the theorem on this list says of the two bracketings what they compute to
 pub agree : _≡_ {A = ℕ} 100 100
 unfolding one other freshCall
-agree = demand3 lent refl calls .meets-agree one other (λ x i. ⊎-elim (λ (e : x ≡ 94). rw e (computed .5)) (λ (e : x ≡ 97). rw e (computed .6)) i) (λ x. (turned x, back x))
+agree = demand3 lent refl calls calls-typed .meets-agree one other (λ x i. ⊎-elim (λ (e : x ≡ 94). rw e (computed .5)) (λ (e : x ≡ 97). rw e (computed .6)) i) (λ x. (turned x, back x))
 
 -- ---- "0..7 join 4..9 = 4..7": 0..7 is 94, 4..9 is 97, and 4..7 is 109 in both orders, behind the two duals and their meet; "dual of 88 = 91"; the lub of 88 is 85, whose glb is 88
 
 abbrev others : List Call
-others = make_int (word 0 refl) (word 7 refl) ∷ make_int (word 4 refl) (word 9 refl) ∷ join 94 97 ∷ join 97 94 ∷ dual 88 ∷ dual 91 ∷ lub 88 ∷ glb 85 ∷ []
+others = make_int 0 7 ∷ make_int 4 9 ∷ join 94 97 ∷ join 97 94 ∷ dual 88 ∷ dual 91 ∷ lub 88 ∷ glb 85 ∷ []
+
+others-typed : allTyped others ≡ true
+unfolding allTyped all
+others-typed = refl
 
 pub others-gave : Gave run others start (join 94 97) 109 × Gave run others start (join 97 94) 109 × Gave run others start (dual 88) 91 × Gave run others start (dual 91) 88 × Gave run others start (lub 88) 85 × Gave run others start (glb 85) 88
 unfolding call wellFormed okEntries okRows okEntry allZero headsAt nowhere also mostOf every namesIn typesIn all deepest floatOk zeroFilled valuesOk fills eqs rows entries sizeOf wordsAfter freshWords freshCall make findIn firstOf isAt typesRows meetWithin follow ruleFor pairRule walkWithin followForm walkEach formFor fieldsOf finalsOf remake fieldsWith fieldWords
@@ -108,7 +113,7 @@ others-plain = (
 pub others-hold : Isa run others start 109 94 × (_≡_ {A = ℕ} 88 88) × Isa run others start 85 88 × Isa run others start 85 88
 unfolding freshCall
 others-hold =
-    let laws = demand3 lent refl others in
+    let laws = demand3 lent refl others others-typed in
     let p : Bracketing run others start join 109 = pair (single 94) (single 97) (others-gave .0) in (
       laws .joins-below p (λ x i. ⊎-elim (λ (e : x ≡ 94). rw e (others-plain .0)) (λ (e : x ≡ 97). rw e (others-plain .1)) i) 94 (inl refl),
       laws .dual-back 88 91 88 (others-plain .2) (others-gave .2) (others-gave .3),
@@ -118,20 +123,23 @@ others-hold =
 
 -- ---- a struct X with one field, an Int that is not final, is 96, and its read-only form 101
 
-pub name : Bytes
-unfolding all
-name = record { bytes = 88 ∷ []; small = refl }
+abbrev name : List ℕ
+name = 88 ∷ []
 
 abbrev finals : List Call
 finals = get_str name ∷ get_struct 94 (94 ∷ 9 ∷ 0 ∷ 0 ∷ []) ∷ make_ro 96 ∷ []
 
+finals-typed : allTyped finals ≡ true
+unfolding allTyped all
+finals-typed = refl
+
 pub finals-gave : Gave run finals start (make_ro 96) 101 × Plain run finals start 96
-unfolding name leaves call wellFormed okEntries okRows okEntry allZero headsAt nowhere also mostOf every namesIn typesIn all deepest floatOk zeroFilled valuesOk fills eqs rows entries sizeOf wordsAfter freshWords freshCall make findIn firstOf isAt typesRows structRows number packed nameEntry fieldWords makeRoWithin readOnlyEach isFinalWithin allFinal remake fieldsWith some reachesWithin
+unfolding leaves call wellFormed okEntries okRows okEntry allZero headsAt nowhere also mostOf every namesIn typesIn all deepest floatOk zeroFilled valuesOk fills eqs rows entries sizeOf wordsAfter freshWords freshCall make findIn firstOf isAt typesRows structRows number packed nameEntry fieldWords makeRoWithin readOnlyEach isFinalWithin allFinal remake fieldsWith some reachesWithin
 finals-gave = (inr (inr (inl (refl, refl))), record { type = refl; memory = refl; forward = refl })
 
 pub finals-hold : Isa run finals start 96 101
 unfolding freshCall
-finals-hold = demand3 lent refl finals .read-only-above 96 101 (finals-gave .1) (finals-gave .0)
+finals-hold = demand3 lent refl finals finals-typed .read-only-above 96 101 (finals-gave .1) (finals-gave .0)
 
 -- ---- a meet that keeps its first argument has not the laws
 
@@ -165,7 +173,7 @@ abbrev forwards : List Call
 forwards = get_str name ∷ make_struct_fref 94 ∷ get_struct 94 [] ∷ dual 96 ∷ dual 98 ∷ []
 
 pub forward-outside : Gave run forwards start (dual 96) 96 × Gave run forwards start (dual 98) 98 × Isa run forwards start 96 98 × (Isa run forwards start 98 96 → ⊥)
-unfolding name leaves call ask wellFormed okEntries okRows okEntry allZero headsAt nowhere also mostOf every namesIn typesIn all deepest floatOk zeroFilled valuesOk fills eqs rows entries sizeOf wordsAfter freshWords freshCall make findIn firstOf isAt typesRows frefRows structRows number packed nameEntry fieldWords meetWithin follow ruleFor pairRule meetStruct followStruct structRule namedRule sameWords walkWithin followForm walkEach formFor fieldsOf finalsOf remake fieldsWith
+unfolding leaves call ask wellFormed okEntries okRows okEntry allZero headsAt nowhere also mostOf every namesIn typesIn all deepest floatOk zeroFilled valuesOk fills eqs rows entries sizeOf wordsAfter freshWords freshCall make findIn firstOf isAt typesRows frefRows structRows number packed nameEntry fieldWords meetWithin follow ruleFor pairRule meetStruct followStruct structRule namedRule sameWords walkWithin followForm walkEach formFor fieldsOf finalsOf remake fieldsWith
 forward-outside = (inr (inr (inr (inl (refl, refl)))), inr (inr (inr (inr (inl (refl, refl))))), refl, λ e. let z : _≡_ {A = ℕ} 0 1 = cc in omega arith)
 
 -- ---- the third type of a join: the forward reference X, 96, isa the structs X without fields, 98, and with one, 100, and is not isa their join, $TOP
@@ -174,5 +182,5 @@ abbrev thirds : List Call
 thirds = get_str name ∷ make_struct_fref 94 ∷ get_struct 94 [] ∷ get_struct 94 (94 ∷ 25 ∷ 0 ∷ 0 ∷ []) ∷ join 98 100 ∷ []
 
 pub third-outside : Gave run thirds start (join 98 100) 18 × Isa run thirds start 96 98 × Isa run thirds start 96 100 × (Isa run thirds start 96 18 → ⊥)
-unfolding name leaves call ask wellFormed okEntries okRows okEntry allZero headsAt nowhere also mostOf every namesIn typesIn all deepest floatOk zeroFilled valuesOk fills eqs rows entries sizeOf wordsAfter freshWords freshCall make findIn firstOf isAt typesRows frefRows structRows number packed nameEntry fieldWords meetWithin follow ruleFor pairRule meetStruct followStruct structRule namedRule sameWords walkWithin followForm walkEach formFor fieldsOf finalsOf remake fieldsWith
+unfolding leaves call ask wellFormed okEntries okRows okEntry allZero headsAt nowhere also mostOf every namesIn typesIn all deepest floatOk zeroFilled valuesOk fills eqs rows entries sizeOf wordsAfter freshWords freshCall make findIn firstOf isAt typesRows frefRows structRows number packed nameEntry fieldWords meetWithin follow ruleFor pairRule meetStruct followStruct structRule namedRule sameWords walkWithin followForm walkEach formFor fieldsOf finalsOf remake fieldsWith
 third-outside = (inr (inr (inr (inr (inl (refl, refl))))), refl, refl, λ e. let z : _≡_ {A = ℕ} 0 1 = cc in omega arith)

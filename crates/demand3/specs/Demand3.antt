@@ -1,11 +1,13 @@
--- Demand 3: the laws of every list of calls from a fresh store. The statement is `Demand3`, at the end; proofs/Demand3.antt proves it.
+-- Demand 3: the laws of every list of calls from a fresh store. The statement is `Demand3`, at the end; proofs/Demand3.antt proves it. `Call` and `run` (every_call/specs/Run.antt) are
+-- those that the contracts of the functions cite: "the makers of `Types`, meet, isa, dual, join, glb, lub, is_final and make_ro .. Each other call that takes a store joins the list when it
+-- lands".
 -- The quoted words are document 01's, "Demand 3's list", unless another place is named.
 use mathlib.Core.Path.{_≡_}
 use mathlib.Core.Bool.{Bool, true, false, _||_}
 use mathlib.Core.Logic.{_⊎_, _↔_}
 use mathlib.Core.List.{List, [], _∷_}
-use Prim.Native.Nat.{ℕ, zero, suc, _^_}
-use lib.Dec.{eqb, ltb}
+use Prim.Native.Nat.{ℕ, zero, suc}
+use lib.Dec.{eqb}
 use lib.ListN.{take, drop}
 use Rattle.words.specs.Kinds.{Fref, Mem}
 use Rattle.words.specs.Words.{sizeOf}
@@ -13,74 +15,8 @@ use Rattle.wellformed.specs.Entry.{typesIn, all}
 use Rattle.wellformed.specs.Form.{rightLength, usedWords}
 use Rattle.call.specs.Call.{Outcome, handle, flag}
 use Rattle.call.specs.Handles.{word, kindOn, typesRows}
-use Rattle.makers.specs.Makers.{freshCall, kindCall, getBoolCall, getIntCall, makeIntCall, getFloatCall, makeFloatCall, getTupleCall, getStrCall, getStructCall, makeAryCall, makeStructFrefCall, getMemPtrCall, getMemCall}
-use Rattle.ty_calls.specs.Ty.{meetCall, isaCall, joinCall, dualCall, glbCall, lubCall, isFinalCall, makeRoCall}
-
--- ---- calls: "the makers of `Types`, meet, isa, dual, join, glb, lub, is_final and make_ro .. Each other call that takes a store joins the list when it
--- lands": of those `kind` is here, which stands for the Rust's casts
-
--- a 64-bit word, for the ends of an Int: two's complement says nothing of a larger number. All other numbers are any at all.
-pub record Word : Type 0 where
-  pub number : ℕ
-  pub small : ltb number (2 ^ 64) ≡ true
-
--- "Only `get_str` and `make_ary` take bytes"
-pub record Bytes : Type 0 where
-  pub bytes : List ℕ
-  pub small : all (λ b. ltb b 256) bytes ≡ true
-
--- a call that takes a store, "with any arguments"
-pub data Call : Type 0 where
-  kind : ℕ → Call
-  get_bool : ℕ → Call
-  get_int : Word → Call
-  make_int : Word → Word → Call
-  get_float : ℕ → Call
-  make_float : ℕ → ℕ → Call
-  get_tuple : List ℕ → Call
-  get_str : Bytes → Call
-  get_struct : ℕ → List ℕ → Call
-  make_ary : ℕ → ℕ → ℕ → ℕ → Bytes → Call
-  make_struct_fref : ℕ → Call
-  get_mem_ptr : ℕ → ℕ → Call
-  get_mem : ℕ → ℕ → Call
-  meet : ℕ → ℕ → Call
-  isa : ℕ → ℕ → Call
-  join : ℕ → ℕ → Call
-  dual : ℕ → Call
-  glb : ℕ → Call
-  lub : ℕ → Call
-  is_final : ℕ → Call
-  make_ro : ℕ → Call
-
--- what a call answers and leaves: the definitions that the functions' contracts cite, and for meet what `merge` says, so that the laws can be asked of another
--- meet too
-abbrev pub runWith : (ℕ → ℕ → List ℕ → Outcome) → Call → List ℕ → Outcome
-runWith merge (kind h) = kindCall h
-runWith merge (get_bool value) = getBoolCall value
-runWith merge (get_int value) = getIntCall (value .number)
-runWith merge (make_int min max) = makeIntCall (min .number) (max .number)
-runWith merge (get_float bits) = getFloatCall bits
-runWith merge (make_float sz bits) = makeFloatCall sz bits
-runWith merge (get_tuple types) = getTupleCall types
-runWith merge (get_str name) = getStrCall (name .bytes)
-runWith merge (get_struct name fs) = getStructCall name fs
-runWith merge (make_ary len lenAlias body bodyAlias text) = makeAryCall len lenAlias body bodyAlias (text .bytes)
-runWith merge (make_struct_fref name) = makeStructFrefCall name
-runWith merge (get_mem_ptr to nil) = getMemPtrCall to nil
-runWith merge (get_mem alias t) = getMemCall alias t
-runWith merge (meet a b) = merge a b
-runWith merge (isa a b) = isaCall a b
-runWith merge (join a b) = joinCall a b
-runWith merge (dual a) = dualCall a
-runWith merge (glb a) = glbCall a
-runWith merge (lub a) = lubCall a
-runWith merge (is_final a) = isFinalCall a
-runWith merge (make_ro a) = makeRoCall a
-
--- "The laws are to be laws of demand 2's meet" ("The buyer's note"): the meet that the contract of `ty::meet` cites
-abbrev pub run : Call → List ℕ → Outcome
-run = runWith meetCall
+use Rattle.makers.specs.Makers.{freshCall}
+use Rattle.every_call.specs.Run.{Call, meet, isa, join, dual, glb, lub, make_ro, run, allTyped}
 
 -- ---- reaching: "A type reaches its own kind and all that its parts reach". `u` is the used words.
 
@@ -173,6 +109,7 @@ module _ (does : Call → List ℕ → Outcome) where
       pub glb-above : (t h : ℕ) → Plain t → Gave cs ws (glb t) h → Isa t h
       pub read-only-above : (t h : ℕ) → Plain t → Gave cs ws (make_ro t) h → Isa t h
 
--- demand 3: "The list starts from a fresh store of any length row 1 allows". ws is the lent list that `fresh` fills, cs the calls.
+-- demand 3: "The list starts from a fresh store of any length row 1 allows". ws is the lent list that `fresh` fills, cs the calls, "with any arguments": the ends of an Int are 64-bit
+-- words and a text is bytes, all else is any numbers at all.
 abbrev pub Demand3 : Type 0
-Demand3 = (ws : List ℕ) → rightLength ws ≡ true → (cs : List Call) → Laws run cs (freshCall ws .words)
+Demand3 = (ws : List ℕ) → rightLength ws ≡ true → (cs : List Call) → allTyped cs ≡ true → Laws run cs (freshCall ws .words)

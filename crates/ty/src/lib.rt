@@ -1,127 +1,66 @@
 // The operations of `Ty`. Each call takes any words whatever as the store and any numbers as its arguments; what it answers and what it
-// leaves is what its definition in ty_calls/specs/Ty.antt says.
-//
-// Each lends row 1 an array of bits whose size goes by the list's length, so that a small store does not pay for a large one's.
-use call::Flag;
+// leaves is `run` of the call (every_call/specs/Run.antt), which is its definition in every_call/specs/Ty.antt.
+use asking::Asking;
+use call::Answer;
 use call::Made;
+use making::Making;
 use walk_rules::Walk;
 ghost use mathlib.Core.Path.{_≡_};
-ghost use Rattle.call.specs.Call.{left, made, said};
-ghost use Rattle.ty_calls.specs.Ty.{meetCall, isaCall, walkCall, dualCall, glbCall, lubCall, joinCall, isFinalCall, makeRoCall};
+ghost use Rattle.call.specs.Call.{left, made, told};
+ghost use Rattle.every_call.specs.Run.{run, meet, isa, dual, glb, lub, join, is_final, make_ro};
 
 // The lowest type above both.
 pub fn meet(words: &mut [u64], a: u64, b: u64) -> Made
-    ensures { λ r. ⌜ left (made r) (now (words .exit)) ≡ meetCall a b (now (words .entry)) ⌝ }
+    ensures { λ r. ⌜ left (made r) (now (words .exit)) ≡ run (meet a b) (now (words .entry)) ⌝ }
 {
-    if words.len() <= 4096 {
-        let mut bits = [0u64; 64];
-        return ty_calls::meet_in(words, &mut bits, a, b);
-    }
-    if words.len() <= 65536 {
-        let mut bits = [0u64; 1024];
-        return ty_calls::meet_in(words, &mut bits, a, b);
-    }
-    let mut bits = [0u64; 16384];
-    ty_calls::meet_in(words, &mut bits, a, b)
+    plain::append(words, Making::Meet(a, b), &[], b"")
 }
 
 // Whether b is above a: whether their meet would be b.
-pub fn isa(words: &[u64], a: u64, b: u64) -> Flag
-    ensures { λ r. ⌜ left (said r) (now (words .entry)) ≡ isaCall a b (now (words .entry)) ⌝ }
+pub fn isa(words: &[u64], a: u64, b: u64) -> Answer
+    ensures { λ r. ⌜ left (told r) (now (words .entry)) ≡ run (isa a b) (now (words .entry)) ⌝ }
 {
-    if words.len() <= 4096 {
-        let mut bits = [0u64; 64];
-        return ty_calls::isa_in(words, &mut bits, a, b);
-    }
-    if words.len() <= 65536 {
-        let mut bits = [0u64; 1024];
-        return ty_calls::isa_in(words, &mut bits, a, b);
-    }
-    let mut bits = [0u64; 16384];
-    ty_calls::isa_in(words, &mut bits, a, b)
-}
-
-// One walk for dual, glb and lub.
-fn walk(words: &mut [u64], op: Walk, a: u64) -> Made
-    ensures { λ r. ⌜ left (made r) (now (words .exit)) ≡ walkCall op a (now (words .entry)) ⌝ }
-{
-    if words.len() <= 4096 {
-        let mut bits = [0u64; 64];
-        return ty_calls::walk_in(words, &mut bits, op, a);
-    }
-    if words.len() <= 65536 {
-        let mut bits = [0u64; 1024];
-        return ty_calls::walk_in(words, &mut bits, op, a);
-    }
-    let mut bits = [0u64; 16384];
-    ty_calls::walk_in(words, &mut bits, op, a)
+    plain::ask(words, Asking::Isa(a, b))
 }
 
 // The lattice upside down.
 pub fn dual(words: &mut [u64], a: u64) -> Made
-    ensures { λ r. ⌜ left (made r) (now (words .exit)) ≡ dualCall a (now (words .entry)) ⌝ }
+    ensures { λ r. ⌜ left (made r) (now (words .exit)) ≡ run (dual a) (now (words .entry)) ⌝ }
 {
-    walk(words, Walk::Dual, a)
+    plain::append(words, Making::Walk(Walk::Dual, a), &[], b"")
 }
 
 // A fixed lower type.
 pub fn glb(words: &mut [u64], a: u64) -> Made
-    ensures { λ r. ⌜ left (made r) (now (words .exit)) ≡ glbCall a (now (words .entry)) ⌝ }
+    ensures { λ r. ⌜ left (made r) (now (words .exit)) ≡ run (glb a) (now (words .entry)) ⌝ }
 {
-    walk(words, Walk::Glb, a)
+    plain::append(words, Making::Walk(Walk::Glb, a), &[], b"")
 }
 
 // A fixed upper type.
 pub fn lub(words: &mut [u64], a: u64) -> Made
-    ensures { λ r. ⌜ left (made r) (now (words .exit)) ≡ lubCall a (now (words .entry)) ⌝ }
+    ensures { λ r. ⌜ left (made r) (now (words .exit)) ≡ run (lub a) (now (words .entry)) ⌝ }
 {
-    walk(words, Walk::Lub, a)
+    plain::append(words, Making::Walk(Walk::Lub, a), &[], b"")
 }
 
 // The highest type below both.
 pub fn join(words: &mut [u64], a: u64, b: u64) -> Made
-    ensures { λ r. ⌜ left (made r) (now (words .exit)) ≡ joinCall a b (now (words .entry)) ⌝ }
+    ensures { λ r. ⌜ left (made r) (now (words .exit)) ≡ run (join a b) (now (words .entry)) ⌝ }
 {
-    if words.len() <= 4096 {
-        let mut bits = [0u64; 64];
-        return ty_calls::join_in(words, &mut bits, a, b);
-    }
-    if words.len() <= 65536 {
-        let mut bits = [0u64; 1024];
-        return ty_calls::join_in(words, &mut bits, a, b);
-    }
-    let mut bits = [0u64; 16384];
-    ty_calls::join_in(words, &mut bits, a, b)
+    plain::append(words, Making::Join(a, b), &[], b"")
 }
 
 // Whether every field that pointers and fields lead to is final.
-pub fn is_final(words: &[u64], a: u64) -> Flag
-    ensures { λ r. ⌜ left (said r) (now (words .entry)) ≡ isFinalCall a (now (words .entry)) ⌝ }
+pub fn is_final(words: &[u64], a: u64) -> Answer
+    ensures { λ r. ⌜ left (told r) (now (words .entry)) ≡ run (is_final a) (now (words .entry)) ⌝ }
 {
-    if words.len() <= 4096 {
-        let mut bits = [0u64; 64];
-        return ty_calls::is_final_in(words, &mut bits, a);
-    }
-    if words.len() <= 65536 {
-        let mut bits = [0u64; 1024];
-        return ty_calls::is_final_in(words, &mut bits, a);
-    }
-    let mut bits = [0u64; 16384];
-    ty_calls::is_final_in(words, &mut bits, a)
+    plain::ask(words, Asking::IsFinal(a))
 }
 
 // The type with every field final; a field that was not final has its type made read-only too.
 pub fn make_ro(words: &mut [u64], a: u64) -> Made
-    ensures { λ r. ⌜ left (made r) (now (words .exit)) ≡ makeRoCall a (now (words .entry)) ⌝ }
+    ensures { λ r. ⌜ left (made r) (now (words .exit)) ≡ run (make_ro a) (now (words .entry)) ⌝ }
 {
-    if words.len() <= 4096 {
-        let mut bits = [0u64; 64];
-        return ty_calls::make_ro_in(words, &mut bits, a);
-    }
-    if words.len() <= 65536 {
-        let mut bits = [0u64; 1024];
-        return ty_calls::make_ro_in(words, &mut bits, a);
-    }
-    let mut bits = [0u64; 16384];
-    ty_calls::make_ro_in(words, &mut bits, a)
+    plain::append(words, Making::MakeRo(a), &[], b"")
 }

@@ -1,0 +1,83 @@
+// The calls that only read, as values: one function for their rows and one for their answers, on a store that row 1 has passed.
+use call::Answer;
+ghost use mathlib.Core.Path.{_≡_};
+ghost use mathlib.Core.Bool.{not, cond};
+ghost use mathlib.Core.List.{[]};
+ghost use lib.Dec.{eqb};
+ghost use lib.ListN.{take};
+ghost use Rattle.index.specs.Covers.{Covers};
+ghost use Rattle.wellformed.specs.Entry.{isFlag};
+ghost use Rattle.call.specs.Call.{told, _when_};
+ghost use Rattle.call.specs.Steps.{Open};
+ghost use Rattle.lent_memory.specs.Memory.{Right};
+ghost use Rattle.making.specs.Making.{Cleared};
+ghost use Rattle.asking.specs.Asking.{rowsOf, answerOf};
+
+pub enum Asking {
+    Kind(u64),
+    GetBool(u64),
+    Isa(u64, u64),
+    IsFinal(u64),
+}
+
+// ---- rows
+
+fn bool_rows(value: u64) -> u8
+    ensures { λ r. ⌜ r ≡ (4 when not (isFlag value)) ⌝ }
+{
+    if value > 1 {
+        return 4;
+    }
+    0
+}
+
+// The number of the first row that applies, or 0.
+pub fn rows_of(words: &[u64], used: usize, bits: &[u64], asking: Asking) -> u8
+    requires { ⌜ Open (now words) (now bits) used ⌝ }
+    ensures { λ r. ⌜ r ≡ rowsOf asking (take used (now (words .entry))) ⌝ }
+{
+    match asking {
+        Asking::Kind(h) => rows::types_rows(words, used, bits, &[h]),
+        Asking::GetBool(value) => bool_rows(value),
+        Asking::Isa(a, b) => rows::types_rows(words, used, bits, &[a, b]),
+        Asking::IsFinal(a) => rows::types_rows(words, used, bits, &[a]),
+    }
+}
+
+// ---- answers
+
+fn bool_at(value: u64) -> u64
+    ensures { λ r. ⌜ r ≡ cond (eqb value 0) 9 12 ⌝ }
+{
+    if value == 0 {
+        return 9;
+    }
+    12
+}
+
+// The answer of a call that no row turns back. `scratch` may hold anything; `memory` and `index` may have no words.
+pub fn tell(
+    words: &[u64],
+    used: usize,
+    asking: Asking,
+    scratch: &mut [u64],
+    memory: &mut [u64],
+    index: &[u64],
+) -> Answer
+    requires { ⌜ Cleared (rowsOf asking) [] (now words) used ⌝ }
+    requires { ⌜ Right (take used (now words)) (now memory) ⌝ }
+    requires { ⌜ Covers (take used (now words)) (now index) ⌝ }
+    ensures { λ r. ⌜ told r ≡ answerOf asking (take used (now (words .entry))) ⌝ }
+    ensures { λ _. ⌜ Right (take used (now (words .entry))) (now (memory .exit)) ⌝ }
+{
+    let none = [0u64; 0];
+    match asking {
+        Asking::Kind(h) => Answer::Number(call::kind_on(&none, words, used, h)),
+        Asking::GetBool(value) => Answer::Handle(bool_at(value)),
+        Asking::Isa(a, b) => Answer::Flag(lent_memory::isa(words, used, a, b, memory, index)),
+        Asking::IsFinal(a) => {
+            let yes = lent_memory::is_final(&none, words, used, a as usize, scratch, memory);
+            Answer::Flag(yes)
+        }
+    }
+}

@@ -1,0 +1,1 @@
+// What every call answers and leaves: definitions, no code.

@@ -1,0 +1,20 @@
+// A fresh store, on any words whatever.
+use call::Done;
+ghost use mathlib.Core.Path.{_≡_};
+ghost use Rattle.call.specs.Call.{left, done};
+ghost use Rattle.makers.specs.Makers.{freshCall};
+
+// Writes a fresh store and zeroes the rest.
+pub fn fresh(words: &mut [u64]) -> Done
+    ensures { λ r. ⌜ left (done r) (now (words .exit)) ≡ freshCall (now (words .entry)) ⌝ }
+{
+    if words.len() < 94 {
+        return Done::Refused(1);
+    }
+    if words.len() > 1048576 {
+        return Done::Refused(1);
+    }
+    words::clear(words);
+    makers::headed(words, 94, &wellformed::FRESH);
+    Done::Accepted
+}

@@ -1,0 +1,6 @@
+pub mod Cleared
+pub mod Values
+pub mod As
+pub mod Grows
+pub mod Kept
+pub mod Arms
