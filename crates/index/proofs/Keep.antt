@@ -2,7 +2,7 @@
 use mathlib.Core.Path.{_≡_, sym, ap, _∙_}
 use mathlib.Core.Bool.{true}
 use mathlib.Core.List.{List}
-use Prim.Native.Nat.{ℕ, _+_, _-_, _/_, _≤_, _<_}
+use Prim.Native.Nat.{ℕ, _+_, _/_, _≤_, _<_}
 use native.Mathlib.Omega.{arith}
 use lib.ListN.{length, take, drop, getD, set, length-set, length-take, length-append, drop-of-length-le}
 use lib.Seq.{length-take-le, take-append-le, take-take, take-length, getD-set-same, getD-set-other}
@@ -39,12 +39,6 @@ covers-none u index low z =
       cut = rw (sym k, drop-of-length-le (take 1 u) n);
       indexed = λ some. absurd (some z);
     }
-
--- an index of all words
-pub opened-indexed : (u index : List ℕ) → Opened u index → 1 ≤ length u → length u ≤ length index / 2 → Indexed u index
-opened-indexed u index o low room =
-    let e = o .all room in
-    rw (ap (λ (k : ℕ). take k u) e ∙ take-length u) at (o .covers .indexed (λ z. omega arith))
 
 -- the word of handle 0 is free
 pub counted : (u index : List ℕ) (v : ℕ) → 0 < length index / 2 → Indexed u index → Indexed u (set index (length index / 2) v)

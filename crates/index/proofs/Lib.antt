@@ -5,7 +5,6 @@ pub mod Split
 pub mod Seek
 pub mod More
 pub mod Zero
-pub mod Told
 pub mod Built
 pub mod Prefix
 pub mod Chain

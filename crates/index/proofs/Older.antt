@@ -1,20 +1,17 @@
 -- Rows from the newest on: their handles fall; the search in them is the search in the table. Assumes nothing.
 use mathlib.Core.Path.{_≡_, refl, sym, ap, _∙_}
-use mathlib.Core.Bool.{Bool, true, false, cond, _||_, not}
+use mathlib.Core.Bool.{Bool, true, false, cond}
 use mathlib.Core.Logic.{_⊎_, ⊎-elim, inl, inr}
 use mathlib.Core.List.{List, [], _∷_, _++_, List·Memᴰ·head, List·Memᴰ·tail, List·Memᴰ·cases-cons, List·Memᴰ·not-nil}
 use Prim.Native.Nat.{ℕ, zero, suc, pred, _+_, _≤_, _<_}
 use native.Mathlib.Omega.{arith}
-use borrow.Author.Tests.{ne-eqb}
-use lib.Dec.{eqb}
 use lib.ListN.{length, take, drop, length-drop}
 use Rattle.words.specs.Words.{sizeOf, eqs}
-use Rattle.words.specs.Table.{Row, rows, entries, firstOf, isAt, In}
+use Rattle.words.specs.Table.{Row, rows, entries, firstOf, In}
 use Rattle.words.specs.declared.Found.{Found}
 use Rattle.words.specs.declared.Found.the-variants.{At, Nothing}
 use Rattle.words.proofs.Grow.{orElse}
-use Rattle.index.specs.Digest.{bucketOf}
-use Rattle.index.specs.Chains.{newestFirst, newest, link}
+use Rattle.index.specs.Chains.{newestFirst, newest}
 
 -- ---- handles that fall, all below k
 
@@ -91,51 +88,3 @@ lowest-first past (r ∷ rs) e =
 pub lowest-all : (rs : List Row) (e : List ℕ) → lowest (newestFirst [] rs) e ≡ firstOf rs e
 unfolding lowest orElse
 lowest-all rs e = lowest-first [] rs e
-
--- ---- handles
-
-or-comm : (a b c : Bool) → (a || (b || c)) ≡ ((b || a) || c)
-or-comm true true c = refl
-or-comm true false c = refl
-or-comm false true c = refl
-or-comm false false c = refl
-
-or-false : (a : Bool) → (a || false) ≡ a
-or-false true = refl
-or-false false = refl
-
-at-either : (past rs : List Row) (h : ℕ) → isAt (newestFirst past rs) h ≡ (isAt past h || isAt rs h)
-unfolding newestFirst isAt
-at-either past [] h = sym (or-false (isAt past h))
-at-either past (r ∷ rs) h = at-either (r ∷ past) rs h ∙ sym (or-comm (isAt past h) (eqb (r .at) h) (isAt rs h))
-
-link-test : (n h : ℕ) (rs : List Row) → not (eqb (link n h rs) 0) ≡ isAt rs h
-unfolding link isAt
-link-test n h [] = refl
-link-test n h (r ∷ rs) = go (eqb (r .at) h) (link-test n h rs)
-  where
-    go : (t : Bool) → not (eqb (link n h rs) 0) ≡ isAt rs h → not (eqb (cond t (1 + newest n (bucketOf n (r .words)) rs) (link n h rs)) 0) ≡ (t || isAt rs h)
-    go true ih = rw (ne-eqb (1 + newest n (bucketOf n (r .words)) rs) 0 (λ q. omega arith))
-    go false ih = ih
-
-pub link-starts : (n h : ℕ) (rs : List Row) → not (eqb (link n h (newestFirst [] rs)) 0) ≡ isAt rs h
-unfolding isAt
-link-starts n h rs = link-test n h (newestFirst [] rs) ∙ at-either [] rs h
-
-pub past-falling : {k : ℕ} (rs : List Row) → Falling k rs → (h : ℕ) → k ≤ h → isAt rs h ≡ false
-unfolding isAt
-past-falling [] f h l = refl
-past-falling (r ∷ rs) (more z b f) h l = rw (ne-eqb (r .at) h (λ q. omega arith)) (past-falling rs f h (omega arith))
-
-zero-falling : {k : ℕ} (rs : List Row) → Falling k rs → isAt rs 0 ≡ false
-unfolding isAt
-zero-falling [] f = refl
-zero-falling (r ∷ rs) (more z b f) = rw (ne-eqb (r .at) 0 (λ q. omega arith)) (zero-falling rs f)
-
-pub none-at-zero : (u : List ℕ) → 1 ≤ length u → isAt (entries u) 0 ≡ false
-unfolding isAt
-none-at-zero u low = sym (at-either [] (entries u) 0) ∙ zero-falling (newestFirst [] (entries u)) (entries-fall u low)
-
-pub past-used : (u : List ℕ) → 1 ≤ length u → (h : ℕ) → length u ≤ h → isAt (entries u) h ≡ false
-unfolding isAt
-past-used u low h l = sym (at-either [] (entries u) h) ∙ past-falling (newestFirst [] (entries u)) (entries-fall u low) h l

@@ -1,12 +1,11 @@
 -- An index of the first words of a store, which stays as it is while entries are appended behind them.
 use mathlib.Core.Path.{_≡_}
-use mathlib.Core.Bool.{Bool, true, cond}
+use mathlib.Core.Bool.{true, cond}
 use mathlib.Core.List.{List}
 use Prim.Native.Nat.{ℕ, _/_, _≤_, _<_}
 use lib.ListN.{length, take, drop, getD}
 use lib.Dec.{eqb}
 use Rattle.words.specs.Words.{fills}
-use Rattle.words.specs.Table.{starts}
 use Rattle.index.specs.Chains.{Indexed}
 
 -- how many words are in the index: the word of handle 0 has it. An index without words has no entry in it.
@@ -30,7 +29,3 @@ pub record Tail (old u : List ℕ) (from : ℕ) : Type 0 where
   pub within : from ≤ length u
   pub cut : from < length old → fills 0 (drop from old) ≡ true
   pub full : fills 0 (drop from u) ≡ true
-
--- what the index tells of a handle: whether an entry starts there, of any used words that it is the index of
-pub record Started (index : List ℕ) (h : ℕ) (r : Bool) : Type 0 where
-  pub is : (u : List ℕ) → 1 ≤ length u → Indexed u index → r ≡ starts u h

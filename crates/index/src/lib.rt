@@ -13,7 +13,7 @@ ghost use Rattle.words.specs.Table.{rows, firstOf, findIn, starts as startsIn};
 ghost use Rattle.words.specs.Made.{make, Segments, Runs};
 ghost use Rattle.index.specs.Digest.{stirred, hashFrom, bucketOf};
 ghost use Rattle.index.specs.Chains.{added};
-ghost use Rattle.index.specs.Covers.{indexedTo, Covers, Opened, Tail, Started};
+ghost use Rattle.index.specs.Covers.{indexedTo, Covers, Opened, Tail};
 
 // ---- where an entry is looked for
 
@@ -199,19 +199,4 @@ pub fn open(words: &[u64], used: usize, index: &mut [u64])
     }
     index[half] = 1;
     extend(words, used, index);
-}
-
-// Whether an entry of the store starts at h: row 2 by one read, where the index has all words.
-pub fn starts(index: &[u64], h: u64) -> bool
-    ensures { λ r. ⌜ Started (now (index .entry)) h r ⌝ }
-{
-    let half = index.len() / 2;
-    let at = h as usize;
-    if at == 0 {
-        return false;
-    }
-    if half <= at {
-        return false;
-    }
-    index[half + at] != 0
 }

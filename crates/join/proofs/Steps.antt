@@ -1,12 +1,13 @@
 -- One operation after another, where the second takes the first's answer; and the steps of join. Assumes nothing.
-use mathlib.Core.Path.{_≡_, ap}
+use mathlib.Core.Path.{_≡_, refl, sym, ap}
 use mathlib.Core.Bool.{true}
 use mathlib.Core.List.{List, _++_}
-use Prim.Native.Nat.{ℕ, suc, _+_, _≤_, max}
+use Prim.Native.Nat.{ℕ, suc, _+_, _*_, _-_, _/_, _≤_, max}
 use native.Mathlib.Omega.{arith}
 use borrow.Author.Tests.{eq-eqb, ne-eqb}
 use lib.ListN.{length, take, drop, length-append}
 use lib.Seq.{length-take-le}
+use borrow.Rule.Slice.PartMut.{putMid}
 use Rattle.words.specs.Words.{fills}
 use Rattle.words.specs.Made.{Grown, Ran, Runs}
 use Rattle.words.specs.declared.Interned.{Interned}
@@ -23,15 +24,14 @@ use Rattle.walk_rules.specs.declared.Walk.the-variants.{Dual}
 use Rattle.walk.specs.Walked.{dualOf, Walked}
 use Rattle.walk.proofs.Grows.{walk-grows}
 use Rattle.walk.proofs.Nice.{walk-nice}
-use Rattle.memo.specs.Memo.{Lines}
-use Rattle.later.specs.Right.{Stays}
 use Rattle.later.proofs.Later.{later-adds}
-use Rattle.later.proofs.Right.{lines-later, right-made}
-use Rattle.meet.specs.Remembered.{Remembers as RemembersPairs, Remembered as RememberedPairs}
-use Rattle.meet.proofs.Recall.{settled-stays as pairs-stay}
-use Rattle.walk.specs.Remembered.{Remembers}
-use Rattle.walk.proofs.Recall.{settled-stays}
+use Rattle.later.proofs.Right.{right-made}
+use Rattle.meet.specs.Remembered.{Remembered as RememberedMeets}
+use Rattle.meet.proofs.Recall.{settled-stays as meets-stay}
+use Rattle.walk.specs.Remembered.{Remembers as RemembersWalks, Remembered as RememberedWalks}
 use Rattle.join.specs.Join.{dualOfMeet, joinWith, joinOf}
+use Rattle.join.specs.Memory.{Remembers, Remembered}
+use Rattle.join.proofs.Halves.{half-meets, lent-duals, duals-long, duals-back, duals-left, meets-length, meets-back, remembers-later}
 
 -- ---- growth
 
@@ -97,9 +97,13 @@ module _ {old new : List ℕ} {used : ℕ} {g₁ : Grown} {now : List ℕ} {m : 
       first = answer-part;
     }
 
-    -- and a memory for it, which the first did not touch
-    grown-lines : {P : List ℕ → ℕ → ℕ → Type 0} → Stays P → {memo : List ℕ} → Lines (P (take used (old ++ new))) memo → Lines (P (take v (old ++ now))) memo
-    grown-lines stays m = rw (are .1) (lines-later stays (later-adds (F .good) (F .res .adds)) m)
+    -- and a memory for it: the half that the first did not touch stays right
+    grown-remembers : {memory : List ℕ} → Remembers (take used (old ++ new)) memory → Remembers (take v (old ++ now)) memory
+    grown-remembers m = rw (are .1) (remembers-later (later-adds (F .good) (F .res .adds)) m)
+
+    -- where the first was a dual, d came back in the place of the first half
+    grown-duals : {memory d : List ℕ} → Remembers (take used (old ++ new)) memory → length d ≡ length (take (length memory / 2) memory) → RememberedWalks Dual old now m d → Remembers (take v (old ++ now)) (d ++ drop (length memory / 2) memory)
+    grown-duals {memory} r same l = duals-back memory (length memory / 2) refl _ same (l .is h v f) (grown-remembers r .meets)
 
     grown-covers : {index : List ℕ} → Covers (take used (old ++ new)) index → Covers (take v (old ++ now)) index
     grown-covers = grew-covers on
@@ -116,6 +120,18 @@ module _ {old new : List ℕ} {used : ℕ} {g₁ : Grown} {now : List ℕ} {m : 
       first = px;
       second = py;
     }
+
+-- ---- the memory, once d came back from the meet, in the place of the second half
+
+module _ (memory d : List ℕ) (same : length d ≡ length (take (2 * (length memory / 2) - length memory / 2) (drop (length memory / 2) memory))) where
+  abbrev met-memory : List ℕ
+  met-memory = putMid (length memory / 2) (2 * (length memory / 2) - length memory / 2) memory d
+
+  meet-half : length memory / 2 ≡ length met-memory / 2
+  meet-half = ap (λ (n : ℕ). n / 2) (sym (meets-length memory (length memory / 2) refl d same))
+
+  pub meet-long : length memory / 2 ≡ length (take (length memory / 2) met-memory)
+  meet-long = duals-long met-memory (length memory / 2) meet-half
 
 -- ---- the steps of join
 
@@ -149,19 +165,31 @@ module _ (old new : List ℕ) (used a b : ℕ) (rd : Ready old new used 1 11 a b
       pub meet-covers : {index : List ℕ} → Covers u index → Covers (take v (old ++ now)) index
       meet-covers = grown-covers met-first h v f
 
-      pub meet-remembers : {memo : List ℕ} → Remembers Dual u memo → Remembers Dual (take v (old ++ now)) memo
-      meet-remembers = grown-lines met-first h v f (settled-stays Dual)
-
       pub meet-dualled : (now₂ : List ℕ) (o : Interned) → Walked Dual old now v h now₂ o → Runs (λ w. dualOfMeet w a b) old new used now₂ o
       meet-dualled now₂ o t =
           step-made met-first h v f
           dualOf (λ w k. walk-grows Dual (suc k) w k) now₂ o (t .is (suc h) (omega arith))
 
-      -- the memory of the meet, once the dual has grown the words
-      pub meet-pairs : {pairs : List ℕ} → RemembersPairs (take v (old ++ now)) pairs → (now₂ : List ℕ) (o : Interned) → Walked Dual old now v h now₂ o → RememberedPairs old now₂ o pairs
-      meet-pairs m now₂ o t =
-          let w = take v (old ++ now) in
-          right-made pairs-stay (one-segments meet-ready) m (dualOf w h) (walk-grows Dual (suc h) w h) (t .is (suc h) (omega arith))
+      -- the memory: d came back from the meet, in the place of the second half
+      module _ {memory d : List ℕ} (r : Remembers u memory) (same : length d ≡ length (take (2 * (length memory / 2) - length memory / 2) (drop (length memory / 2) memory))) (l : RememberedMeets old now m d) where
+        abbrev k : ℕ
+        k = length memory / 2
+
+        abbrev memory₁ : List ℕ
+        memory₁ = met-memory memory d same
+
+        met-remembers : Remembers (take v (old ++ now)) memory₁
+        met-remembers = meets-back memory k refl d same (grown-remembers met-first h v f r .duals) (l .is h v f)
+
+        -- the first half of it is what the dual is lent
+        pub meet-remembers : RemembersWalks Dual (take v (old ++ now)) (take k memory₁)
+        meet-remembers = lent-duals memory₁ k (meet-half memory d same) met-remembers
+
+        -- and d₂ came back from the dual, in the place of that half
+        pub meet-remembered : {d₂ now₂ : List ℕ} {o : Interned} → length d₂ ≡ length (take k memory₁) → Walked Dual old now v h now₂ o → RememberedWalks Dual old now₂ o d₂ → Remembered old now₂ o (d₂ ++ drop k memory₁)
+        meet-remembered {d₂} {now₂} {o} same₂ t ds =
+            let w = take v (old ++ now) in
+            duals-left memory₁ k (meet-half memory d same) d₂ same₂ ds (right-made meets-stay (one-segments meet-ready) (half-meets memory₁ k (meet-half memory d same) met-remembers) (dualOf w h) (walk-grows Dual (suc h) w h) (t .is (suc h) (omega arith)))
 
   -- the second dual, then those
   module _ (now : List ℕ) (m : Interned) (t : Walked Dual old new used b now m) where
@@ -183,8 +211,8 @@ module _ (old new : List ℕ) (used a b : ℕ) (rd : Ready old new used 1 11 a b
       pub with-covers : {index : List ℕ} → Covers u index → Covers (take v (old ++ now)) index
       with-covers = grown-covers second h v f
 
-      pub with-pairs : {pairs : List ℕ} → RemembersPairs u pairs → RemembersPairs (take v (old ++ now)) pairs
-      with-pairs = grown-lines second h v f pairs-stay
+      pub with-remembers : {memory d : List ℕ} → Remembers u memory → length d ≡ length (take (length memory / 2) memory) → RememberedWalks Dual old now m d → Remembers (take v (old ++ now)) (d ++ drop (length memory / 2) memory)
+      with-remembers = grown-duals second h v f
 
       pub with-made : (now₂ : List ℕ) (o : Interned) → Runs (λ w. dualOfMeet w a h) old now v now₂ o → Runs (λ w. joinWith w a b) old new used now₂ o
       with-made now₂ o l =
@@ -215,8 +243,8 @@ module _ (old new : List ℕ) (used a b : ℕ) (rd : Ready old new used 1 11 a b
       pub join-covers : {index : List ℕ} → Covers u index → Covers (take v (old ++ now)) index
       join-covers = grown-covers former h v f
 
-      pub join-pairs : {pairs : List ℕ} → RemembersPairs u pairs → RemembersPairs (take v (old ++ now)) pairs
-      join-pairs = grown-lines former h v f pairs-stay
+      pub join-remembers : {memory d : List ℕ} → Remembers u memory → length d ≡ length (take (length memory / 2) memory) → RememberedWalks Dual old now m d → Remembers (take v (old ++ now)) (d ++ drop (length memory / 2) memory)
+      join-remembers = grown-duals former h v f
 
       pub join-made : (now₂ : List ℕ) (o : Interned) → Runs (λ w. joinWith w h b) old now v now₂ o → Runs (λ w. joinOf w a b) old new used now₂ o
       join-made now₂ o l =

@@ -1,30 +1,23 @@
--- A memory stays right on each way through an operation, and from call to call. Assumes nothing.
-use mathlib.Core.Path.{_≡_, refl, sym, ap, _∙_}
-use mathlib.Core.Bool.{true}
-use mathlib.Core.List.{List, [], _++_}
-use Prim.Native.Nat.{ℕ, _≤_, _<_}
+-- A memory stays right on each way through an operation. Assumes nothing.
+use mathlib.Core.Path.{_≡_, sym, ap, _∙_}
+use mathlib.Core.List.{List, _++_}
+use Prim.Native.Nat.{ℕ, _<_}
 use native.Mathlib.Omega.{arith}
-use lib.ListN.{length, take, getD, set, length-append}
-use lib.Seq.{length-take-le, getD-set-same, take-set-lt}
+use lib.ListN.{length, take, length-append}
+use lib.Seq.{length-take-le}
 use Rattle.words.specs.Made.{Grown, there, Segments, Ran, Runs}
 use Rattle.words.specs.declared.Interned.{Interned}
 use Rattle.words.specs.declared.Interned.the-variants.{At, Full}
-use Rattle.words.proofs.Extend.{Extends, ext-length}
+use Rattle.words.proofs.Extend.{Extends}
 use Rattle.words.proofs.Room.{fitted, fit-front}
-use Rattle.wellformed.specs.Form.{wellFormed, usedWords}
-use Rattle.call.specs.Call.{Outcome}
-use Rattle.call.specs.Keep.{Keeps}
-use Rattle.call.specs.Steps.{finishIn}
-use Rattle.call.proofs.Ways.{Begun}
 use Rattle.parts.specs.Parts.{Good, Part, ReadyOne}
 use Rattle.parts.proofs.Good.{part-below}
 use Rattle.parts.proofs.Grew.{grew-none, grew-there}
-use Rattle.memo.specs.Memo.{Lines, Learned, Forgot}
-use Rattle.memo.proofs.Lines.{lines-blank, lines-weak, noted}
+use Rattle.memo.specs.Memo.{Lines, Learned}
+use Rattle.memo.proofs.Lines.{lines-weak, noted}
 use Rattle.later.specs.Later.{Later}
 use Rattle.later.specs.Right.{Stays, RightAfter}
 use Rattle.later.proofs.Later.{later-extends}
-use Rattle.later.proofs.Keeps.{later-keeps, later-set}
 
 -- an operation on a type, below k: what it answered once it answers ever after, and nothing has to be appended
 abbrev pub Settles₁ : ℕ → (List ℕ → ℕ → Grown) → Type 0
@@ -73,33 +66,3 @@ module _ {P : List ℕ → ℕ → ℕ → Type 0} (stays : Stays P) where
   -- entries were made, in words for which the memory is right
   pub right-made : {old now memo : List ℕ} {v : ℕ} → Segments old now v → Lines (P (take v (old ++ now))) memo → (g : Grown) → Extends (take v (old ++ now)) (g .words) → {now₂ : List ℕ} {o : Interned} → Ran v g (old ++ now) (old ++ now₂) o → RightAfter P old now₂ o memo
   right-made s m g x {now₂} ran = record { is = λ h v′ e. lines-later (made-later s g x now₂ ran h v′ e) m }
-
-  -- ---- from call to call
-
-  -- every call keeps a memory that it does not touch
-  pub right-over : {memo : List ℕ} (ws : List ℕ) (o : Outcome) → wellFormed ws ≡ true → Keeps ws o → Lines (P (usedWords ws)) memo → Lines (P (usedWords (o .words))) memo
-  right-over ws o ok k = lines-later (later-keeps ws o ok k)
-
-  -- the memory that is lent, for the used words
-  pub right-lent : {memo ws : List ℕ} {used : ℕ} → Begun ws used → Lines (P (usedWords ws)) memo → Lines (P (take used ws)) memo
-  right-lent b m = rw (b .is) m
-
-  -- a call that uses it: what `forget` and `finish` leave
-  pub right-call : {ws ws₁ memo₁ memo₂ : List ℕ} {used : ℕ} {r : Interned} (g : Grown) (o : Outcome) → 0 < used → used ≤ length ws → 0 < length ws₁ → Extends (take used ws) (g .words) → Ran used g ws ws₁ r → RightAfter P [] ws₁ r memo₁ → Forgot r memo₁ memo₂
-      → o ≡ finishIn used r ws₁ → Lines (P (usedWords (o .words))) memo₂
-  unfolding finishIn
-  right-call {ws} {ws₁} {memo₁} {memo₂} {used} {r} g o some within long x ran m f e = go r refl
-    where
-      end : (h v : ℕ) → r ≡ At h v → 0 < v
-      end h v k =
-          let n : length (take used ws) ≡ used = length-take-le used ws within in
-          omega (arith, fitted used g ws ws₁ r ran h v k .end, ext-length (take used ws) (g .words) x)
-
-      go : (s : Interned) → r ≡ s → Lines (P (usedWords (o .words))) memo₂
-      go (At h v) k =
-          let e₁ : o ≡ finishIn used (At h v) ws₁ = rw k at e in
-          let w : o .words ≡ set ws₁ 0 v = ap (λ (y : Outcome). y .words) e₁ in
-          let c : getD (set ws₁ 0 v) 0 0 ≡ v = getD-set-same ws₁ 0 v 0 long in
-          let q : usedWords (set ws₁ 0 v) ≡ set (take v ws₁) 0 v = ap (λ (n : ℕ). take n (set ws₁ 0 v)) c ∙ take-set-lt v ws₁ 0 v (end h v k) in
-          rw (w, q, f .fitted h v k) (lines-later (later-set (take v ws₁) v) (m .is h v k))
-      go Full k = rw (f .full k) (lines-blank (length memo₁))

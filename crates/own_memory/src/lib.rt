@@ -1,8 +1,7 @@
-// The operations that walk, with a memory of their own: blank at the start, gone at the end. Its size goes by the store, since blanking a memory must
-// cost little beside row 1, which reads the whole store: up to 4,096 words a line for each word, and so a line of its own for each type; above that 8,192
-// lines, and a few for a small type, which asks no more.
+// The operations that walk, with a memory of their own: blank at the start, gone at the end. A small type asks a few lines and no more. Else its size goes by the store, since blanking
+// a memory must cost little beside row 1, which reads the whole store: up to 4,096 words a line for each word, and so a line of its own for each type; above that 8,192 lines.
 //
-// Each range of sizes is a function of its own, so that a call on a small store does not set up the frame that a large memory needs.
+// Each range of sizes is a function of its own, so that a call on a small store or type does not set up the frame that a large memory needs.
 use walk_rules::Walk;
 use words::Interned;
 ghost use mathlib.Core.Path.{_≡_};
@@ -16,13 +15,14 @@ ghost use Rattle.join.specs.Join.{joinOf};
 ghost use Rattle.finals.specs.Final.{Finals};
 ghost use Rattle.finals.specs.Known.{Knows};
 ghost use Rattle.own_memory.specs.declared.Operation.the-variants.{Meet, MakeRo};
-ghost use Rattle.own_memory.specs.Done.{Asked, Done};
+ghost use Rattle.own_memory.specs.Done.{Asked, Done, KnowsAfter};
 
 // An operation on a type, with its other operand.
 pub enum Operation {
     Meet(usize),
     Walk(Walk),
     MakeRo,
+    Join(usize),
 }
 
 // With a blank memory. `known` marks types that are known to be final; make_ro asks it.
@@ -41,11 +41,13 @@ fn operate(
     requires { ⌜ Knows (take used (now old ++ now new)) (now known) ⌝ }
     requires { ⌜ Covers (take used (now old ++ now new)) (now index) ⌝ }
     ensures { λ r. ⌜ Done op (now (old .entry)) (now (new .entry)) used a (now (new .exit)) r ⌝ }
+    ensures { λ r. ⌜ KnowsAfter op (now (old .entry)) (now (new .exit)) r (now (known .exit)) ⌝ }
 {
     match op {
         Operation::Meet(b) => meet::meet_type(old, new, used, a, b, memo, index),
         Operation::Walk(walk) => walk::walk_type(walk, old, new, used, a, memo, index),
         Operation::MakeRo => make_ro::make_ro(old, new, used, a, memo, known, index),
+        Operation::Join(b) => join::join(old, new, used, a, b, memo, index),
     }
 }
 
@@ -63,6 +65,7 @@ fn up_to_512(
     requires { ⌜ Knows (take used (now old ++ now new)) (now known) ⌝ }
     requires { ⌜ Covers (take used (now old ++ now new)) (now index) ⌝ }
     ensures { λ r. ⌜ Done op (now (old .entry)) (now (new .entry)) used a (now (new .exit)) r ⌝ }
+    ensures { λ r. ⌜ KnowsAfter op (now (old .entry)) (now (new .exit)) r (now (known .exit)) ⌝ }
 {
     let n = old.len() + new.len();
     if n <= 128 {
@@ -77,8 +80,8 @@ fn up_to_512(
     operate(op, old, new, used, a, &mut memo, known, index)
 }
 
-// Stores of at most 4,096 words.
-fn up_to_4096(
+// Larger stores.
+fn large(
     op: Operation,
     old: &[u64],
     new: &mut [u64],
@@ -91,6 +94,7 @@ fn up_to_4096(
     requires { ⌜ Knows (take used (now old ++ now new)) (now known) ⌝ }
     requires { ⌜ Covers (take used (now old ++ now new)) (now index) ⌝ }
     ensures { λ r. ⌜ Done op (now (old .entry)) (now (new .entry)) used a (now (new .exit)) r ⌝ }
+    ensures { λ r. ⌜ KnowsAfter op (now (old .entry)) (now (new .exit)) r (now (known .exit)) ⌝ }
 {
     let n = old.len() + new.len();
     if n <= 1024 {
@@ -101,17 +105,22 @@ fn up_to_4096(
         let mut memo = [0u64; 2048];
         return operate(op, old, new, used, a, &mut memo, known, index);
     }
-    let mut memo = [0u64; 4096];
+    if n <= 4096 {
+        let mut memo = [0u64; 4096];
+        return operate(op, old, new, used, a, &mut memo, known, index);
+    }
+    let mut memo = [0u64; 8192];
     operate(op, old, new, used, a, &mut memo, known, index)
 }
 
-// Larger stores.
-fn above(
+// By the store; `few` where the types are small.
+fn sized(
     op: Operation,
     old: &[u64],
     new: &mut [u64],
     used: usize,
     a: usize,
+    few: bool,
     known: &mut [u64],
     index: &[u64],
 ) -> Interned
@@ -119,13 +128,16 @@ fn above(
     requires { ⌜ Knows (take used (now old ++ now new)) (now known) ⌝ }
     requires { ⌜ Covers (take used (now old ++ now new)) (now index) ⌝ }
     ensures { λ r. ⌜ Done op (now (old .entry)) (now (new .entry)) used a (now (new .exit)) r ⌝ }
+    ensures { λ r. ⌜ KnowsAfter op (now (old .entry)) (now (new .exit)) r (now (known .exit)) ⌝ }
 {
-    if small::is_small(old, new, used, a) {
+    if few {
         let mut memo = [0u64; 16];
         return operate(op, old, new, used, a, &mut memo, known, index);
     }
-    let mut memo = [0u64; 8192];
-    operate(op, old, new, used, a, &mut memo, known, index)
+    if old.len() + new.len() <= 512 {
+        return up_to_512(op, old, new, used, a, known, index);
+    }
+    large(op, old, new, used, a, known, index)
 }
 
 // An operation on a store that it may append to. A type without parts asks no memory.
@@ -142,19 +154,14 @@ pub fn run(
     requires { ⌜ Knows (take used (now old ++ now new)) (now known) ⌝ }
     requires { ⌜ Covers (take used (now old ++ now new)) (now index) ⌝ }
     ensures { λ r. ⌜ Done op (now (old .entry)) (now (new .entry)) used a (now (new .exit)) r ⌝ }
+    ensures { λ r. ⌜ KnowsAfter op (now (old .entry)) (now (new .exit)) r (now (known .exit)) ⌝ }
 {
     if words::word(old, new, used, a) % 256 < 7 {
         let mut none = [0u64; 0];
         return operate(op, old, new, used, a, &mut none, known, index);
     }
-    let n = old.len() + new.len();
-    if n <= 512 {
-        return up_to_512(op, old, new, used, a, known, index);
-    }
-    if n <= 4096 {
-        return up_to_4096(op, old, new, used, a, known, index);
-    }
-    above(op, old, new, used, a, known, index)
+    let few = small::is_small(old, new, used, a);
+    sized(op, old, new, used, a, few, known, index)
 }
 
 // A meet that nothing is appended for: the used words are lent to be read, and there is no word behind them.
@@ -177,14 +184,17 @@ pub fn ask(old: &[u64], new: &mut [u64], used: usize, a: usize, b: usize, index:
             index,
         );
     }
-    let n = old.len();
-    if n <= 512 {
-        return up_to_512(Operation::Meet(b), old, new, used, a, &mut known, index);
-    }
-    if n <= 4096 {
-        return up_to_4096(Operation::Meet(b), old, new, used, a, &mut known, index);
-    }
-    above(Operation::Meet(b), old, new, used, a, &mut known, index)
+    let few = small::is_small(old, new, used, a);
+    sized(
+        Operation::Meet(b),
+        old,
+        new,
+        used,
+        a,
+        few,
+        &mut known,
+        index,
+    )
 }
 
 // Whether both operands are small.
@@ -197,7 +207,7 @@ fn both_small(old: &[u64], new: &[u64], used: usize, a: usize, b: usize) -> bool
     false
 }
 
-// join has a memory for its three duals, of both operands and of a meet that is no larger than both together, and one for the meet.
+// join has a memory for its three duals, of both operands and of a meet that is no larger than both together, and one for the meet: a half each.
 pub fn join(
     old: &[u64],
     new: &mut [u64],
@@ -210,19 +220,18 @@ pub fn join(
     requires { ⌜ Covers (take used (now old ++ now new)) (now index) ⌝ }
     ensures { λ r. ⌜ Runs (λ u. joinOf u a b) (now (old .entry)) (now (new .entry)) used (now (new .exit)) r ⌝ }
 {
-    if both_small(old, new, used, a, b) {
-        let mut memo = [0u64; 64];
-        let mut pairs = [0u64; 16];
-        return join::join(old, new, used, a, b, &mut memo, &mut pairs, index);
-    }
-    if old.len() + new.len() <= 1024 {
-        let mut memo = [0u64; 1024];
-        let mut pairs = [0u64; 1024];
-        return join::join(old, new, used, a, b, &mut memo, &mut pairs, index);
-    }
-    let mut memo = [0u64; 8192];
-    let mut pairs = [0u64; 8192];
-    join::join(old, new, used, a, b, &mut memo, &mut pairs, index)
+    let mut known = [0u64; 0];
+    let few = both_small(old, new, used, a, b);
+    sized(
+        Operation::Join(b),
+        old,
+        new,
+        used,
+        a,
+        few,
+        &mut known,
+        index,
+    )
 }
 
 // The set of types that are known to be final is kept in `bits`, a bit for each word of the store, whatever they held.

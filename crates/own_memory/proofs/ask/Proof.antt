@@ -15,49 +15,28 @@ slice-aggregate-operate-2 : tie.Need-slice-aggregate-operate-2
 slice-aggregate-operate-2 c = search needs
 
 operate-requires : tie.Need-operate-requires
-operate-requires c κs = (c .before .before .before .before .before .before .before .before .before .pre .0, (zeros 0, (knows-blank _ 0, c .before .before .before .before .before .before .before .before .before .pre .1)))
+operate-requires c κs = let s = c .before .before .before .before .before .before .before .before .before in (s .pre .0, (zeros 0, (knows-blank _ 0, s .pre .1)))
 
 same-length : tie.Need-same-length
 same-length c = search needs
 
 returns : tie.Need-returns
-returns c = c .before .before .before .before .operate .ensures
+returns c = c .before .before .before .before .operate .ensures .0
 
-slice-aggregate-up-to-512 : tie.Need-slice-aggregate-up-to-512
-slice-aggregate-up-to-512 c = search needs
+is-small-requires : tie.Need-is-small-requires
+is-small-requires c κs = search needs
 
-up-to-512-requires : tie.Need-up-to-512-requires
-up-to-512-requires c κs = (c .before .before .before .before .before .before .before .before .before .pre .0, (knows-blank _ 0, c .before .before .before .before .before .before .before .before .before .pre .1))
+slice-aggregate-sized : tie.Need-slice-aggregate-sized
+slice-aggregate-sized c = search needs
+
+sized-requires : tie.Need-sized-requires
+sized-requires c κs = let s = c .before .before .before .before .before .before .before .before .before .before in (s .pre .0, (knows-blank _ 0, s .pre .1))
 
 same-length-2 : tie.Need-same-length-2
 same-length-2 c = search needs
 
 returns-2 : tie.Need-returns-2
-returns-2 c = c .before .before .before .up-to-512 .ensures
-
-slice-aggregate-up-to-4096 : tie.Need-slice-aggregate-up-to-4096
-slice-aggregate-up-to-4096 c = search needs
-
-up-to-4096-requires : tie.Need-up-to-4096-requires
-up-to-4096-requires c κs = (c .before .before .before .before .before .before .before .before .before .before .pre .0, (knows-blank _ 0, c .before .before .before .before .before .before .before .before .before .before .pre .1))
-
-same-length-3 : tie.Need-same-length-3
-same-length-3 c = search needs
-
-returns-3 : tie.Need-returns-3
-returns-3 c = c .before .before .before .up-to-4096 .ensures
-
-slice-aggregate-above : tie.Need-slice-aggregate-above
-slice-aggregate-above c = search needs
-
-above-requires : tie.Need-above-requires
-above-requires c κs = (c .before .before .before .before .before .before .before .before .before .before .pre .0, (knows-blank _ 0, c .before .before .before .before .before .before .before .before .before .before .pre .1))
-
-same-length-4 : tie.Need-same-length-4
-same-length-4 c = search needs
-
-returns-4 : tie.Need-returns-4
-returns-4 c = c .before .before .before .above .ensures
+returns-2 c = c .before .before .before .sized .ensures .0
 
 pub ask-spec : {M : Type 1} → statement M
 ask-spec =
@@ -69,15 +48,8 @@ ask-spec =
     operate-requires
     same-length
     returns
-    slice-aggregate-up-to-512
-    up-to-512-requires
+    is-small-requires
+    slice-aggregate-sized
+    sized-requires
     same-length-2
-    returns-2
-    slice-aggregate-up-to-4096
-    up-to-4096-requires
-    same-length-3
-    returns-3
-    slice-aggregate-above
-    above-requires
-    same-length-4
-    returns-4)
+    returns-2)

@@ -24,7 +24,7 @@ same-length : tie.Need-same-length
 same-length c = search needs
 
 returns : tie.Need-returns
-returns c = c .before .before .before .before .operate .ensures
+returns c = c .before .before .before .before .operate .ensures .0
 
 clear-requires : tie.Need-clear-requires
 clear-requires c κs = search needs
@@ -39,7 +39,7 @@ same-length-3 : tie.Need-same-length-3
 same-length-3 c = search needs
 
 returns-2 : tie.Need-returns-2
-returns-2 c = c .before .before .before .before .run .ensures
+returns-2 c = c .before .before .before .before .run .ensures .0
 
 pub make-ro-spec : {M : Type 1} → statement M
 make-ro-spec =

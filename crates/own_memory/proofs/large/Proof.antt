@@ -1,8 +1,8 @@
--- `own_memory::up_to_4096` meets its contract.
+-- `own_memory::large` meets its contract.
 use Rattle.words.proofs.Zeros.{zeros}
 use borrow.Author.Needs.{needs}
-use Rattle.own_memory.proofs.up_to_4096.Statement.{statement}
-use Rattle.own_memory.proofs.up_to_4096.Tie as tie
+use Rattle.own_memory.proofs.large.Statement.{statement}
+use Rattle.own_memory.proofs.large.Tie as tie
 
 add-n : tie.Need-add-n
 add-n c = search needs
@@ -11,7 +11,7 @@ slice-aggregate-operate : tie.Need-slice-aggregate-operate
 slice-aggregate-operate c = search needs
 
 operate-requires : tie.Need-operate-requires
-operate-requires c κs = (c .before .before .before .before .before .before .before .before .pre .0, (zeros 1024, c .before .before .before .before .before .before .before .before .pre .1))
+operate-requires c κs = let s = c .before .before .before .before .before .before .before .before in (s .pre .0, (zeros 1024, s .pre .1))
 
 same-length : tie.Need-same-length
 same-length c = search needs
@@ -26,7 +26,7 @@ slice-aggregate-operate-2 : tie.Need-slice-aggregate-operate-2
 slice-aggregate-operate-2 c = search needs
 
 operate-requires-2 : tie.Need-operate-requires-2
-operate-requires-2 c κs = (c .before .before .before .before .before .before .before .before .before .pre .0, (zeros 2048, c .before .before .before .before .before .before .before .before .before .pre .1))
+operate-requires-2 c κs = let s = c .before .before .before .before .before .before .before .before .before in (s .pre .0, (zeros 2048, s .pre .1))
 
 same-length-3 : tie.Need-same-length-3
 same-length-3 c = search needs
@@ -41,7 +41,7 @@ slice-aggregate-operate-3 : tie.Need-slice-aggregate-operate-3
 slice-aggregate-operate-3 c = search needs
 
 operate-requires-3 : tie.Need-operate-requires-3
-operate-requires-3 c κs = (c .before .before .before .before .before .before .before .before .before .pre .0, (zeros 4096, c .before .before .before .before .before .before .before .before .before .pre .1))
+operate-requires-3 c κs = let s = c .before .before .before .before .before .before .before .before .before .before in (s .pre .0, (zeros 4096, s .pre .1))
 
 same-length-5 : tie.Need-same-length-5
 same-length-5 c = search needs
@@ -52,8 +52,23 @@ same-length-6 c = search needs
 returns-3 : tie.Need-returns-3
 returns-3 c = c .before .before .before .before .before .operate3 .ensures
 
-pub up-to-4096-spec : {M : Type 1} → statement M
-up-to-4096-spec =
+slice-aggregate-operate-4 : tie.Need-slice-aggregate-operate-4
+slice-aggregate-operate-4 c = search needs
+
+operate-requires-4 : tie.Need-operate-requires-4
+operate-requires-4 c κs = let s = c .before .before .before .before .before .before .before .before .before .before in (s .pre .0, (zeros 8192, s .pre .1))
+
+same-length-7 : tie.Need-same-length-7
+same-length-7 c = search needs
+
+same-length-8 : tie.Need-same-length-8
+same-length-8 c = search needs
+
+returns-4 : tie.Need-returns-4
+returns-4 c = c .before .before .before .before .before .operate4 .ensures
+
+pub large-spec : {M : Type 1} → statement M
+large-spec =
     tie.close
     (tie.spec
     add-n
@@ -71,4 +86,9 @@ up-to-4096-spec =
     operate-requires-3
     same-length-5
     same-length-6
-    returns-3)
+    returns-3
+    slice-aggregate-operate-4
+    operate-requires-4
+    same-length-7
+    same-length-8
+    returns-4)

@@ -1,0 +1,117 @@
+-- The index of a store over a call: it stays one of the first words, and takes the rest in. Assumes nothing.
+use mathlib.Core.Path.{_≡_, sym, ap, _∙_}
+use mathlib.Core.Bool.{true}
+use mathlib.Core.List.{List, [], _++_, append-nil}
+use Prim.Native.Nat.{ℕ, _+_, _-_, _/_, _≤_, _<_}
+use native.Mathlib.Omega.{arith}
+use lib.ListN.{length, take, drop, getD, length-drop, drop-of-length-le}
+use lib.Seq.{length-take-le, length-front, take-at, drop-at, take-length, getD-take, getD-drop, ext-getD, take-take}
+use borrow.Rule.Slice.PartMut.{putMid, same-len-mid}
+use Rattle.words.specs.Table.{rows, entries, starts}
+use Rattle.bitset.specs.Bitset.{bitAt}
+use Rattle.wellformed.specs.Form.{wellFormed, usedWords}
+use Rattle.wellformed.proofs.Before.{tests}
+use Rattle.index.specs.Covers.{indexedTo, Covers, Opened}
+use Rattle.later.specs.Later.{Later}
+use Rattle.opened.specs.OpenStore.{marksSize, indexSize, chainsOf, IndexOf}
+use Rattle.opened.specs.Steps.{Stale}
+
+-- ---- later words: the first ones are the same, but for word 0
+
+module _ {u v : List ℕ} (x : Later u v) (n : ℕ) (fits : n ≤ length u) where
+  pub front-same : drop 1 (take n v) ≡ drop 1 (take n u)
+  front-same =
+      let a : length (take n v) ≡ n = length-take-le n v (omega (arith, x .long)) in
+      let b : length (take n u) ≡ n = length-take-le n u fits in
+      ext-getD 0 (drop 1 (take n v)) (drop 1 (take n u)) (omega (arith, length-drop 1 (take n v), length-drop 1 (take n u), a, b)) (λ i l.
+      let k : 1 + i < n = omega (arith, length-drop 1 (take n v), a) in
+      getD-drop 1 (take n v) i 0 ∙ getD-take n v (1 + i) 0 k ∙ x .words (1 + i) (omega arith) (omega arith) ∙ sym (getD-drop 1 (take n u) i 0 ∙ getD-take n u (1 + i) 0 k))
+
+  pub entries-same : entries (take n v) ≡ entries (take n u)
+  unfolding entries
+  entries-same = ap (rows 1 0) front-same
+
+pub covers-later : (u v index : List ℕ) → Later u v → Covers u index → Covers v index
+covers-later u v index x c =
+    let n = indexedTo index in
+    let a : length (take n v) ≡ n = length-take-le n v (omega (arith, x .long, c .high)) in
+    let b : length (take n u) ≡ n = length-take-le n u (c .high) in
+    record {
+      low = c .low;
+      high = omega (arith, c .high, x .long);
+      cut = rw (front-same x n (c .high)) (c .cut);
+      indexed = λ some.
+          let i = c .indexed some in
+          record { room = omega (arith, i .room, a, b); holds = rw (entries-same x n (c .high)) (i .holds) };
+    }
+
+-- ---- the index of a store
+
+module _ (ws index : List ℕ) (ok : wellFormed ws ≡ true) where
+  pub used-long : length (usedWords ws) ≡ getD ws 0 0
+  used-long = length-take-le (getD ws 0 0) ws (tests ws ok .within)
+
+  module _ (x : IndexOf ws index) where
+    pub chains-long : length (usedWords ws) ≤ length (chainsOf ws index) / 2
+    chains-long = omega (arith, used-long, tests ws ok .within, x .room, length-drop (marksSize (length ws)) index)
+
+    pub all-in : indexedTo (chainsOf ws index) ≡ length (usedWords ws)
+    all-in = x .chains .all chains-long
+
+    -- a later store of the same length
+    pub stale : (vs : List ℕ) → length vs ≡ length ws → Later (usedWords ws) (usedWords vs) → wellFormed vs ≡ true → Stale vs index
+    stale vs same l well =
+        let u = usedWords ws in
+        let n = length u in
+        let e : take n (usedWords vs) ≡ take n vs = take-take n (getD vs 0 0) vs (omega (arith, l .long, length-take-le (getD vs 0 0) vs (tests vs well .within))) in
+        let f : take n u ≡ u = take-take n (getD ws 0 0) ws (omega (arith, used-long)) ∙ ap (λ (k : ℕ). take k ws) used-long in
+        let g : entries (take n vs) ≡ entries u = ap entries (sym e) ∙ entries-same l n (omega arith) ∙ ap entries f in
+        record {
+          room = rw same (x .room);
+          covers = rw same (covers-later u (usedWords vs) (chainsOf ws index) l (x .chains .covers));
+          marks = rw (same, all-in, g) (x .marks);
+        }
+
+-- ---- the two parts of the index, lent one after the other
+
+pub tail-all : (k : ℕ) (l : List ℕ) → take (length l - k) (drop k l) ≡ drop k l
+tail-all k l = ap (λ (n : ℕ). take n (drop k l)) (sym (length-drop k l)) ∙ take-length (drop k l)
+
+module _ (ws index : List ℕ) (k : ℕ) (is : k ≡ marksSize (length ws)) (room : indexSize (length ws) ≤ length index) where
+  pub k-fits : k ≤ length index
+  k-fits = omega (arith, is, room)
+
+  pub marks-long : k ≡ length (take k index)
+  marks-long = sym (length-take-le k index k-fits)
+
+  -- the marks came back
+  module _ (bits : List ℕ) (same : length bits ≡ length (take k index)) where
+    abbrev two : List ℕ
+    two = bits ++ drop k index
+
+    bits-long : length bits ≡ k
+    bits-long = same ∙ length-take-le k index k-fits
+
+    pub two-long : length two ≡ length index
+    two-long = length-front index bits k same
+
+    pub two-marks : take k two ≡ bits
+    two-marks = take-at bits (drop k index) k bits-long
+
+    pub two-chains : take (length two - k) (drop k two) ≡ drop k index
+    two-chains = tail-all k two ∙ drop-at bits (drop k index) k bits-long
+
+    -- and then the chains
+    module _ (chains : List ℕ) (long : length chains ≡ length (take (length two - k) (drop k two))) where
+      pub three-index : bitAt bits ≡ starts (usedWords ws) → Opened (usedWords ws) chains → IndexOf ws (putMid k (length two - k) two chains)
+      three-index marks opened =
+          let t : length (take k two) ≡ k = length-take-le k two (omega (arith, two-long, k-fits)) in
+          let rest = chains ++ drop (length two - k) (drop k two) in
+          let none : drop (length two - k) (drop k two) ≡ [] = drop-of-length-le (drop k two) {i = length two - k} (omega (arith, length-drop k two)) in
+          let front : take k (take k two ++ rest) ≡ bits = take-at (take k two) rest k t ∙ two-marks in
+          let back : drop k (take k two ++ rest) ≡ chains = drop-at (take k two) rest k t ∙ rw none (append-nil chains) in
+          record {
+            room = omega (arith, same-len-mid k (length two - k) two chains long, two-long, room);
+            marks = rw (sym is, front) marks;
+            chains = rw (sym is, back) opened;
+          }

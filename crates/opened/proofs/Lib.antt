@@ -1,0 +1,4 @@
+pub mod Marks
+pub mod Index
+pub mod Store
+pub mod Opens

@@ -1,0 +1,137 @@
+-- What an opened store gives its calls, and what they leave. Assumes nothing.
+use mathlib.Core.Path.{_≡_, refl, sym, ap, _∙_}
+use mathlib.Core.Bool.{Bool, true, false}
+use mathlib.Core.List.{List, [], _∷_, _++_}
+use Prim.Native.Nat.{ℕ, _+_, _*_, _-_, _≤_, _<_}
+use native.Mathlib.Omega.{arith}
+use borrow.Author.Tests.{eqb-true, eqb-false}
+use lib.Dec.{eqb}
+use lib.ListN.{length, take, drop, getD, replicate}
+use lib.Seq.{length-take-le, take-take}
+use Rattle.words.specs.Words.{fills}
+use Rattle.words.specs.Table.{rows, entries, isAt, starts}
+use Rattle.bitset.specs.Bitset.{bitAt, nowhere}
+use Rattle.wellformed.specs.Form.{wellFormed, usedWords}
+use Rattle.wellformed.proofs.Before.{tests}
+use Rattle.index.specs.Covers.{indexedTo, Covers}
+use Rattle.call.specs.declared.Made.{Made}
+use Rattle.call.specs.declared.Made.the-variants.{Handle, Refused}
+use Rattle.call.specs.Call.{Reply, left}
+use Rattle.call.specs.Steps.{usedOf, Open}
+use Rattle.call.specs.Keep.{Keeps}
+use Rattle.call.proofs.Keep.{well-sound}
+use Rattle.later.proofs.Keeps.{later-keeps}
+use Rattle.lent_memory.specs.Memory.{Right}
+use Rattle.lent_memory.proofs.Laws.{right-blank}
+use Rattle.every_call.specs.Run.{Call, run, typed}
+use Rattle.every_call.proofs.Keeps.{run-keeps}
+use Rattle.making.specs.Making.{Kept}
+use Rattle.opened.specs.OpenStore.{marksSize, chainsOf, IndexOf, OpenStore}
+use Rattle.opened.specs.Steps.{Stale, Forgot}
+use Rattle.opened.proofs.Index.{tail-all, two-chains, stale}
+
+-- ---- what is known of an opened store
+
+module _ (ws : List ℕ) (ok : wellFormed ws ≡ true) where
+  pub first-word : 0 < length ws
+  first-word = omega (arith, tests ws ok .least)
+
+  pub few-words : length ws ≤ 1048576
+  few-words = tests ws ok .most
+
+  pub used-is : getD ws 0 0 ≡ usedOf ws
+  unfolding usedOf
+  used-is = rw ok
+
+  pub used-some : getD ws 0 0 ≡ 0 → ⊥
+  used-some z = omega (arith, tests ws ok .enough)
+
+  pub used-low : 1 ≤ getD ws 0 0
+  used-low = omega (arith, tests ws ok .enough)
+
+  pub used-within : getD ws 0 0 ≤ length ws
+  used-within = tests ws ok .within
+
+module _ {ws index memory : List ℕ} (o : OpenStore ws index memory) (k : ℕ) (is : k ≡ marksSize (length ws)) where
+  pub marked-rows : Open ws (take k index) (getD ws 0 0)
+  marked-rows = record { within = tests ws (o .well) .within; marks = rw is (o .whole .marks) }
+
+  pub lent-covers : Covers (take (getD ws 0 0) ws) (take (length index - k) (drop k index))
+  lent-covers = rw (tail-all k index, is) (o .whole .chains .covers)
+
+-- ---- forgetting
+
+module _ (r : Made) (memory : List ℕ) where
+  pub forgot-all : (memory′ : List ℕ) (n : ℕ) → r ≡ Refused n → n ≡ 12 → memory′ ≡ replicate (length memory) 0 → Forgot r memory memory′
+  forgot-all memory′ n is e z = record { full = λ _. z; kept = λ ne. absurd (ne (is ∙ ap Refused e)) }
+
+  pub forgot-none : (n : ℕ) → r ≡ Refused n → (n ≡ 12 → ⊥) → Forgot r memory memory
+  forgot-none n is ne = record { full = λ e. absurd (ne (number n 12 (sym is ∙ e))); kept = λ _. refl }
+    where
+      number : (a b : ℕ) → Refused a ≡ Refused b → a ≡ b
+      number a b q = cc
+
+  pub forgot-handle : (h : ℕ) → r ≡ Handle h → Forgot r memory memory
+  forgot-handle h is = record { full = λ e. absurd (clash (sym is ∙ e)); kept = λ _. refl }
+    where
+      clash : Handle h ≡ Refused 12 → ⊥
+      clash q = let z : _≡_ {A = ℕ} 0 1 = cc in omega arith
+
+-- ---- what `extend` and `open` require of their parts
+
+module _ (ws : List ℕ) (ok : wellFormed ws ≡ true) where
+  pub used-fills : fills 0 (drop 1 (take (getD ws 0 0) ws)) ≡ true
+  used-fills = well-sound ws ok .full
+
+  module _ (index : List ℕ) (s : Stale ws index) (k : ℕ) (is : k ≡ marksSize (length ws)) where
+    chains-are : take (length index - k) (drop k index) ≡ chainsOf ws index
+    chains-are = tail-all k index ∙ ap (λ (n : ℕ). drop n index) is
+
+    abbrev Ready : ℕ → Type 0
+    Ready from = ((from ≤ getD ws 0 0) × (getD ws 0 0 ≤ length ws) × (getD ws 0 0 < 64 * length (take k index)))
+        × ((fills 0 (drop 1 (take from ws)) ≡ true) × (1 ≤ from) × (fills 0 (drop 1 (take (getD ws 0 0) ws)) ≡ true) × (bitAt (take k index) ≡ starts (take from ws)))
+
+    pub mark-ready : (from : ℕ) → from ≡ indexedTo (take (length index - k) (drop k index)) → Ready from
+    mark-ready from e =
+        let c = s .covers in
+        let n = length-take-le (getD ws 0 0) ws (tests ws ok .within) in
+        let f : from ≡ indexedTo (chainsOf ws index) = e ∙ ap indexedTo chains-are in
+        let h : from ≤ getD ws 0 0 = omega (arith, f, c .high, n) in
+        let t : length (take k index) ≡ k = length-take-le k index (omega (arith, is, s .room)) in
+        let p : take from (usedWords ws) ≡ take from ws = take-take from (getD ws 0 0) ws h in
+        let q : take (indexedTo (chainsOf ws index)) (usedWords ws) ≡ take from ws = rw (← f) p in (
+          (h, tests ws ok .within, omega (arith, t, is, tests ws ok .within)),
+          (rw q at (c .cut), omega (arith, f, c .low), used-fills, rw (is, f) (s .marks)),
+        )
+
+    pub extend-covers : (bits : List ℕ) → length bits ≡ length (take k index) → Covers (usedWords ws) (take (length (bits ++ drop k index) - k) (drop k (bits ++ drop k index)))
+    extend-covers bits same = rw (two-chains ws index k is (s .room) bits same, is) (s .covers)
+
+-- no entry starts in word 0
+pub no-starts : (ws : List ℕ) → nowhere ≡ starts (take 1 ws)
+unfolding nowhere isAt entries rows
+no-starts [] = refl
+no-starts (w ∷ ws) = refl
+
+-- ---- over a call
+
+module _ (ws ws′ : List ℕ) (c : Call) (t : typed c ≡ true) (ok : wellFormed ws ≡ true) (r : Reply) (q : left r ws′ ≡ run c ws) where
+  keeps : Keeps ws (left r ws′)
+  keeps = rw q (run-keeps c t ws ok)
+
+  pub after-well : wellFormed ws′ ≡ true
+  after-well = keeps .well
+
+  pub after-stale : (index : List ℕ) → length ws′ ≡ length ws → IndexOf ws index → Stale ws′ index
+  after-stale index same x = stale ws index ok x ws′ same (later-keeps ws (left r ws′) ok keeps) after-well
+
+pub after-right : (r : Made) (ws memory memory′ : List ℕ) → Kept r ws memory → Forgot r memory memory′ → Right (usedWords ws) memory′
+after-right (Handle h) ws memory memory′ k f = let ne : Handle h ≡ Refused 12 → ⊥ = (λ e. let z : _≡_ {A = ℕ} 0 1 = cc in absurd (omega arith)) in rw (f .kept ne) (k .right ne)
+after-right (Refused n) ws memory memory′ k f = go (eqb n 12) refl
+  where
+    number : Refused n ≡ Refused 12 → n ≡ 12
+    number q = cc
+
+    go : (b : Bool) → eqb n 12 ≡ b → Right (usedWords ws) memory′
+    go true e = rw (f .full (ap Refused (eqb-true n 12 e))) (right-blank (usedWords ws) (length memory))
+    go false e = let ne : Refused n ≡ Refused 12 → ⊥ = (λ q. eqb-false n 12 e (number q)) in rw (f .kept ne) (k .right ne)

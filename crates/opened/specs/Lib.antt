@@ -1,0 +1,2 @@
+pub mod OpenStore
+pub mod Steps

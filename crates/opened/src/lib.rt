@@ -1,0 +1,145 @@
+// A store that is opened: row 1 is tested once, and an index and a memory of answers are kept in lent lists beside it. A call then goes the way of a plain one but for row 1:
+// its rows, its operation with the index and the memory, the end; then what was appended is taken into the index. That nobody else writes the three lists between two calls is required,
+// and in Rattle shown by the caller.
+use asking::Asking;
+use call::Answer;
+use call::Done;
+use call::Made;
+use making::Making;
+ghost use mathlib.Core.Path.{_≡_};
+ghost use mathlib.Core.Bool.{true};
+ghost use Prim.Native.Nat.{_*_, _≤_, _<_};
+ghost use lib.ListN.{length, take, drop};
+ghost use Rattle.words.specs.Words.{fills};
+ghost use Rattle.words.specs.Table.{starts};
+ghost use Rattle.bitset.specs.Bitset.{bitAt};
+ghost use Rattle.wellformed.specs.Form.{wellFormed};
+ghost use Rattle.call.specs.Call.{left, made, told, done};
+ghost use Rattle.every_call.specs.Run.{run};
+ghost use Rattle.making.specs.Making.{appended};
+ghost use Rattle.asking.specs.Asking.{asked};
+ghost use Rattle.opened.specs.OpenStore.{marksSize, IndexOf, OpenStore, openReply, Opening};
+ghost use Rattle.opened.specs.Steps.{Stale, Forgot};
+
+// ---- the index
+
+// How many words of an index mark the entries of a list of n words.
+fn marks_size(n: usize) -> usize
+    requires { ⌜ n ≤ 1048576 ⌝ }
+    ensures { λ r. ⌜ (r ≡ marksSize n) × (r ≤ 16385) ⌝ }
+{
+    n / 64 + 1
+}
+
+// Marks the entries from `from` on.
+fn mark_from(words: &[u64], from: usize, used: usize, bits: &mut [u64])
+    requires { ⌜ (from ≤ used) × (used ≤ length (now words)) × (used < 64 * length (now bits)) ⌝ }
+    requires { ⌜ (fills 0 (drop 1 (take from (now words))) ≡ true) × (1 ≤ from) × (fills 0 (drop 1 (take used (now words))) ≡ true) × (bitAt (now bits) ≡ starts (take from (now words))) ⌝ }
+    ensures { λ _. ⌜ bitAt (now (bits .exit)) ≡ starts (take used (now (words .entry))) ⌝ }
+{
+    let mut at = from;
+    while at < used {
+        bitset::mark(bits, at);
+        at += words::size(words[at]);
+    }
+}
+
+// Takes the entries that a call has appended into the index.
+fn extend(words: &[u64], index: &mut [u64])
+    requires { ⌜ wellFormed (now words) ≡ true ⌝ }
+    requires { ⌜ Stale (now words) (now index) ⌝ }
+    ensures { λ _. ⌜ IndexOf (now (words .entry)) (now (index .exit)) ⌝ }
+{
+    let used = words[0] as usize;
+    let k = marks_size(words.len());
+    let from = index::covered(&index[k..]);
+    mark_from(words, from, used, &mut index[..k]);
+    index::extend(words, used, &mut index[k..]);
+}
+
+// ---- opening
+
+// Tests row 1, and makes the index and a blank memory.
+pub fn open(words: &[u64], index: &mut [u64], memory: &mut [u64]) -> Done
+    ensures { λ r. ⌜ done r ≡ openReply (now (words .entry)) (length (now (index .entry))) ⌝ }
+    ensures { λ r. ⌜ Opening (now (words .entry)) (now (index .entry)) (now (memory .entry)) (now (index .exit)) (now (memory .exit)) r ⌝ }
+{
+    if !wellformed::well_formed(words) {
+        return Done::Refused(1);
+    }
+    let n = words.len();
+    let k = marks_size(n);
+    if index.len() < k + 2 * n {
+        return Done::Refused(11);
+    }
+    let used = words[0] as usize;
+    bitset::clear(&mut index[..k]);
+    mark_from(words, 1, used, &mut index[..k]);
+    index::open(words, used, &mut index[k..]);
+    words::clear(memory);
+    Done::Accepted
+}
+
+// ---- calls
+
+// After 12 the store is put back as it was, and whatever was remembered on the way is forgotten.
+fn forget(r: Made, memory: &mut [u64])
+    ensures { λ _. ⌜ Forgot r (now (memory .entry)) (now (memory .exit)) ⌝ }
+{
+    if let Made::Refused(n) = r {
+        if n == 12 {
+            words::clear(memory);
+        }
+    }
+}
+
+// A call that appends.
+pub fn append(
+    words: &mut [u64],
+    index: &mut [u64],
+    memory: &mut [u64],
+    making: Making,
+    list: &[u64],
+    text: &[u8],
+) -> Made
+    requires { ⌜ OpenStore (now words) (now index) (now memory) ⌝ }
+    ensures { λ r. ⌜ left (made r) (now (words .exit)) ≡ run (appended making (now (list .entry)) (now (text .entry))) (now (words .entry)) ⌝ }
+    ensures { λ _. ⌜ OpenStore (now (words .exit)) (now (index .exit)) (now (memory .exit)) ⌝ }
+{
+    let used = words[0] as usize;
+    let k = marks_size(words.len());
+    let no = making::rows_of(words, used, &index[..k], making, list, text);
+    if no != 0 {
+        return Made::Refused(no);
+    }
+    let mut none = [0u64; 0];
+    let r = making::append(
+        words,
+        used,
+        making,
+        list,
+        text,
+        &mut none,
+        memory,
+        &index[k..],
+    );
+    forget(r, memory);
+    extend(words, index);
+    r
+}
+
+// A call that only reads.
+pub fn ask(words: &[u64], index: &[u64], memory: &mut [u64], asking: Asking) -> Answer
+    requires { ⌜ OpenStore (now words) (now index) (now memory) ⌝ }
+    ensures { λ r. ⌜ left (told r) (now (words .entry)) ≡ run (asked asking) (now (words .entry)) ⌝ }
+    ensures { λ _. ⌜ OpenStore (now (words .entry)) (now (index .entry)) (now (memory .exit)) ⌝ }
+{
+    let used = words[0] as usize;
+    let k = marks_size(words.len());
+    let no = asking::rows_of(words, used, &index[..k], asking);
+    if no != 0 {
+        return Answer::Refused(no);
+    }
+    let mut none = [0u64; 0];
+    asking::tell(words, used, asking, &mut none, memory, &index[k..])
+}

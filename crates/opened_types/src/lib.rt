@@ -1,0 +1,174 @@
+// The makers of `Types` on an opened store: words that `opened::open` has taken, with their index and memory, and that nobody else has written since. Row 1 is not tested
+// again. What a call answers and leaves of the words is what the plain call of the same name does, and the store is open again, also where the call was refused.
+use asking::Asking;
+use call::Answer;
+use call::Made;
+use making::Making;
+ghost use mathlib.Core.Path.{_≡_};
+ghost use Rattle.call.specs.Call.{left, made, told};
+ghost use Rattle.every_call.specs.Run.{run, kind, get_bool, get_int, make_int, get_float, make_float, get_tuple, get_str, get_struct, make_ary, make_struct_fref, get_mem_ptr, get_mem};
+ghost use Rattle.opened.specs.OpenStore.{OpenStore};
+
+// The kind of a type, which the Rust's casts stand for.
+pub fn kind(words: &[u64], index: &[u64], memory: &mut [u64], h: u64) -> Answer
+    requires { ⌜ OpenStore (now words) (now index) (now memory) ⌝ }
+    ensures { λ r. ⌜ left (told r) (now (words .entry)) ≡ run (kind h) (now (words .entry)) ⌝ }
+    ensures { λ _. ⌜ OpenStore (now (words .entry)) (now (index .entry)) (now (memory .exit)) ⌝ }
+{
+    opened::ask(words, index, memory, Asking::Kind(h))
+}
+
+// The Int 0..0 or 1..1, for a flag.
+pub fn get_bool(words: &[u64], index: &[u64], memory: &mut [u64], value: u64) -> Answer
+    requires { ⌜ OpenStore (now words) (now index) (now memory) ⌝ }
+    ensures { λ r. ⌜ left (told r) (now (words .entry)) ≡ run (get_bool value) (now (words .entry)) ⌝ }
+    ensures { λ _. ⌜ OpenStore (now (words .entry)) (now (index .entry)) (now (memory .exit)) ⌝ }
+{
+    opened::ask(words, index, memory, Asking::GetBool(value))
+}
+
+// The Int of one value.
+pub fn get_int(words: &mut [u64], index: &mut [u64], memory: &mut [u64], value: u64) -> Made
+    requires { ⌜ OpenStore (now words) (now index) (now memory) ⌝ }
+    ensures { λ r. ⌜ left (made r) (now (words .exit)) ≡ run (get_int value) (now (words .entry)) ⌝ }
+    ensures { λ _. ⌜ OpenStore (now (words .exit)) (now (index .exit)) (now (memory .exit)) ⌝ }
+{
+    opened::append(
+        words,
+        index,
+        memory,
+        Making::MakeInt(value, value),
+        &[],
+        b"",
+    )
+}
+
+// The Int of a range, high ones included.
+pub fn make_int(
+    words: &mut [u64],
+    index: &mut [u64],
+    memory: &mut [u64],
+    min: u64,
+    max: u64,
+) -> Made
+    requires { ⌜ OpenStore (now words) (now index) (now memory) ⌝ }
+    ensures { λ r. ⌜ left (made r) (now (words .exit)) ≡ run (make_int min max) (now (words .entry)) ⌝ }
+    ensures { λ _. ⌜ OpenStore (now (words .exit)) (now (index .exit)) (now (memory .exit)) ⌝ }
+{
+    opened::append(words, index, memory, Making::MakeInt(min, max), &[], b"")
+}
+
+// The Float of a constant, by its bits.
+pub fn get_float(words: &mut [u64], index: &mut [u64], memory: &mut [u64], bits: u64) -> Made
+    requires { ⌜ OpenStore (now words) (now index) (now memory) ⌝ }
+    ensures { λ r. ⌜ left (made r) (now (words .exit)) ≡ run (get_float bits) (now (words .entry)) ⌝ }
+    ensures { λ _. ⌜ OpenStore (now (words .exit)) (now (index .exit)) (now (memory .exit)) ⌝ }
+{
+    opened::append(words, index, memory, Making::MakeFloat(0, bits), &[], b"")
+}
+
+// The Float of a size, or of a constant (size 0), by its bits.
+pub fn make_float(
+    words: &mut [u64],
+    index: &mut [u64],
+    memory: &mut [u64],
+    sz: u64,
+    bits: u64,
+) -> Made
+    requires { ⌜ OpenStore (now words) (now index) (now memory) ⌝ }
+    ensures { λ r. ⌜ left (made r) (now (words .exit)) ≡ run (make_float sz bits) (now (words .entry)) ⌝ }
+    ensures { λ _. ⌜ OpenStore (now (words .exit)) (now (index .exit)) (now (memory .exit)) ⌝ }
+{
+    opened::append(words, index, memory, Making::MakeFloat(sz, bits), &[], b"")
+}
+
+// A tuple of the types whose handles are lent.
+pub fn get_tuple(words: &mut [u64], index: &mut [u64], memory: &mut [u64], types: &[u64]) -> Made
+    requires { ⌜ OpenStore (now words) (now index) (now memory) ⌝ }
+    ensures { λ r. ⌜ left (made r) (now (words .exit)) ≡ run (get_tuple (now (types .entry))) (now (words .entry)) ⌝ }
+    ensures { λ _. ⌜ OpenStore (now (words .exit)) (now (index .exit)) (now (memory .exit)) ⌝ }
+{
+    opened::append(words, index, memory, Making::GetTuple, types, b"")
+}
+
+// A name of lent bytes.
+pub fn get_str(words: &mut [u64], index: &mut [u64], memory: &mut [u64], name: &[u8]) -> Made
+    requires { ⌜ OpenStore (now words) (now index) (now memory) ⌝ }
+    ensures { λ r. ⌜ left (made r) (now (words .exit)) ≡ run (get_str (now (name .entry))) (now (words .entry)) ⌝ }
+    ensures { λ _. ⌜ OpenStore (now (words .exit)) (now (index .exit)) (now (memory .exit)) ⌝ }
+{
+    opened::append(words, index, memory, Making::GetStr, &[], name)
+}
+
+// A struct of a name and lent fields, four words a field: name, type, alias, final.
+pub fn get_struct(
+    words: &mut [u64],
+    index: &mut [u64],
+    memory: &mut [u64],
+    name: u64,
+    fields: &[u64],
+) -> Made
+    requires { ⌜ OpenStore (now words) (now index) (now memory) ⌝ }
+    ensures { λ r. ⌜ left (made r) (now (words .exit)) ≡ run (get_struct name (now (fields .entry))) (now (words .entry)) ⌝ }
+    ensures { λ _. ⌜ OpenStore (now (words .exit)) (now (index .exit)) (now (memory .exit)) ⌝ }
+{
+    opened::append(words, index, memory, Making::GetStruct(name), fields, b"")
+}
+
+// An array struct, whose name is the lent text in brackets.
+pub fn make_ary(
+    words: &mut [u64],
+    index: &mut [u64],
+    memory: &mut [u64],
+    len: u64,
+    len_alias: u64,
+    body: u64,
+    body_alias: u64,
+    text: &[u8],
+) -> Made
+    requires { ⌜ OpenStore (now words) (now index) (now memory) ⌝ }
+    ensures { λ r. ⌜ left (made r) (now (words .exit)) ≡ run (make_ary len «len_alias» body «body_alias» (now (text .entry))) (now (words .entry)) ⌝ }
+    ensures { λ _. ⌜ OpenStore (now (words .exit)) (now (index .exit)) (now (memory .exit)) ⌝ }
+{
+    opened::append(
+        words,
+        index,
+        memory,
+        Making::MakeAry(len, len_alias, body, body_alias),
+        &[],
+        text,
+    )
+}
+
+// The forward reference of a name.
+pub fn make_struct_fref(words: &mut [u64], index: &mut [u64], memory: &mut [u64], name: u64) -> Made
+    requires { ⌜ OpenStore (now words) (now index) (now memory) ⌝ }
+    ensures { λ r. ⌜ left (made r) (now (words .exit)) ≡ run (make_struct_fref name) (now (words .entry)) ⌝ }
+    ensures { λ _. ⌜ OpenStore (now (words .exit)) (now (index .exit)) (now (memory .exit)) ⌝ }
+{
+    opened::append(words, index, memory, Making::MakeStructFref(name), &[], b"")
+}
+
+// A pointer to a struct or a forward reference; `nil` is a flag.
+pub fn get_mem_ptr(
+    words: &mut [u64],
+    index: &mut [u64],
+    memory: &mut [u64],
+    to: u64,
+    nil: u64,
+) -> Made
+    requires { ⌜ OpenStore (now words) (now index) (now memory) ⌝ }
+    ensures { λ r. ⌜ left (made r) (now (words .exit)) ≡ run (get_mem_ptr to nil) (now (words .entry)) ⌝ }
+    ensures { λ _. ⌜ OpenStore (now (words .exit)) (now (index .exit)) (now (memory .exit)) ⌝ }
+{
+    opened::append(words, index, memory, Making::GetMemPtr(to, nil), &[], b"")
+}
+
+// A memory of an alias and a type.
+pub fn get_mem(words: &mut [u64], index: &mut [u64], memory: &mut [u64], alias: u64, t: u64) -> Made
+    requires { ⌜ OpenStore (now words) (now index) (now memory) ⌝ }
+    ensures { λ r. ⌜ left (made r) (now (words .exit)) ≡ run (get_mem alias t) (now (words .entry)) ⌝ }
+    ensures { λ _. ⌜ OpenStore (now (words .exit)) (now (index .exit)) (now (memory .exit)) ⌝ }
+{
+    opened::append(words, index, memory, Making::GetMem(alias, t), &[], b"")
+}
