@@ -1,16 +1,25 @@
 // The calls for C and Rust: a static library. A slice is a pointer and a length there. The answer is one word: a handle, a number, 1 or 0 for yes or no, 0 for accepted, or
 // refusal n as 2 to the 63 + n.
+use asking::Asking;
+use call::Answer;
 use call::Done;
-use call::Flag;
 use call::Made;
-use call::Number;
+use making::Making;
+use walk_rules::Walk;
 ghost use mathlib.Core.Path.{_≡_};
+ghost use mathlib.Core.List.{[]};
 ghost use Prim.Native.Nat.{_+_};
-ghost use Rattle.call.specs.Call.{made, told, said, done};
+ghost use lib.ListN.{length};
+ghost use Rattle.call.specs.Call.{made, told, done};
 ghost use Rattle.wellformed.specs.Form.{wellFormed};
-ghost use Rattle.lattice_c.specs.Code.{code, Coded};
-ghost use Rattle.ty_calls.specs.Ty.{meetCall, isaCall, dualCall, joinCall, glbCall, lubCall, isFinalCall, makeRoCall};
-ghost use Rattle.makers.specs.Makers.{freshCall, kindCall, getBoolCall, getIntCall, makeIntCall, getFloatCall, makeFloatCall, getTupleCall, getStrCall, getStructCall, makeAryCall, makeStructFrefCall, getMemPtrCall, getMemCall};
+ghost use Rattle.makers.specs.Makers.{freshCall};
+ghost use Rattle.every_call.specs.Run.{run, kind, get_bool, get_int, make_int, get_float, make_float, get_tuple, get_str, get_struct, make_ary, make_struct_fref, get_mem_ptr, get_mem, meet, isa, dual, join, glb, lub, is_final, make_ro};
+ghost use Rattle.making.specs.Making.{appended};
+ghost use Rattle.asking.specs.Asking.{asked};
+ghost use Rattle.opened.specs.OpenStore.{OpenStore, openReply};
+ghost use Rattle.lattice_c.specs.Code.{code, Coded, CodedOpening};
+
+// ---- answers as words
 
 fn refusal(n: u8) -> u64
     ensures { λ r. ⌜ r ≡ 9223372036854775808 + n ⌝ }
@@ -27,26 +36,19 @@ fn of_made(m: Made) -> u64
     }
 }
 
-fn of_number(m: Number) -> u64
+fn of_answer(m: Answer) -> u64
     ensures { λ r. ⌜ r ≡ code (told m) ⌝ }
 {
     match m {
-        Number::Is(n) => n,
-        Number::Refused(n) => refusal(n),
-    }
-}
-
-fn of_flag(m: Flag) -> u64
-    ensures { λ r. ⌜ r ≡ code (said m) ⌝ }
-{
-    match m {
-        Flag::Is(yes) => {
+        Answer::Handle(h) => h,
+        Answer::Number(n) => n,
+        Answer::Flag(yes) => {
             if yes {
                 return 1;
             }
             0
         }
-        Flag::Refused(n) => refusal(n),
+        Answer::Refused(n) => refusal(n),
     }
 }
 
@@ -57,6 +59,27 @@ fn of_done(m: Done) -> u64
         Done::Accepted => 0,
         Done::Refused(n) => refusal(n),
     }
+}
+
+// ---- the calls
+
+fn append(words: &mut [u64], making: Making, list: &[u64], text: &[u8]) -> u64
+    ensures { λ r. ⌜ Coded (run (appended making (now (list .entry)) (now (text .entry))) (now (words .entry))) r (now (words .exit)) ⌝ }
+{
+    of_made(plain::append(words, making, list, text))
+}
+
+// A call that has neither a list nor a text.
+fn make(words: &mut [u64], making: Making) -> u64
+    ensures { λ r. ⌜ Coded (run (appended making [] []) (now (words .entry))) r (now (words .exit)) ⌝ }
+{
+    append(words, making, &[], b"")
+}
+
+fn ask(words: &[u64], asking: Asking) -> u64
+    ensures { λ r. ⌜ Coded (run (asked asking) (now (words .entry))) r (now (words .entry)) ⌝ }
+{
+    of_answer(plain::ask(words, asking))
 }
 
 #[no_mangle]
@@ -75,65 +98,65 @@ pub extern "C" fn ferigulan_fresh(words: &mut [u64]) -> u64
 
 #[no_mangle]
 pub extern "C" fn ferigulan_kind(words: &[u64], h: u64) -> u64
-    ensures { λ r. ⌜ Coded (kindCall h (now (words .entry))) r (now (words .entry)) ⌝ }
+    ensures { λ r. ⌜ Coded (run (kind h) (now (words .entry))) r (now (words .entry)) ⌝ }
 {
-    of_number(types::kind(words, h))
+    ask(words, Asking::Kind(h))
 }
 
 #[no_mangle]
 pub extern "C" fn ferigulan_get_bool(words: &[u64], value: u64) -> u64
-    ensures { λ r. ⌜ Coded (getBoolCall value (now (words .entry))) r (now (words .entry)) ⌝ }
+    ensures { λ r. ⌜ Coded (run (get_bool value) (now (words .entry))) r (now (words .entry)) ⌝ }
 {
-    of_made(types::get_bool(words, value))
+    ask(words, Asking::GetBool(value))
 }
 
 #[no_mangle]
 pub extern "C" fn ferigulan_get_int(words: &mut [u64], value: u64) -> u64
-    ensures { λ r. ⌜ Coded (getIntCall value (now (words .entry))) r (now (words .exit)) ⌝ }
+    ensures { λ r. ⌜ Coded (run (get_int value) (now (words .entry))) r (now (words .exit)) ⌝ }
 {
-    of_made(types::get_int(words, value))
+    make(words, Making::MakeInt(value, value))
 }
 
 #[no_mangle]
 pub extern "C" fn ferigulan_make_int(words: &mut [u64], min: u64, max: u64) -> u64
-    ensures { λ r. ⌜ Coded (makeIntCall min max (now (words .entry))) r (now (words .exit)) ⌝ }
+    ensures { λ r. ⌜ Coded (run (make_int min max) (now (words .entry))) r (now (words .exit)) ⌝ }
 {
-    of_made(types::make_int(words, min, max))
+    make(words, Making::MakeInt(min, max))
 }
 
 #[no_mangle]
 pub extern "C" fn ferigulan_get_float(words: &mut [u64], bits: u64) -> u64
-    ensures { λ r. ⌜ Coded (getFloatCall bits (now (words .entry))) r (now (words .exit)) ⌝ }
+    ensures { λ r. ⌜ Coded (run (get_float bits) (now (words .entry))) r (now (words .exit)) ⌝ }
 {
-    of_made(types::get_float(words, bits))
+    make(words, Making::MakeFloat(0, bits))
 }
 
 #[no_mangle]
 pub extern "C" fn ferigulan_make_float(words: &mut [u64], sz: u64, bits: u64) -> u64
-    ensures { λ r. ⌜ Coded (makeFloatCall sz bits (now (words .entry))) r (now (words .exit)) ⌝ }
+    ensures { λ r. ⌜ Coded (run (make_float sz bits) (now (words .entry))) r (now (words .exit)) ⌝ }
 {
-    of_made(types::make_float(words, sz, bits))
+    make(words, Making::MakeFloat(sz, bits))
 }
 
 #[no_mangle]
 pub extern "C" fn ferigulan_get_tuple(words: &mut [u64], types: &[u64]) -> u64
-    ensures { λ r. ⌜ Coded (getTupleCall (now (types .entry)) (now (words .entry))) r (now (words .exit)) ⌝ }
+    ensures { λ r. ⌜ Coded (run (get_tuple (now (types .entry))) (now (words .entry))) r (now (words .exit)) ⌝ }
 {
-    of_made(types::get_tuple(words, types))
+    append(words, Making::GetTuple, types, b"")
 }
 
 #[no_mangle]
 pub extern "C" fn ferigulan_get_str(words: &mut [u64], name: &[u8]) -> u64
-    ensures { λ r. ⌜ Coded (getStrCall (now (name .entry)) (now (words .entry))) r (now (words .exit)) ⌝ }
+    ensures { λ r. ⌜ Coded (run (get_str (now (name .entry))) (now (words .entry))) r (now (words .exit)) ⌝ }
 {
-    of_made(types::get_str(words, name))
+    append(words, Making::GetStr, &[], name)
 }
 
 #[no_mangle]
 pub extern "C" fn ferigulan_get_struct(words: &mut [u64], name: u64, fields: &[u64]) -> u64
-    ensures { λ r. ⌜ Coded (getStructCall name (now (fields .entry)) (now (words .entry))) r (now (words .exit)) ⌝ }
+    ensures { λ r. ⌜ Coded (run (get_struct name (now (fields .entry))) (now (words .entry))) r (now (words .exit)) ⌝ }
 {
-    of_made(types::get_struct(words, name, fields))
+    append(words, Making::GetStruct(name), fields, b"")
 }
 
 #[no_mangle]
@@ -145,84 +168,448 @@ pub extern "C" fn ferigulan_make_ary(
     body_alias: u64,
     text: &[u8],
 ) -> u64
-    ensures { λ r. ⌜ Coded (makeAryCall len «len_alias» body «body_alias» (now (text .entry)) (now (words .entry))) r (now (words .exit)) ⌝ }
+    ensures { λ r. ⌜ Coded (run (make_ary len «len_alias» body «body_alias» (now (text .entry))) (now (words .entry))) r (now (words .exit)) ⌝ }
 {
-    of_made(types::make_ary(words, len, len_alias, body, body_alias, text))
+    append(
+        words,
+        Making::MakeAry(len, len_alias, body, body_alias),
+        &[],
+        text,
+    )
 }
 
 #[no_mangle]
 pub extern "C" fn ferigulan_make_struct_fref(words: &mut [u64], name: u64) -> u64
-    ensures { λ r. ⌜ Coded (makeStructFrefCall name (now (words .entry))) r (now (words .exit)) ⌝ }
+    ensures { λ r. ⌜ Coded (run (make_struct_fref name) (now (words .entry))) r (now (words .exit)) ⌝ }
 {
-    of_made(types::make_struct_fref(words, name))
+    make(words, Making::MakeStructFref(name))
 }
 
 #[no_mangle]
 pub extern "C" fn ferigulan_get_mem_ptr(words: &mut [u64], to: u64, nil: u64) -> u64
-    ensures { λ r. ⌜ Coded (getMemPtrCall to nil (now (words .entry))) r (now (words .exit)) ⌝ }
+    ensures { λ r. ⌜ Coded (run (get_mem_ptr to nil) (now (words .entry))) r (now (words .exit)) ⌝ }
 {
-    of_made(types::get_mem_ptr(words, to, nil))
+    make(words, Making::GetMemPtr(to, nil))
 }
 
 #[no_mangle]
 pub extern "C" fn ferigulan_get_mem(words: &mut [u64], alias: u64, t: u64) -> u64
-    ensures { λ r. ⌜ Coded (getMemCall alias t (now (words .entry))) r (now (words .exit)) ⌝ }
+    ensures { λ r. ⌜ Coded (run (get_mem alias t) (now (words .entry))) r (now (words .exit)) ⌝ }
 {
-    of_made(types::get_mem(words, alias, t))
+    make(words, Making::GetMem(alias, t))
 }
 
 #[no_mangle]
 pub extern "C" fn ferigulan_meet(words: &mut [u64], a: u64, b: u64) -> u64
-    ensures { λ r. ⌜ Coded (meetCall a b (now (words .entry))) r (now (words .exit)) ⌝ }
+    ensures { λ r. ⌜ Coded (run (meet a b) (now (words .entry))) r (now (words .exit)) ⌝ }
 {
-    of_made(ty::meet(words, a, b))
+    make(words, Making::Meet(a, b))
 }
 
 #[no_mangle]
 pub extern "C" fn ferigulan_isa(words: &[u64], a: u64, b: u64) -> u64
-    ensures { λ r. ⌜ Coded (isaCall a b (now (words .entry))) r (now (words .entry)) ⌝ }
+    ensures { λ r. ⌜ Coded (run (isa a b) (now (words .entry))) r (now (words .entry)) ⌝ }
 {
-    of_flag(ty::isa(words, a, b))
+    ask(words, Asking::Isa(a, b))
 }
 
 #[no_mangle]
 pub extern "C" fn ferigulan_dual(words: &mut [u64], a: u64) -> u64
-    ensures { λ r. ⌜ Coded (dualCall a (now (words .entry))) r (now (words .exit)) ⌝ }
+    ensures { λ r. ⌜ Coded (run (dual a) (now (words .entry))) r (now (words .exit)) ⌝ }
 {
-    of_made(ty::dual(words, a))
+    make(words, Making::Walk(Walk::Dual, a))
 }
 
 #[no_mangle]
 pub extern "C" fn ferigulan_join(words: &mut [u64], a: u64, b: u64) -> u64
-    ensures { λ r. ⌜ Coded (joinCall a b (now (words .entry))) r (now (words .exit)) ⌝ }
+    ensures { λ r. ⌜ Coded (run (join a b) (now (words .entry))) r (now (words .exit)) ⌝ }
 {
-    of_made(ty::join(words, a, b))
+    make(words, Making::Join(a, b))
 }
 
 #[no_mangle]
 pub extern "C" fn ferigulan_glb(words: &mut [u64], a: u64) -> u64
-    ensures { λ r. ⌜ Coded (glbCall a (now (words .entry))) r (now (words .exit)) ⌝ }
+    ensures { λ r. ⌜ Coded (run (glb a) (now (words .entry))) r (now (words .exit)) ⌝ }
 {
-    of_made(ty::glb(words, a))
+    make(words, Making::Walk(Walk::Glb, a))
 }
 
 #[no_mangle]
 pub extern "C" fn ferigulan_lub(words: &mut [u64], a: u64) -> u64
-    ensures { λ r. ⌜ Coded (lubCall a (now (words .entry))) r (now (words .exit)) ⌝ }
+    ensures { λ r. ⌜ Coded (run (lub a) (now (words .entry))) r (now (words .exit)) ⌝ }
 {
-    of_made(ty::lub(words, a))
+    make(words, Making::Walk(Walk::Lub, a))
 }
 
 #[no_mangle]
 pub extern "C" fn ferigulan_is_final(words: &[u64], a: u64) -> u64
-    ensures { λ r. ⌜ Coded (isFinalCall a (now (words .entry))) r (now (words .entry)) ⌝ }
+    ensures { λ r. ⌜ Coded (run (is_final a) (now (words .entry))) r (now (words .entry)) ⌝ }
 {
-    of_flag(ty::is_final(words, a))
+    ask(words, Asking::IsFinal(a))
 }
 
 #[no_mangle]
 pub extern "C" fn ferigulan_make_ro(words: &mut [u64], a: u64) -> u64
-    ensures { λ r. ⌜ Coded (makeRoCall a (now (words .entry))) r (now (words .exit)) ⌝ }
+    ensures { λ r. ⌜ Coded (run (make_ro a) (now (words .entry))) r (now (words .exit)) ⌝ }
 {
-    of_made(ty::make_ro(words, a))
+    make(words, Making::MakeRo(a))
+}
+
+// ---- the calls on an opened store
+
+// An opened store is three lists that do not overlap: the words, an index of at least 2n + n/64 + 1 words for a list of n, and a memory of any length. What is required of
+// them here is, of a caller in C or Rust, a promise that no call tests: `ferigulan_open` has accepted the three lists, and nobody but the calls below has written any of
+// them since. Where it is broken, nothing is proved.
+
+fn opened_append(
+    words: &mut [u64],
+    index: &mut [u64],
+    memory: &mut [u64],
+    making: Making,
+    list: &[u64],
+    text: &[u8],
+) -> u64
+    requires { ⌜ OpenStore (now words) (now index) (now memory) ⌝ }
+    ensures { λ r. ⌜ Coded (run (appended making (now (list .entry)) (now (text .entry))) (now (words .entry))) r (now (words .exit)) ⌝ }
+    ensures { λ _. ⌜ OpenStore (now (words .exit)) (now (index .exit)) (now (memory .exit)) ⌝ }
+{
+    of_made(opened::append(words, index, memory, making, list, text))
+}
+
+fn opened_make(words: &mut [u64], index: &mut [u64], memory: &mut [u64], making: Making) -> u64
+    requires { ⌜ OpenStore (now words) (now index) (now memory) ⌝ }
+    ensures { λ r. ⌜ Coded (run (appended making [] []) (now (words .entry))) r (now (words .exit)) ⌝ }
+    ensures { λ _. ⌜ OpenStore (now (words .exit)) (now (index .exit)) (now (memory .exit)) ⌝ }
+{
+    opened_append(words, index, memory, making, &[], b"")
+}
+
+fn opened_ask(words: &[u64], index: &[u64], memory: &mut [u64], asking: Asking) -> u64
+    requires { ⌜ OpenStore (now words) (now index) (now memory) ⌝ }
+    ensures { λ r. ⌜ Coded (run (asked asking) (now (words .entry))) r (now (words .entry)) ⌝ }
+    ensures { λ _. ⌜ OpenStore (now (words .entry)) (now (index .entry)) (now (memory .exit)) ⌝ }
+{
+    of_answer(opened::ask(words, index, memory, asking))
+}
+
+// Tests row 1, and makes the index and a blank memory; any words may stand in the two lists before.
+#[no_mangle]
+pub extern "C" fn ferigulan_open(words: &[u64], index: &mut [u64], memory: &mut [u64]) -> u64
+    ensures { λ r. ⌜ r ≡ code (openReply (now (words .entry)) (length (now (index .entry)))) ⌝ }
+    ensures { λ r. ⌜ CodedOpening (now (words .entry)) (now (index .entry)) (now (memory .entry)) (now (index .exit)) (now (memory .exit)) r ⌝ }
+{
+    of_done(opened::open(words, index, memory))
+}
+
+#[no_mangle]
+pub extern "C" fn ferigulan_opened_kind(
+    words: &[u64],
+    index: &[u64],
+    memory: &mut [u64],
+    h: u64,
+) -> u64
+    requires { ⌜ OpenStore (now words) (now index) (now memory) ⌝ }
+    ensures { λ r. ⌜ Coded (run (kind h) (now (words .entry))) r (now (words .entry)) ⌝ }
+    ensures { λ _. ⌜ OpenStore (now (words .entry)) (now (index .entry)) (now (memory .exit)) ⌝ }
+{
+    opened_ask(words, index, memory, Asking::Kind(h))
+}
+
+#[no_mangle]
+pub extern "C" fn ferigulan_opened_get_bool(
+    words: &[u64],
+    index: &[u64],
+    memory: &mut [u64],
+    value: u64,
+) -> u64
+    requires { ⌜ OpenStore (now words) (now index) (now memory) ⌝ }
+    ensures { λ r. ⌜ Coded (run (get_bool value) (now (words .entry))) r (now (words .entry)) ⌝ }
+    ensures { λ _. ⌜ OpenStore (now (words .entry)) (now (index .entry)) (now (memory .exit)) ⌝ }
+{
+    opened_ask(words, index, memory, Asking::GetBool(value))
+}
+
+#[no_mangle]
+pub extern "C" fn ferigulan_opened_get_int(
+    words: &mut [u64],
+    index: &mut [u64],
+    memory: &mut [u64],
+    value: u64,
+) -> u64
+    requires { ⌜ OpenStore (now words) (now index) (now memory) ⌝ }
+    ensures { λ r. ⌜ Coded (run (get_int value) (now (words .entry))) r (now (words .exit)) ⌝ }
+    ensures { λ _. ⌜ OpenStore (now (words .exit)) (now (index .exit)) (now (memory .exit)) ⌝ }
+{
+    opened_make(words, index, memory, Making::MakeInt(value, value))
+}
+
+#[no_mangle]
+pub extern "C" fn ferigulan_opened_make_int(
+    words: &mut [u64],
+    index: &mut [u64],
+    memory: &mut [u64],
+    min: u64,
+    max: u64,
+) -> u64
+    requires { ⌜ OpenStore (now words) (now index) (now memory) ⌝ }
+    ensures { λ r. ⌜ Coded (run (make_int min max) (now (words .entry))) r (now (words .exit)) ⌝ }
+    ensures { λ _. ⌜ OpenStore (now (words .exit)) (now (index .exit)) (now (memory .exit)) ⌝ }
+{
+    opened_make(words, index, memory, Making::MakeInt(min, max))
+}
+
+#[no_mangle]
+pub extern "C" fn ferigulan_opened_get_float(
+    words: &mut [u64],
+    index: &mut [u64],
+    memory: &mut [u64],
+    bits: u64,
+) -> u64
+    requires { ⌜ OpenStore (now words) (now index) (now memory) ⌝ }
+    ensures { λ r. ⌜ Coded (run (get_float bits) (now (words .entry))) r (now (words .exit)) ⌝ }
+    ensures { λ _. ⌜ OpenStore (now (words .exit)) (now (index .exit)) (now (memory .exit)) ⌝ }
+{
+    opened_make(words, index, memory, Making::MakeFloat(0, bits))
+}
+
+#[no_mangle]
+pub extern "C" fn ferigulan_opened_make_float(
+    words: &mut [u64],
+    index: &mut [u64],
+    memory: &mut [u64],
+    sz: u64,
+    bits: u64,
+) -> u64
+    requires { ⌜ OpenStore (now words) (now index) (now memory) ⌝ }
+    ensures { λ r. ⌜ Coded (run (make_float sz bits) (now (words .entry))) r (now (words .exit)) ⌝ }
+    ensures { λ _. ⌜ OpenStore (now (words .exit)) (now (index .exit)) (now (memory .exit)) ⌝ }
+{
+    opened_make(words, index, memory, Making::MakeFloat(sz, bits))
+}
+
+#[no_mangle]
+pub extern "C" fn ferigulan_opened_get_tuple(
+    words: &mut [u64],
+    index: &mut [u64],
+    memory: &mut [u64],
+    types: &[u64],
+) -> u64
+    requires { ⌜ OpenStore (now words) (now index) (now memory) ⌝ }
+    ensures { λ r. ⌜ Coded (run (get_tuple (now (types .entry))) (now (words .entry))) r (now (words .exit)) ⌝ }
+    ensures { λ _. ⌜ OpenStore (now (words .exit)) (now (index .exit)) (now (memory .exit)) ⌝ }
+{
+    opened_append(words, index, memory, Making::GetTuple, types, b"")
+}
+
+#[no_mangle]
+pub extern "C" fn ferigulan_opened_get_str(
+    words: &mut [u64],
+    index: &mut [u64],
+    memory: &mut [u64],
+    name: &[u8],
+) -> u64
+    requires { ⌜ OpenStore (now words) (now index) (now memory) ⌝ }
+    ensures { λ r. ⌜ Coded (run (get_str (now (name .entry))) (now (words .entry))) r (now (words .exit)) ⌝ }
+    ensures { λ _. ⌜ OpenStore (now (words .exit)) (now (index .exit)) (now (memory .exit)) ⌝ }
+{
+    opened_append(words, index, memory, Making::GetStr, &[], name)
+}
+
+#[no_mangle]
+pub extern "C" fn ferigulan_opened_get_struct(
+    words: &mut [u64],
+    index: &mut [u64],
+    memory: &mut [u64],
+    name: u64,
+    fields: &[u64],
+) -> u64
+    requires { ⌜ OpenStore (now words) (now index) (now memory) ⌝ }
+    ensures { λ r. ⌜ Coded (run (get_struct name (now (fields .entry))) (now (words .entry))) r (now (words .exit)) ⌝ }
+    ensures { λ _. ⌜ OpenStore (now (words .exit)) (now (index .exit)) (now (memory .exit)) ⌝ }
+{
+    opened_append(words, index, memory, Making::GetStruct(name), fields, b"")
+}
+
+#[no_mangle]
+pub extern "C" fn ferigulan_opened_make_ary(
+    words: &mut [u64],
+    index: &mut [u64],
+    memory: &mut [u64],
+    len: u64,
+    len_alias: u64,
+    body: u64,
+    body_alias: u64,
+    text: &[u8],
+) -> u64
+    requires { ⌜ OpenStore (now words) (now index) (now memory) ⌝ }
+    ensures { λ r. ⌜ Coded (run (make_ary len «len_alias» body «body_alias» (now (text .entry))) (now (words .entry))) r (now (words .exit)) ⌝ }
+    ensures { λ _. ⌜ OpenStore (now (words .exit)) (now (index .exit)) (now (memory .exit)) ⌝ }
+{
+    opened_append(
+        words,
+        index,
+        memory,
+        Making::MakeAry(len, len_alias, body, body_alias),
+        &[],
+        text,
+    )
+}
+
+#[no_mangle]
+pub extern "C" fn ferigulan_opened_make_struct_fref(
+    words: &mut [u64],
+    index: &mut [u64],
+    memory: &mut [u64],
+    name: u64,
+) -> u64
+    requires { ⌜ OpenStore (now words) (now index) (now memory) ⌝ }
+    ensures { λ r. ⌜ Coded (run (make_struct_fref name) (now (words .entry))) r (now (words .exit)) ⌝ }
+    ensures { λ _. ⌜ OpenStore (now (words .exit)) (now (index .exit)) (now (memory .exit)) ⌝ }
+{
+    opened_make(words, index, memory, Making::MakeStructFref(name))
+}
+
+#[no_mangle]
+pub extern "C" fn ferigulan_opened_get_mem_ptr(
+    words: &mut [u64],
+    index: &mut [u64],
+    memory: &mut [u64],
+    to: u64,
+    nil: u64,
+) -> u64
+    requires { ⌜ OpenStore (now words) (now index) (now memory) ⌝ }
+    ensures { λ r. ⌜ Coded (run (get_mem_ptr to nil) (now (words .entry))) r (now (words .exit)) ⌝ }
+    ensures { λ _. ⌜ OpenStore (now (words .exit)) (now (index .exit)) (now (memory .exit)) ⌝ }
+{
+    opened_make(words, index, memory, Making::GetMemPtr(to, nil))
+}
+
+#[no_mangle]
+pub extern "C" fn ferigulan_opened_get_mem(
+    words: &mut [u64],
+    index: &mut [u64],
+    memory: &mut [u64],
+    alias: u64,
+    t: u64,
+) -> u64
+    requires { ⌜ OpenStore (now words) (now index) (now memory) ⌝ }
+    ensures { λ r. ⌜ Coded (run (get_mem alias t) (now (words .entry))) r (now (words .exit)) ⌝ }
+    ensures { λ _. ⌜ OpenStore (now (words .exit)) (now (index .exit)) (now (memory .exit)) ⌝ }
+{
+    opened_make(words, index, memory, Making::GetMem(alias, t))
+}
+
+#[no_mangle]
+pub extern "C" fn ferigulan_opened_meet(
+    words: &mut [u64],
+    index: &mut [u64],
+    memory: &mut [u64],
+    a: u64,
+    b: u64,
+) -> u64
+    requires { ⌜ OpenStore (now words) (now index) (now memory) ⌝ }
+    ensures { λ r. ⌜ Coded (run (meet a b) (now (words .entry))) r (now (words .exit)) ⌝ }
+    ensures { λ _. ⌜ OpenStore (now (words .exit)) (now (index .exit)) (now (memory .exit)) ⌝ }
+{
+    opened_make(words, index, memory, Making::Meet(a, b))
+}
+
+#[no_mangle]
+pub extern "C" fn ferigulan_opened_isa(
+    words: &[u64],
+    index: &[u64],
+    memory: &mut [u64],
+    a: u64,
+    b: u64,
+) -> u64
+    requires { ⌜ OpenStore (now words) (now index) (now memory) ⌝ }
+    ensures { λ r. ⌜ Coded (run (isa a b) (now (words .entry))) r (now (words .entry)) ⌝ }
+    ensures { λ _. ⌜ OpenStore (now (words .entry)) (now (index .entry)) (now (memory .exit)) ⌝ }
+{
+    opened_ask(words, index, memory, Asking::Isa(a, b))
+}
+
+#[no_mangle]
+pub extern "C" fn ferigulan_opened_dual(
+    words: &mut [u64],
+    index: &mut [u64],
+    memory: &mut [u64],
+    a: u64,
+) -> u64
+    requires { ⌜ OpenStore (now words) (now index) (now memory) ⌝ }
+    ensures { λ r. ⌜ Coded (run (dual a) (now (words .entry))) r (now (words .exit)) ⌝ }
+    ensures { λ _. ⌜ OpenStore (now (words .exit)) (now (index .exit)) (now (memory .exit)) ⌝ }
+{
+    opened_make(words, index, memory, Making::Walk(Walk::Dual, a))
+}
+
+#[no_mangle]
+pub extern "C" fn ferigulan_opened_join(
+    words: &mut [u64],
+    index: &mut [u64],
+    memory: &mut [u64],
+    a: u64,
+    b: u64,
+) -> u64
+    requires { ⌜ OpenStore (now words) (now index) (now memory) ⌝ }
+    ensures { λ r. ⌜ Coded (run (join a b) (now (words .entry))) r (now (words .exit)) ⌝ }
+    ensures { λ _. ⌜ OpenStore (now (words .exit)) (now (index .exit)) (now (memory .exit)) ⌝ }
+{
+    opened_make(words, index, memory, Making::Join(a, b))
+}
+
+#[no_mangle]
+pub extern "C" fn ferigulan_opened_glb(
+    words: &mut [u64],
+    index: &mut [u64],
+    memory: &mut [u64],
+    a: u64,
+) -> u64
+    requires { ⌜ OpenStore (now words) (now index) (now memory) ⌝ }
+    ensures { λ r. ⌜ Coded (run (glb a) (now (words .entry))) r (now (words .exit)) ⌝ }
+    ensures { λ _. ⌜ OpenStore (now (words .exit)) (now (index .exit)) (now (memory .exit)) ⌝ }
+{
+    opened_make(words, index, memory, Making::Walk(Walk::Glb, a))
+}
+
+#[no_mangle]
+pub extern "C" fn ferigulan_opened_lub(
+    words: &mut [u64],
+    index: &mut [u64],
+    memory: &mut [u64],
+    a: u64,
+) -> u64
+    requires { ⌜ OpenStore (now words) (now index) (now memory) ⌝ }
+    ensures { λ r. ⌜ Coded (run (lub a) (now (words .entry))) r (now (words .exit)) ⌝ }
+    ensures { λ _. ⌜ OpenStore (now (words .exit)) (now (index .exit)) (now (memory .exit)) ⌝ }
+{
+    opened_make(words, index, memory, Making::Walk(Walk::Lub, a))
+}
+
+#[no_mangle]
+pub extern "C" fn ferigulan_opened_is_final(
+    words: &[u64],
+    index: &[u64],
+    memory: &mut [u64],
+    a: u64,
+) -> u64
+    requires { ⌜ OpenStore (now words) (now index) (now memory) ⌝ }
+    ensures { λ r. ⌜ Coded (run (is_final a) (now (words .entry))) r (now (words .entry)) ⌝ }
+    ensures { λ _. ⌜ OpenStore (now (words .entry)) (now (index .entry)) (now (memory .exit)) ⌝ }
+{
+    opened_ask(words, index, memory, Asking::IsFinal(a))
+}
+
+#[no_mangle]
+pub extern "C" fn ferigulan_opened_make_ro(
+    words: &mut [u64],
+    index: &mut [u64],
+    memory: &mut [u64],
+    a: u64,
+) -> u64
+    requires { ⌜ OpenStore (now words) (now index) (now memory) ⌝ }
+    ensures { λ r. ⌜ Coded (run (make_ro a) (now (words .entry))) r (now (words .exit)) ⌝ }
+    ensures { λ _. ⌜ OpenStore (now (words .exit)) (now (index .exit)) (now (memory .exit)) ⌝ }
+{
+    opened_make(words, index, memory, Making::MakeRo(a))
 }

@@ -1,0 +1,28 @@
+-- `lattice_c::opened_append` meets its contract.
+use Rattle.lattice_c.proofs.Told.{coded}
+use borrow.Author.Needs.{needs}
+use Rattle.lattice_c.proofs.opened_append.Statement.{statement}
+use Rattle.lattice_c.proofs.opened_append.Tie as tie
+
+append-requires : tie.Need-append-requires
+append-requires c κs = search needs
+
+of-made-requires : tie.Need-of-made-requires
+of-made-requires c κs = search needs
+
+same-length : tie.Need-same-length
+same-length c = search needs
+
+same-length-2 : tie.Need-same-length-2
+same-length-2 c = search needs
+
+same-length-3 : tie.Need-same-length-3
+same-length-3 c = search needs
+
+returns : tie.Need-returns
+returns c = (search coded, search needs)
+
+pub opened-append-spec : {M : Type 1} → statement M
+opened-append-spec =
+    tie.close
+    (tie.spec append-requires of-made-requires same-length same-length-2 same-length-3 returns)
