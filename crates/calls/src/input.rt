@@ -10,6 +10,8 @@ use libc::STDIN_FILENO;
 pub struct State {
     // the length of the list that is lent to calls
     pub len: usize,
+    // whether it is an opened store
+    pub opened: bool,
     // how many bytes of the output's buffer are in use
     pub used: usize,
     // how many bytes of the input were run; between two reads, how many wait at its front
@@ -26,11 +28,14 @@ pub fn script(
     input: &mut [u8],
     out: &mut [u8],
     words: &mut [u64],
+    index: &mut [u64],
+    memory: &mut [u64],
     numbers: &mut [u64; 131072],
     text: &mut [u8; 131072],
 ) {
     let mut state = State {
         len: 0,
+        opened: false,
         used: 0,
         at: 0,
         skips: false,
@@ -38,7 +43,7 @@ pub fn script(
     };
     let mut turns = u64::MAX;
     while 0 < turns {
-        state = turn(input, out, words, numbers, text, state);
+        state = turn(input, out, words, index, memory, numbers, text, state);
         if state.ended {
             return;
         }
@@ -51,20 +56,38 @@ fn turn(
     input: &mut [u8],
     out: &mut [u8],
     words: &mut [u64],
+    index: &mut [u64],
+    memory: &mut [u64],
     numbers: &mut [u64; 131072],
     text: &mut [u8; 131072],
     state: State,
 ) -> State
-    requires { ⌜ Kept state (length (now words)) (length (now out)) ⌝ }
-    requires { ⌜ state .at ≤ length (now input) ⌝ }
-    ensures { λ r. ⌜ Kept r (length (now (words .exit))) (length (now (out .exit))) ⌝ }
-    ensures { λ r. ⌜ r .at ≤ length (now (input .exit)) ⌝ }
+    requires { ⌜ Kept state (now words) (now index) (now memory) (length (now out)) × (state .at ≤ length (now input)) ⌝ }
+    ensures { λ r. ⌜ Kept r (now (words .exit)) (now (index .exit)) (now (memory .exit)) (length (now (out .exit))) × (r .at ≤ length (now (input .exit))) ⌝ }
 {
     let waiting = state.at;
     let end = read(input, waiting);
-    let after = lines(&input[0..end], out, words, numbers, text, state);
+    let after = lines(
+        &input[0..end],
+        out,
+        words,
+        index,
+        memory,
+        numbers,
+        text,
+        state,
+    );
     if end == waiting {
-        return last(&input[0..end], out, words, numbers, text, after);
+        return last(
+            &input[0..end],
+            out,
+            words,
+            index,
+            memory,
+            numbers,
+            text,
+            after,
+        );
     }
     shift(input, end, out, after)
 }
@@ -84,12 +107,14 @@ fn lines(
     input: &[u8],
     out: &mut [u8],
     words: &mut [u64],
+    index: &mut [u64],
+    memory: &mut [u64],
     numbers: &mut [u64; 131072],
     text: &mut [u8; 131072],
     state: State,
 ) -> State
-    requires { ⌜ Kept state (length (now words)) (length (now out)) ⌝ }
-    ensures { λ r. ⌜ Kept r (length (now (words .exit))) (length (now (out .exit))) ⌝ }
+    requires { ⌜ Kept state (now words) (now index) (now memory) (length (now out)) ⌝ }
+    ensures { λ r. ⌜ Kept r (now (words .exit)) (now (index .exit)) (now (memory .exit)) (length (now (out .exit))) ⌝ }
     ensures { λ r. ⌜ r .at ≤ length (now (input .entry)) ⌝ }
 {
     let mut s = start(input, state);
@@ -100,7 +125,7 @@ fn lines(
             return s;
         }
         let next = end + 1;
-        s = one(&input[at..end], out, words, numbers, text, s);
+        s = one(&input[at..end], out, words, index, memory, numbers, text, s);
         s.at = next;
         at = next;
     }
@@ -109,11 +134,12 @@ fn lines(
 
 // Passes over the rest of a line that was too long.
 fn start(input: &[u8], state: State) -> State
-    ensures { λ r. ⌜ (r .len ≡ state .len) × (r .used ≡ state .used) × (r .at ≤ length (now (input .entry))) ⌝ }
+    ensures { λ r. ⌜ (r .len ≡ state .len) × (r .opened ≡ state .opened) × (r .used ≡ state .used) × (r .at ≤ length (now (input .entry))) ⌝ }
 {
     if !state.skips {
         return State {
             len: state.len,
+            opened: state.opened,
             used: state.used,
             at: 0,
             skips: false,
@@ -124,6 +150,7 @@ fn start(input: &[u8], state: State) -> State
     if end == input.len() {
         return State {
             len: state.len,
+            opened: state.opened,
             used: state.used,
             at: end,
             skips: true,
@@ -132,6 +159,7 @@ fn start(input: &[u8], state: State) -> State
     }
     State {
         len: state.len,
+        opened: state.opened,
         used: state.used,
         at: end + 1,
         skips: false,
@@ -144,20 +172,32 @@ fn one(
     line: &[u8],
     out: &mut [u8],
     words: &mut [u64],
+    index: &mut [u64],
+    memory: &mut [u64],
     numbers: &mut [u64; 131072],
     text: &mut [u8; 131072],
     state: State,
 ) -> State
-    requires { ⌜ Kept state (length (now words)) (length (now out)) ⌝ }
-    ensures { λ r. ⌜ Kept r (length (now (words .exit))) (length (now (out .exit))) ⌝ }
+    requires { ⌜ Kept state (now words) (now index) (now memory) (length (now out)) ⌝ }
+    ensures { λ r. ⌜ Kept r (now (words .exit)) (now (index .exit)) (now (memory .exit)) (length (now (out .exit))) ⌝ }
     ensures { λ r. ⌜ r .at ≡ state .at ⌝ }
 {
-    let outcome = dispatch::line(line, words, state.len, numbers, text);
+    let outcome = dispatch::line(
+        line,
+        words,
+        state.len,
+        index,
+        memory,
+        state.opened,
+        numbers,
+        text,
+    );
     let len = outcome.len;
     let reply = outcome.reply;
     let used = output::put(out, state.used, reply, line, &words[0..len], numbers);
     State {
         len: len,
+        opened: outcome.opened,
         used: used,
         at: state.at,
         skips: state.skips,
@@ -170,20 +210,32 @@ fn last(
     input: &[u8],
     out: &mut [u8],
     words: &mut [u64],
+    index: &mut [u64],
+    memory: &mut [u64],
     numbers: &mut [u64; 131072],
     text: &mut [u8; 131072],
     state: State,
 ) -> State
-    requires { ⌜ Kept state (length (now words)) (length (now out)) ⌝ }
+    requires { ⌜ Kept state (now words) (now index) (now memory) (length (now out)) ⌝ }
     requires { ⌜ state .at ≤ length (now input) ⌝ }
-    ensures { λ r. ⌜ Kept r (length (now (words .exit))) (length (now (out .exit))) ⌝ }
-    ensures { λ r. ⌜ r .at ≤ length (now (input .entry)) ⌝ }
+    ensures { λ r. ⌜ Kept r (now (words .exit)) (now (index .exit)) (now (memory .exit)) (length (now (out .exit))) ⌝ }
+    ensures { λ r. ⌜ r .at ≡ 0 ⌝ }
 {
     let at = state.at;
-    let s = one(&input[at..], out, words, numbers, text, state);
+    let s = one(
+        &input[at..],
+        out,
+        words,
+        index,
+        memory,
+        numbers,
+        text,
+        state,
+    );
     output::flush(out, s.used);
     State {
         len: s.len,
+        opened: s.opened,
         used: 0,
         at: 0,
         skips: false,
@@ -195,12 +247,13 @@ fn last(
 // is too long: what was read of it is written, and the rest will be passed over.
 fn shift(input: &mut [u8], end: usize, out: &mut [u8], state: State) -> State
     requires { ⌜ (state .at ≤ end) × (end ≤ length (now input)) × (state .used ≤ length (now out)) ⌝ }
-    ensures { λ r. ⌜ (r .len ≡ state .len) × (r .used ≤ length (now (out .exit))) × (r .at ≤ length (now (input .exit))) ⌝ }
+    ensures { λ r. ⌜ (r .len ≡ state .len) × (r .opened ≡ state .opened) × (r .used ≤ length (now (out .exit))) × (r .at ≤ length (now (input .exit))) ⌝ }
 {
     let kept = keep(input, state.at, end);
     if kept < input.len() {
         return State {
             len: state.len,
+            opened: state.opened,
             used: state.used,
             at: kept,
             skips: state.skips,
@@ -210,6 +263,7 @@ fn shift(input: &mut [u8], end: usize, out: &mut [u8], state: State) -> State
     let used = output::echo(out, state.used, input);
     State {
         len: state.len,
+        opened: state.opened,
         used: used,
         at: 0,
         skips: true,

@@ -1,14 +1,20 @@
-// One line of the script: its words are read, and the call that it names is made.
+// One line of a script: its words are read, and the call that it names is made. A call is lent the list, which is the first `len` words, and where that is an opened store, its
+// index and its memory.
 ghost use Prim.Native.Nat.{_≤_};
 ghost use lib.ListN.{length};
+ghost use Rattle.dispatch.specs.Held.{Held};
 use crate::lists;
-use maker_lines::Shape;
+use crate::lists::Order;
+use call::Done;
+use call_lines::Shape;
 use replies::Reply;
+use script::Answer;
 use script::Count;
 
-// What a line answers, and the length that the list has then.
+// What a line answers, the length that the list has then, and whether it is an opened store.
 pub struct Outcome {
     pub len: usize,
+    pub opened: bool,
     pub reply: Reply,
 }
 
@@ -16,88 +22,222 @@ pub fn line(
     line: &[u8],
     words: &mut [u64],
     len: usize,
+    index: &mut [u64],
+    memory: &mut [u64],
+    opened: bool,
     numbers: &mut [u64],
     text: &mut [u8],
 ) -> Outcome
-    requires { ⌜ len ≤ length (now words) ⌝ }
-    ensures { λ r. ⌜ r .len ≤ length (now (words .exit)) ⌝ }
+    requires { ⌜ Held len opened (now words) (now index) (now memory) ⌝ }
+    ensures { λ r. ⌜ Held (r .len) (r .opened) (now (words .exit)) (now (index .exit)) (now (memory .exit)) ⌝ }
 {
     let end = script::cut(line);
     if end == 0 {
         return Outcome {
             len: len,
+            opened: opened,
             reply: Reply::Nothing,
         };
     }
-    call(&line[0..end], words, len, numbers, text)
+    spoken(
+        &line[0..end],
+        words,
+        len,
+        index,
+        memory,
+        opened,
+        numbers,
+        text,
+    )
 }
 
-// Makes the call of a line that has a word.
-fn call(line: &[u8], words: &mut [u64], len: usize, numbers: &mut [u64], text: &mut [u8]) -> Outcome
-    requires { ⌜ len ≤ length (now words) ⌝ }
-    ensures { λ r. ⌜ r .len ≤ length (now (words .exit)) ⌝ }
+// A line that has a word.
+fn spoken(
+    line: &[u8],
+    words: &mut [u64],
+    len: usize,
+    index: &mut [u64],
+    memory: &mut [u64],
+    opened: bool,
+    numbers: &mut [u64],
+    text: &mut [u8],
+) -> Outcome
+    requires { ⌜ Held len opened (now words) (now index) (now memory) ⌝ }
+    ensures { λ r. ⌜ Held (r .len) (r .opened) (now (words .exit)) (now (index .exit)) (now (memory .exit)) ⌝ }
 {
     let stop = script::word_end(line, 0);
-    let shape = maker_lines::behind(&line[0..stop]);
+    let shape = call_lines::behind(&line[0..stop]);
     match shape {
         Shape::Text(k) => {
-            let reply = with_text(line, stop, k, &mut words[0..len], numbers, text);
-            Outcome {
-                len: len,
-                reply: reply,
-            }
+            with_text(
+                line,
+                stop,
+                k,
+                words,
+                len,
+                index,
+                memory,
+                opened,
+                numbers,
+                text,
+            )
         }
-        Shape::Numbers => with_numbers(line, stop, words, len, numbers),
+        Shape::Numbers => with_numbers(line, stop, words, len, index, memory, opened, numbers),
     }
 }
 
-// A call of numbers alone, which may set the list's length first.
+// A line of numbers alone.
 fn with_numbers(
     line: &[u8],
     stop: usize,
     words: &mut [u64],
     len: usize,
+    index: &mut [u64],
+    memory: &mut [u64],
+    opened: bool,
     numbers: &mut [u64],
 ) -> Outcome
-    requires { ⌜ (stop ≤ length (now line)) × (len ≤ length (now words)) ⌝ }
-    ensures { λ r. ⌜ r .len ≤ length (now (words .exit)) ⌝ }
+    requires { ⌜ stop ≤ length (now line) ⌝ }
+    requires { ⌜ Held len opened (now words) (now index) (now memory) ⌝ }
+    ensures { λ r. ⌜ Held (r .len) (r .opened) (now (words .exit)) (now (index .exit)) (now (memory .exit)) ⌝ }
 {
     let count = script::numbers(line, stop, numbers);
     match count {
         Count::Of(n) => {
-            let now = lists::length(&line[0..stop], &numbers[0..n], len, words.len());
-            let reply = lists::reply(&line[0..stop], &numbers[0..n], &mut words[0..now]);
-            Outcome {
-                len: now,
-                reply: reply,
-            }
+            ordered(
+                &line[0..stop],
+                &numbers[0..n],
+                words,
+                len,
+                index,
+                memory,
+                opened,
+            )
         }
         Count::Bad => Outcome {
             len: len,
+            opened: opened,
             reply: Reply::Malformed,
         },
     }
 }
 
-// A call of k numbers and a text.
+// A line of k numbers and a text.
 fn with_text(
     line: &[u8],
     stop: usize,
     k: usize,
     words: &mut [u64],
+    len: usize,
+    index: &mut [u64],
+    memory: &mut [u64],
+    opened: bool,
     numbers: &mut [u64],
     text: &mut [u8],
-) -> Reply
+) -> Outcome
     requires { ⌜ stop ≤ length (now line) ⌝ }
+    requires { ⌜ Held len opened (now words) (now index) (now memory) ⌝ }
+    ensures { λ r. ⌜ Held (r .len) (r .opened) (now (words .exit)) (now (index .exit)) (now (memory .exit)) ⌝ }
 {
     let end = script::skip(line, stop, k);
     let count = script::numbers(&line[0..end], stop, numbers);
     let size = script::rest(line, end, text);
-    match count {
-        Count::Of(n) => match size {
-            Count::Of(m) => maker_lines::texts(&line[0..stop], &numbers[0..n], &text[0..m], words),
-            Count::Bad => Reply::Malformed,
+    if let Count::Of(n) = count {
+        if let Count::Of(m) = size {
+            return call(
+                &line[0..stop],
+                &numbers[0..n],
+                &text[0..m],
+                words,
+                len,
+                index,
+                memory,
+                opened,
+            );
+        }
+    }
+    Outcome {
+        len: len,
+        opened: opened,
+        reply: Reply::Malformed,
+    }
+}
+
+// A line of a name and numbers: about the list, or else a call.
+fn ordered(
+    name: &[u8],
+    a: &[u64],
+    words: &mut [u64],
+    len: usize,
+    index: &mut [u64],
+    memory: &mut [u64],
+    opened: bool,
+) -> Outcome
+    requires { ⌜ Held len opened (now words) (now index) (now memory) ⌝ }
+    ensures { λ r. ⌜ Held (r .len) (r .opened) (now (words .exit)) (now (index .exit)) (now (memory .exit)) ⌝ }
+{
+    let order = lists::order_of(name, a);
+    match order {
+        Order::Close(closing) => {
+            let now = lists::length(closing, len, words.len());
+            let reply = lists::change(closing, &mut words[0..now]);
+            Outcome {
+                len: now,
+                opened: false,
+                reply: reply,
+            }
+        }
+        Order::Read(reading) => {
+            let reply = lists::read(reading, &words[0..len]);
+            Outcome {
+                len: len,
+                opened: opened,
+                reply: reply,
+            }
+        }
+        Order::Open => open_list(words, len, index, memory),
+        Order::Call => call(name, a, b"", words, len, index, memory, opened),
+    }
+}
+
+// Opens the list, or closes it where that is refused.
+fn open_list(words: &[u64], len: usize, index: &mut [u64], memory: &mut [u64]) -> Outcome
+    requires { ⌜ len ≤ length (now words) ⌝ }
+    ensures { λ r. ⌜ Held (r .len) (r .opened) (now (words .entry)) (now (index .exit)) (now (memory .exit)) ⌝ }
+{
+    let answer = opened::open(&words[..len], index, memory);
+    match answer {
+        Done::Accepted => Outcome {
+            len: len,
+            opened: true,
+            reply: Reply::Short(Answer::Accepted),
         },
-        Count::Bad => Reply::Malformed,
+        Done::Refused(n) => Outcome {
+            len: len,
+            opened: false,
+            reply: Reply::Short(Answer::Refused(n)),
+        },
+    }
+}
+
+// A call, which leaves an opened store open.
+fn call(
+    name: &[u8],
+    a: &[u64],
+    text: &[u8],
+    words: &mut [u64],
+    len: usize,
+    index: &mut [u64],
+    memory: &mut [u64],
+    opened: bool,
+) -> Outcome
+    requires { ⌜ Held len opened (now words) (now index) (now memory) ⌝ }
+    ensures { λ r. ⌜ Held (r .len) (r .opened) (now (words .exit)) (now (index .exit)) (now (memory .exit)) ⌝ }
+{
+    let reply = call_lines::reply(name, a, text, &mut words[..len], index, memory, opened);
+    Outcome {
+        len: len,
+        opened: opened,
+        reply: reply,
     }
 }

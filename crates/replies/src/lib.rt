@@ -1,8 +1,6 @@
 // What lines answer, and what the functions for each call share.
 use call::Done;
-use call::Flag;
 use call::Made;
-use call::Number;
 use script::Answer;
 
 // What a line of the script answers.
@@ -57,16 +55,11 @@ pub fn made(answer: Made) -> Reply {
     }
 }
 
-pub fn number(answer: Number) -> Reply {
+pub fn told(answer: call::Answer) -> Reply {
     match answer {
-        Number::Is(n) => Reply::Short(Answer::Number(n)),
-        Number::Refused(n) => Reply::Short(Answer::Refused(n)),
-    }
-}
-
-pub fn said(answer: Flag) -> Reply {
-    match answer {
-        Flag::Is(yes) => flag(yes),
-        Flag::Refused(n) => Reply::Short(Answer::Refused(n)),
+        call::Answer::Handle(h) => Reply::Short(Answer::Number(h)),
+        call::Answer::Number(n) => Reply::Short(Answer::Number(n)),
+        call::Answer::Flag(yes) => flag(yes),
+        call::Answer::Refused(n) => Reply::Short(Answer::Refused(n)),
     }
 }

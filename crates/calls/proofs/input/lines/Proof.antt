@@ -1,4 +1,5 @@
 -- `calls::lines`: the state stays within its buffers from line to line, and the place moves on.
+use Rattle.calls.proofs.Moved.{same-list}
 use borrow.Author.Needs.{needs}
 use mathlib.Core.Path.{_≡_}
 use Prim.Native.Nat.{_-_, _≤_}
@@ -8,16 +9,16 @@ use Rattle.calls.proofs.input.lines.Statement.{statement}
 use Rattle.calls.proofs.input.lines.Tie as tie
 
 abbrev Inv-loop : tie.InvT-loop
-Inv-loop input out₀ words₀ numbers₀ text₀ s₀ at₀ out words numbers text s at = Kept s (length words₀) (length out₀) × (at ≤ length input) × (s .at ≤ length input) × (length out ≡ length out₀) × (length words ≡ length words₀)
+Inv-loop input out₀ words₀ index₀ memory₀ numbers₀ text₀ s₀ at₀ out words index memory numbers text s at = Kept s words index memory (length out₀) × (at ≤ length input) × (s .at ≤ length input) × (length out ≡ length out₀) × (length words ≡ length words₀) × (length index ≡ length index₀) × (length memory ≡ length memory₀)
 
 abbrev μ-loop : tie.MeasureT-loop
-μ-loop input out₀ words₀ numbers₀ text₀ s₀ at₀ out words numbers text s at = length input - at
+μ-loop input out₀ words₀ index₀ memory₀ numbers₀ text₀ s₀ at₀ out words index memory numbers text s at = length input - at
 
 start-requires : tie.Need-start-requires Inv-loop μ-loop
 start-requires c κs = search needs
 
 loop-holds : tie.Need-loop-holds Inv-loop μ-loop
-loop-holds c = search needs
+loop-holds c = ((search same-list, search needs), search needs, search needs, search needs, search needs, search needs, search needs)
 
 find-requires : tie.Need-find-requires Inv-loop μ-loop
 find-requires c κs = search needs
@@ -28,8 +29,14 @@ same-length c = search needs
 same-length-2 : tie.Need-same-length-2 Inv-loop μ-loop
 same-length-2 c = search needs
 
+same-length-3 : tie.Need-same-length-3 Inv-loop μ-loop
+same-length-3 c = search needs
+
+same-length-4 : tie.Need-same-length-4 Inv-loop μ-loop
+same-length-4 c = search needs
+
 returns : tie.Need-returns Inv-loop μ-loop
-returns c = search needs
+returns c = ((c .before .before .before .loop .inv .0 .0, search needs), search needs)
 
 add-next : tie.Need-add-next Inv-loop μ-loop
 add-next c = search needs
@@ -50,16 +57,22 @@ loop-less : tie.Need-loop-less Inv-loop μ-loop
 loop-less c = search needs
 
 loop-again : tie.Need-loop-again Inv-loop μ-loop
-loop-again c = search needs
+loop-again c = ((c .before .before .before .before .before .before .before .before .one .ensures .0 .0, search needs), search needs, search needs, search needs, search needs, search needs, search needs)
 
-same-length-3 : tie.Need-same-length-3 Inv-loop μ-loop
-same-length-3 c = search needs
+same-length-5 : tie.Need-same-length-5 Inv-loop μ-loop
+same-length-5 c = search needs
 
-same-length-4 : tie.Need-same-length-4 Inv-loop μ-loop
-same-length-4 c = search needs
+same-length-6 : tie.Need-same-length-6 Inv-loop μ-loop
+same-length-6 c = search needs
+
+same-length-7 : tie.Need-same-length-7 Inv-loop μ-loop
+same-length-7 c = search needs
+
+same-length-8 : tie.Need-same-length-8 Inv-loop μ-loop
+same-length-8 c = search needs
 
 returns-2 : tie.Need-returns-2 Inv-loop μ-loop
-returns-2 c = search needs
+returns-2 c = ((c .before .loop .inv .0 .0, search needs), search needs)
 
 pub lines-spec : {M : Type 1} → statement M
 lines-spec =
@@ -72,6 +85,8 @@ lines-spec =
     find-requires
     same-length
     same-length-2
+    same-length-3
+    same-length-4
     returns
     add-next
     sub-one
@@ -80,6 +95,8 @@ lines-spec =
     one-requires
     loop-less
     loop-again
-    same-length-3
-    same-length-4
+    same-length-5
+    same-length-6
+    same-length-7
+    same-length-8
     returns-2)

@@ -8,16 +8,16 @@ use Rattle.calls.proofs.input.script.Statement.{statement}
 use Rattle.calls.proofs.input.script.Tie as tie
 
 abbrev Inv-loop : tie.InvT-loop
-Inv-loop input₀ out₀ words₀ numbers₀ text₀ state₀ turns₀ input out words numbers text state turns = Kept state (length words₀) (length out₀) × (state .at ≤ length input₀) × (length input ≡ length input₀) × (length out ≡ length out₀) × (length words ≡ length words₀)
+Inv-loop input₀ out₀ words₀ index₀ memory₀ numbers₀ text₀ state₀ turns₀ input out words index memory numbers text state turns = Kept state words index memory (length out₀) × (state .at ≤ length input₀) × (length input ≡ length input₀) × (length out ≡ length out₀) × (length words ≡ length words₀) × (length index ≡ length index₀) × (length memory ≡ length memory₀)
 
 abbrev μ-loop : tie.MeasureT-loop
-μ-loop input₀ out₀ words₀ numbers₀ text₀ state₀ turns₀ input out words numbers text state turns = turns
+μ-loop input₀ out₀ words₀ index₀ memory₀ numbers₀ text₀ state₀ turns₀ input out words index memory numbers text state turns = turns
 
 loop-holds : tie.Need-loop-holds Inv-loop μ-loop
 loop-holds c = search needs
 
 turn-requires : tie.Need-turn-requires Inv-loop μ-loop
-turn-requires c κs = search needs
+turn-requires c κs = ((c .before .before .before .before .before .before .before .before .loop .inv .0 .0, search needs), search needs)
 
 same-length : tie.Need-same-length Inv-loop μ-loop
 same-length c = search needs
@@ -27,6 +27,12 @@ same-length-2 c = search needs
 
 same-length-3 : tie.Need-same-length-3 Inv-loop μ-loop
 same-length-3 c = search needs
+
+same-length-4 : tie.Need-same-length-4 Inv-loop μ-loop
+same-length-4 c = search needs
+
+same-length-5 : tie.Need-same-length-5 Inv-loop μ-loop
+same-length-5 c = search needs
 
 returns : tie.Need-returns Inv-loop μ-loop
 returns c = search needs
@@ -38,16 +44,22 @@ loop-less : tie.Need-loop-less Inv-loop μ-loop
 loop-less c = search needs
 
 loop-again : tie.Need-loop-again Inv-loop μ-loop
-loop-again c = search needs
-
-same-length-4 : tie.Need-same-length-4 Inv-loop μ-loop
-same-length-4 c = search needs
-
-same-length-5 : tie.Need-same-length-5 Inv-loop μ-loop
-same-length-5 c = search needs
+loop-again c = ((c .before .before .before .before .before .before .before .before .before .before .before .turn .ensures .0 .0, search needs), search needs, search needs, search needs, search needs, search needs, search needs)
 
 same-length-6 : tie.Need-same-length-6 Inv-loop μ-loop
 same-length-6 c = search needs
+
+same-length-7 : tie.Need-same-length-7 Inv-loop μ-loop
+same-length-7 c = search needs
+
+same-length-8 : tie.Need-same-length-8 Inv-loop μ-loop
+same-length-8 c = search needs
+
+same-length-9 : tie.Need-same-length-9 Inv-loop μ-loop
+same-length-9 c = search needs
+
+same-length-10 : tie.Need-same-length-10 Inv-loop μ-loop
+same-length-10 c = search needs
 
 returns-2 : tie.Need-returns-2 Inv-loop μ-loop
 returns-2 c = search needs
@@ -63,11 +75,15 @@ script-spec =
     same-length
     same-length-2
     same-length-3
+    same-length-4
+    same-length-5
     returns
     sub-turns
     loop-less
     loop-again
-    same-length-4
-    same-length-5
     same-length-6
+    same-length-7
+    same-length-8
+    same-length-9
+    same-length-10
     returns-2)

@@ -10,56 +10,26 @@ numbers-requires c κs = search needs
 enum-known-count : tie.Need-enum-known-count
 enum-known-count c = search needs
 
-sub-length : tie.Need-sub-length
-sub-length c = search needs
+sub-ordered : tie.Need-sub-ordered
+sub-ordered c = search needs
 
-part-length-start : tie.Need-part-length-start
-part-length-start c = search needs
+part-ordered-start : tie.Need-part-ordered-start
+part-ordered-start c = search needs
 
-part-length-end : tie.Need-part-length-end
-part-length-end c = search needs
+part-ordered-end : tie.Need-part-ordered-end
+part-ordered-end c = search needs
 
-sub-length-2 : tie.Need-sub-length-2
-sub-length-2 c = search needs
+sub-ordered-2 : tie.Need-sub-ordered-2
+sub-ordered-2 c = search needs
 
-part-length-start-2 : tie.Need-part-length-start-2
-part-length-start-2 c = search needs
+part-ordered-start-2 : tie.Need-part-ordered-start-2
+part-ordered-start-2 c = search needs
 
-part-length-end-2 : tie.Need-part-length-end-2
-part-length-end-2 c = search within
+part-ordered-end-2 : tie.Need-part-ordered-end-2
+part-ordered-end-2 c = search within
 
-length-requires : tie.Need-length-requires
-length-requires c κs = search needs
-
-sub-reply : tie.Need-sub-reply
-sub-reply c = search needs
-
-part-reply-start : tie.Need-part-reply-start
-part-reply-start c = search needs
-
-part-reply-end : tie.Need-part-reply-end
-part-reply-end c = search needs
-
-sub-reply-2 : tie.Need-sub-reply-2
-sub-reply-2 c = search needs
-
-part-reply-start-2 : tie.Need-part-reply-start-2
-part-reply-start-2 c = search needs
-
-part-reply-end-2 : tie.Need-part-reply-end-2
-part-reply-end-2 c = search within
-
-sub-reply-3 : tie.Need-sub-reply-3
-sub-reply-3 c = search needs
-
-part-reply-start-3 : tie.Need-part-reply-start-3
-part-reply-start-3 c = search needs
-
-part-reply-end-3 : tie.Need-part-reply-end-3
-part-reply-end-3 c = search needs
-
-reply-requires : tie.Need-reply-requires
-reply-requires c κs = search needs
+ordered-requires : tie.Need-ordered-requires
+ordered-requires c κs = search needs
 
 enum-told : tie.Need-enum-told
 enum-told c = search needs
@@ -70,11 +40,17 @@ same-length c = search needs
 same-length-2 : tie.Need-same-length-2
 same-length-2 c = search needs
 
+same-length-3 : tie.Need-same-length-3
+same-length-3 c = search needs
+
+same-length-4 : tie.Need-same-length-4
+same-length-4 c = search needs
+
 returns : tie.Need-returns
 returns c = search needs
 
-same-length-3 : tie.Need-same-length-3
-same-length-3 c = search needs
+same-length-5 : tie.Need-same-length-5
+same-length-5 c = search needs
 
 returns-2 : tie.Need-returns-2
 returns-2 c = search needs
@@ -85,26 +61,18 @@ with-numbers-spec =
     (tie.spec
     numbers-requires
     enum-known-count
-    sub-length
-    part-length-start
-    part-length-end
-    sub-length-2
-    part-length-start-2
-    part-length-end-2
-    length-requires
-    sub-reply
-    part-reply-start
-    part-reply-end
-    sub-reply-2
-    part-reply-start-2
-    part-reply-end-2
-    sub-reply-3
-    part-reply-start-3
-    part-reply-end-3
-    reply-requires
+    sub-ordered
+    part-ordered-start
+    part-ordered-end
+    sub-ordered-2
+    part-ordered-start-2
+    part-ordered-end-2
+    ordered-requires
     enum-told
     same-length
     same-length-2
-    returns
     same-length-3
+    same-length-4
+    returns
+    same-length-5
     returns-2)

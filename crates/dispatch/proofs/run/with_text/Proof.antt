@@ -28,41 +28,35 @@ enum-known-count c = search needs
 enum-known-size : tie.Need-enum-known-size
 enum-known-size c = search needs
 
-sub-texts : tie.Need-sub-texts
-sub-texts c = search needs
+sub-call : tie.Need-sub-call
+sub-call c = search needs
 
-part-texts-start : tie.Need-part-texts-start
-part-texts-start c = search needs
+part-call-start : tie.Need-part-call-start
+part-call-start c = search needs
 
-part-texts-end : tie.Need-part-texts-end
-part-texts-end c = search needs
+part-call-end : tie.Need-part-call-end
+part-call-end c = search needs
 
-sub-texts-2 : tie.Need-sub-texts-2
-sub-texts-2 c = search needs
+sub-call-2 : tie.Need-sub-call-2
+sub-call-2 c = search needs
 
-part-texts-start-2 : tie.Need-part-texts-start-2
-part-texts-start-2 c = search needs
+part-call-start-2 : tie.Need-part-call-start-2
+part-call-start-2 c = search needs
 
-part-texts-end-2 : tie.Need-part-texts-end-2
-part-texts-end-2 c = search within
+part-call-end-2 : tie.Need-part-call-end-2
+part-call-end-2 c = search within
 
-sub-texts-3 : tie.Need-sub-texts-3
-sub-texts-3 c = search needs
+sub-call-3 : tie.Need-sub-call-3
+sub-call-3 c = search needs
 
-part-texts-start-3 : tie.Need-part-texts-start-3
-part-texts-start-3 c = search needs
+part-call-start-3 : tie.Need-part-call-start-3
+part-call-start-3 c = search needs
 
-part-texts-end-3 : tie.Need-part-texts-end-3
-part-texts-end-3 c = search within
+part-call-end-3 : tie.Need-part-call-end-3
+part-call-end-3 c = search within
 
-texts-requires : tie.Need-texts-requires
-texts-requires c κs = search needs
-
-enum-told : tie.Need-enum-told
-enum-told c = search needs
-
-enum-told-2 : tie.Need-enum-told-2
-enum-told-2 c = search needs
+call-requires : tie.Need-call-requires
+call-requires c κs = search needs
 
 same-length : tie.Need-same-length
 same-length c = search needs
@@ -73,23 +67,35 @@ same-length-2 c = search needs
 same-length-3 : tie.Need-same-length-3
 same-length-3 c = search needs
 
-returns : tie.Need-returns
-returns c = search needs
-
 same-length-4 : tie.Need-same-length-4
 same-length-4 c = search needs
 
 same-length-5 : tie.Need-same-length-5
 same-length-5 c = search needs
 
-returns-2 : tie.Need-returns-2
-returns-2 c = search needs
+returns : tie.Need-returns
+returns c = search needs
+
+enum-told : tie.Need-enum-told
+enum-told c = search needs
+
+enum-told-2 : tie.Need-enum-told-2
+enum-told-2 c = search needs
 
 same-length-6 : tie.Need-same-length-6
 same-length-6 c = search needs
 
 same-length-7 : tie.Need-same-length-7
 same-length-7 c = search needs
+
+returns-2 : tie.Need-returns-2
+returns-2 c = search needs
+
+same-length-8 : tie.Need-same-length-8
+same-length-8 c = search needs
+
+same-length-9 : tie.Need-same-length-9
+same-length-9 c = search needs
 
 returns-3 : tie.Need-returns-3
 returns-3 c = search needs
@@ -106,25 +112,27 @@ with-text-spec =
     rest-requires
     enum-known-count
     enum-known-size
-    sub-texts
-    part-texts-start
-    part-texts-end
-    sub-texts-2
-    part-texts-start-2
-    part-texts-end-2
-    sub-texts-3
-    part-texts-start-3
-    part-texts-end-3
-    texts-requires
-    enum-told
-    enum-told-2
+    sub-call
+    part-call-start
+    part-call-end
+    sub-call-2
+    part-call-start-2
+    part-call-end-2
+    sub-call-3
+    part-call-start-3
+    part-call-end-3
+    call-requires
     same-length
     same-length-2
     same-length-3
-    returns
     same-length-4
     same-length-5
-    returns-2
+    returns
+    enum-told
+    enum-told-2
     same-length-6
     same-length-7
+    returns-2
+    same-length-8
+    same-length-9
     returns-3)
