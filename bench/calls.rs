@@ -50,20 +50,23 @@ pub const REFUSED: u64 = 1 << 63;
 
 // An operation on two types, or on the first of them.
 pub struct Operation {
+    // its place among all of them
+    #[cfg_attr(not(opened), allow(dead_code))]
+    pub place: usize,
     pub name: &'static str,
     pub two: bool,
     pub run: fn(&Library, &mut [u64], u64, u64) -> u64,
 }
 
 pub static OPERATIONS: [Operation; 8] = [
-    Operation { name: "meet", two: true, run: |l, w, a, b| unsafe { (l.meet)(w.as_mut_ptr(), w.len(), a, b) } },
-    Operation { name: "isa", two: true, run: |l, w, a, b| unsafe { (l.isa)(w.as_ptr(), w.len(), a, b) } },
-    Operation { name: "join", two: true, run: |l, w, a, b| unsafe { (l.join)(w.as_mut_ptr(), w.len(), a, b) } },
-    Operation { name: "dual", two: false, run: |l, w, a, _| unsafe { (l.dual)(w.as_mut_ptr(), w.len(), a) } },
-    Operation { name: "glb", two: false, run: |l, w, a, _| unsafe { (l.glb)(w.as_mut_ptr(), w.len(), a) } },
-    Operation { name: "lub", two: false, run: |l, w, a, _| unsafe { (l.lub)(w.as_mut_ptr(), w.len(), a) } },
-    Operation { name: "is_final", two: false, run: |l, w, a, _| unsafe { (l.is_final)(w.as_ptr(), w.len(), a) } },
-    Operation { name: "make_ro", two: false, run: |l, w, a, _| unsafe { (l.make_ro)(w.as_mut_ptr(), w.len(), a) } },
+    Operation { place: 0, name: "meet", two: true, run: |l, w, a, b| unsafe { (l.meet)(w.as_mut_ptr(), w.len(), a, b) } },
+    Operation { place: 1, name: "isa", two: true, run: |l, w, a, b| unsafe { (l.isa)(w.as_ptr(), w.len(), a, b) } },
+    Operation { place: 2, name: "join", two: true, run: |l, w, a, b| unsafe { (l.join)(w.as_mut_ptr(), w.len(), a, b) } },
+    Operation { place: 3, name: "dual", two: false, run: |l, w, a, _| unsafe { (l.dual)(w.as_mut_ptr(), w.len(), a) } },
+    Operation { place: 4, name: "glb", two: false, run: |l, w, a, _| unsafe { (l.glb)(w.as_mut_ptr(), w.len(), a) } },
+    Operation { place: 5, name: "lub", two: false, run: |l, w, a, _| unsafe { (l.lub)(w.as_mut_ptr(), w.len(), a) } },
+    Operation { place: 6, name: "is_final", two: false, run: |l, w, a, _| unsafe { (l.is_final)(w.as_ptr(), w.len(), a) } },
+    Operation { place: 7, name: "make_ro", two: false, run: |l, w, a, _| unsafe { (l.make_ro)(w.as_mut_ptr(), w.len(), a) } },
 ];
 
 // A call with its arguments.

@@ -27,6 +27,18 @@ pub fn time(mut f: impl FnMut()) -> f64 {
     (0..7).map(|_| round(turns, &mut f)).fold(f64::MAX, f64::min)
 }
 
+// Nanoseconds a turn, by many short rounds with a pause now and then: on a machine that others use, some of them are undisturbed.
+#[cfg_attr(not(opened), allow(dead_code))]
+pub fn time_short(mut f: impl FnMut()) -> f64 {
+    let turns = turns_for(1, &mut f);
+    let mut best = f64::MAX;
+    for _ in 0..3 {
+        best = (0..20).map(|_| round(turns, &mut f)).fold(best, f64::min);
+        std::thread::sleep(Duration::from_millis(20));
+    }
+    best
+}
+
 // Nanoseconds a turn of two on the same thing, in turns, so that noise hits both. Where they differ by more than a twentieth, either
 // way, more rounds follow after a moment, up to eight times as many: a difference that is noise goes away.
 pub fn time_both<T>(on: &mut T, mut f: impl FnMut(&mut T), mut g: impl FnMut(&mut T)) -> (f64, f64) {
@@ -56,6 +68,14 @@ pub fn time_one<T>(rounds: usize, mut before: impl FnMut() -> T, mut f: impl FnM
         best = best.min(t.elapsed().as_nanos() as f64);
     }
     best
+}
+
+// What a stretch of no work takes: taken off where a stretch is short.
+#[cfg_attr(not(opened), allow(dead_code))]
+pub fn clock() -> f64 {
+    const TURNS: u32 = 100_000;
+    let sum: Duration = (0..TURNS).map(|_| Instant::now().elapsed()).sum();
+    sum.as_nanos() as f64 / TURNS as f64
 }
 
 // A plain scan of words: their exclusive or, which the compiler vectorizes.

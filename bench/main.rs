@@ -2,18 +2,28 @@
 mod beside;
 mod calls;
 mod clock;
+#[cfg(opened)]
+mod open_store;
+#[cfg(opened)]
+mod opened;
+#[cfg(opened)]
+mod operands;
 mod plain;
 #[cfg(search)]
 mod search;
 mod stores;
 mod towers;
 
-const PARTS: [&str; 5] = ["makers", "operations", "beside", "towers", "search"];
+const PARTS: [&str; 6] = ["makers", "operations", "opened", "beside", "towers", "search"];
 
 fn run(part: &str, oracle: Option<&str>) {
     match part {
         "makers" => plain::makers(),
         "operations" => plain::lattice(oracle),
+        #[cfg(opened)]
+        "opened" => opened::tables(oracle),
+        #[cfg(not(opened))]
+        "opened" => eprintln!("opened stores: left out, the library has none"),
         "beside" => match calls::OLD {
             Some(old) => beside::table(old),
             None => eprintln!("old beside new: left out, no old library was linked"),

@@ -1,8 +1,9 @@
 #!/bin/sh
-# run.sh [PART..]: builds the static libraries, the benchmark and the oracle, and runs all parts or the named ones: makers, operations, beside, towers,
-# search. It needs rustc beside the Rattle kit, cargo for the oracle, and nm and objcopy for an old library.
+# run.sh [PART..]: builds the static libraries, the benchmark and the oracle, and runs all parts or the named ones: makers, operations, opened, beside,
+# towers, search. It needs rustc beside the Rattle kit, cargo for the oracle, and nm and objcopy for an old library.
 #   OLD=ARCHIVE   an older liblattice_c.a, measured beside the new one
 #   NEW=ARCHIVE   a liblattice_c.a that is built already, to be measured in the place of one built here
+#   WORDS="N .."  the lengths of the lists that `opened` measures, in the place of its own; MEMORY=N the words of its memory of answers
 here=$(cd "$(dirname "$0")" && pwd) || exit 2
 # what is named from where the caller stands, from anywhere
 whole() {
@@ -29,6 +30,12 @@ if [ -z "$NEW" ]; then
 fi
 cp "$NEW" "$libs/libnew.a" || exit 1
 flags="-l static=new"
+# whether the library has opened stores; where nm is missing it is taken to have them
+if ! command -v nm >/dev/null || defined "$libs/libnew.a" | grep -qx ferigulan_open; then
+    flags="$flags --cfg opened"
+else
+    echo "run.sh: the library has no ferigulan_open, the tables of opened stores are left out" >&2
+fi
 
 # the old library's names get `old_` before them; what it takes from others, as memset, stays
 old() {
@@ -44,8 +51,16 @@ else
     echo "run.sh: $OLD could not be renamed, the table of old beside new is left out" >&2
 fi
 
-echo "building the search .." >&2
-if rt staticlib search_c >&2 && cp target/staticlib/libsearch_c.a "$libs" && apart "$libs/libsearch_c.a" "$libs/libnew.a"; then
+# whether a part is to be run: all are where none is named
+asked() {
+    part=$1 && shift
+    [ $# -eq 0 ] && return
+    for p; do [ "$p" = "$part" ] && return; done
+    return 1
+}
+if ! asked search "$@"; then
+    :
+elif echo "building the search .." >&2 && rt staticlib search_c >&2 && cp target/staticlib/libsearch_c.a "$libs" && apart "$libs/libsearch_c.a" "$libs/libnew.a"; then
     flags="$flags -l static=search_c --cfg search"
 else
     echo "run.sh: the search was not built, its table is left out" >&2

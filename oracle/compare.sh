@@ -1,5 +1,5 @@
 #!/bin/sh
-# compare.sh N [SEED] [--calls NAMES]: runs at least N calls by chance on the original Rust and on the program `calls`, and compares every
+# compare.sh N [SEED] [--calls NAMES] [--opened]: runs at least N calls by chance on the original Rust and on the program `calls`, and compares every
 # answer. The closing lines count the calls by name and refusal. On a difference it prints a short script that shows it, and exits with 1.
 # CALLS names another program than target/bin/calls; ORIGINAL another folder of the original than ../shared/docs/src.
 here=$(cd "$(dirname "$0")" && pwd) || exit 2

@@ -22,8 +22,12 @@ pub struct Program {
 impl Program {
     /// Runs a script of these calls. A program that breaks off has answered fewer lines than there are calls.
     pub fn answers(&self, asked: &[Asked]) -> io::Result<Vec<String>> {
+        self.run(&asked.iter().map(|asked| format!("{}\n", asked.call)).collect::<String>())
+    }
+
+    /// The lines that a script answers.
+    pub fn run(&self, lines: &str) -> io::Result<Vec<String>> {
         let (script, answers) = (self.folder.join("script.txt"), self.folder.join("answers.txt"));
-        let lines: String = asked.iter().map(|asked| format!("{}\n", asked.call)).collect();
         fs::write(&script, lines)?;
         let stdin = Stdio::from(File::open(&script)?);
         let stdout = Stdio::from(File::create(&answers)?);

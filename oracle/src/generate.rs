@@ -3,6 +3,7 @@
 
 mod choosing;
 mod making;
+mod opening;
 
 use crate::random::Random;
 use crate::script::known_name;
@@ -45,12 +46,14 @@ pub struct Menu {
     others: Vec<(usize, &'static str)>,
     /// Whether each list ends with `dump`, so that every used word is compared.
     dump: bool,
+    /// Whether the lists are opened.
+    pub opened: bool,
 }
 
 impl Menu {
     /// Reads names separated by commas; `makers` stands for all makers, `lattice` for the calls on types, `all` for everything.
     pub fn read(names: &str) -> Result<Menu, String> {
-        let mut menu = Menu { others: vec![], dump: false };
+        let mut menu = Menu { others: vec![], dump: false, opened: false };
         for name in names.split(',') {
             match name {
                 "makers" => {}
@@ -102,7 +105,10 @@ pub fn list(seed: u64, menu: &Menu) -> List {
         list: List { steps: vec![], asked: vec![] },
     };
     generator.whole_list();
-    generator.list
+    match menu.opened {
+        true => opening::opened(generator.list, seed),
+        false => generator.list,
+    }
 }
 
 impl Generator<'_, '_, '_> {

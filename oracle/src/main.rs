@@ -1,8 +1,10 @@
 //! The original Rust as an oracle: it answers scripts of calls as the program `calls` does. README.md says how.
 
 mod ask;
+mod both_ways;
 mod compare;
 mod generate;
+mod measure;
 mod random;
 mod replay;
 mod rows;
@@ -21,11 +23,15 @@ use std::process::ExitCode;
 const USAGE: &str = "oracle                                      runs a script from standard input, prints the Rust's answers
 oracle check FILE..                         compares scripts with the answers behind '; =>'
 oracle time FILE [K]                        runs a script K times (10), prints the time of each call in the Rust
-oracle sample N [SEED] [--calls NAMES]      prints a script of N calls or more, each line with the Rust's answer
-oracle compare N [SEED] [--calls NAMES] --program FILE --folder FOLDER
+oracle measure FILE [K]                     runs a script K times (3), prints its answers and the times of the blocks that it names
+oracle sample N [SEED] [--calls NAMES] [--opened]
+                                            prints a script of N calls or more, each line with the Rust's answer
+oracle compare N [SEED] [--calls NAMES] [--opened] --program FILE --folder FOLDER
                                             runs N calls or more on the Rust and on a program, which puts its files into a folder
+oracle both-ways N [SEED] [--calls NAMES] --program FILE [--other FILE] --folder FOLDER
+                                            runs N lists with poked words on a program, and opened on the same or another one
 NAMES: names of calls separated by commas, 'lattice' for the calls on types, 'dump' for the store's words at the end of each list,
-'all'. The makers are always used.";
+'all'. The makers are always used. --opened opens the stores.";
 
 /// What is compared where no calls are named, and what a sample has: dumps make long lines.
 const COMPARED: &str = "makers,kind,meet,isa,dual,join,glb,lub,is_final,make_ro,dump";
@@ -56,18 +62,23 @@ fn run(words: &[String]) -> Result<bool, Box<dyn Error>> {
             replay::time(file, number(turns, 10)? as usize)?;
             Ok(true)
         }
+        ("measure", [file, turns @ ..]) => {
+            measure::measure(file, number(turns, 3)?.max(1) as usize)?;
+            Ok(true)
+        }
         ("sample", [n, seed @ ..]) => {
-            let menu = Menu::read(options.calls.as_deref().unwrap_or(SAMPLED))?;
+            let menu = options.menu(SAMPLED)?;
             compare::sample(n.parse()?, number(seed, 1)?, &menu);
             Ok(true)
         }
         ("compare", [n, seed @ ..]) => {
-            let menu = Menu::read(options.calls.as_deref().unwrap_or(COMPARED))?;
-            let (Some(path), Some(folder)) = (options.program, options.folder) else {
-                return Err(USAGE.into());
-            };
-            let program = Program { path: path.into(), folder: folder.into() };
-            Ok(compare::compare(&program, n.parse()?, number(seed, 1)?, &menu)?)
+            let program = options.program(&options.program)?;
+            Ok(compare::compare(&program, n.parse()?, number(seed, 1)?, &options.menu(COMPARED)?)?)
+        }
+        ("both-ways", [n, seed @ ..]) if !options.opened => {
+            let plain = options.program(&options.program)?;
+            let opened = options.program(options.other.as_ref().map_or(&options.program, |_| &options.other))?;
+            Ok(both_ways::compare(&plain, &opened, n.parse()?, number(seed, 1)?, &options.menu(COMPARED)?)?)
         }
         _ => Err(USAGE.into()),
     }
@@ -77,7 +88,24 @@ fn run(words: &[String]) -> Result<bool, Box<dyn Error>> {
 struct Options {
     calls: Option<String>,
     program: Option<String>,
+    other: Option<String>,
     folder: Option<String>,
+    opened: bool,
+}
+
+impl Options {
+    fn menu(&self, otherwise: &str) -> Result<Menu, Box<dyn Error>> {
+        let mut menu = Menu::read(self.calls.as_deref().unwrap_or(otherwise))?;
+        menu.opened = self.opened;
+        Ok(menu)
+    }
+
+    fn program(&self, path: &Option<String>) -> Result<Program, Box<dyn Error>> {
+        match (path, &self.folder) {
+            (Some(path), Some(folder)) => Ok(Program { path: path.into(), folder: folder.into() }),
+            _ => Err(USAGE.into()),
+        }
+    }
 }
 
 fn split_options(words: &[String]) -> Result<(Vec<String>, Options), Box<dyn Error>> {
@@ -88,7 +116,12 @@ fn split_options(words: &[String]) -> Result<(Vec<String>, Options), Box<dyn Err
         let place = match word.as_str() {
             "--calls" => &mut options.calls,
             "--program" => &mut options.program,
+            "--other" => &mut options.other,
             "--folder" => &mut options.folder,
+            "--opened" => {
+                options.opened = true;
+                continue;
+            }
             _ if word.starts_with("--") => return Err(format!("{word}: no option\n{USAGE}").into()),
             _ => {
                 plain.push(word.clone());

@@ -25,7 +25,7 @@ pub fn run_script() -> io::Result<()> {
 }
 
 /// An answer as `calls` prints it: the line itself behind the mark where it is no call.
-fn spell(line: &str, answer: &Answer) -> String {
+pub fn spell(line: &str, answer: &Answer) -> String {
     match answer {
         Answer::Malformed => format!("? {}", without_comment(line)),
         _ => answer.to_string(),
@@ -108,7 +108,7 @@ fn time_script(script: &str, spent: &mut BTreeMap<&'static str, (u64, Duration)>
 }
 
 /// What a measured stretch of no work takes, in nanoseconds: taken off each call.
-fn cost_of_the_clock() -> f64 {
+pub fn cost_of_the_clock() -> f64 {
     const TURNS: u32 = 100_000;
     let mut sum = Duration::ZERO;
     for _ in 0..TURNS {

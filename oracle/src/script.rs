@@ -30,6 +30,8 @@ const SHAPES: &[Shape] = &[
     Shape("dump", 0, 0, false),
     Shape("dumpall", 0, 0, false),
     Shape("check", 0, 0, false),
+    Shape("open", 0, 0, false),
+    Shape("close", 0, 0, false),
     // The makers.
     Shape("kind", 1, 1, false),
     Shape("get_bool", 1, 1, false),

@@ -56,12 +56,18 @@ enum Lent<'a, 't> {
 pub struct Session<'a, 't> {
     types: &'a Types<'t>,
     lent: Lent<'a, 't>,
+    most_words: u64,
     pub clock: Clock,
 }
 
 impl<'a, 't> Session<'a, 't> {
     pub fn new(types: &'a Types<'t>) -> Self {
-        Session { types, lent: Lent::Plain(vec![]), clock: Clock::default() }
+        Session { types, lent: Lent::Plain(vec![]), most_words: MOST_WORDS, clock: Clock::default() }
+    }
+
+    /// One that takes lists as long as a store may be, as the library does.
+    pub fn with_long_lists(types: &'a Types<'t>) -> Self {
+        Session { most_words: LONGEST as u64, ..Session::new(types) }
     }
 
     pub fn store(&self) -> Option<&Store<'a, 't>> {
@@ -83,7 +89,7 @@ impl<'a, 't> Session<'a, 't> {
 
     pub fn run(&mut self, call: &Call) -> Answer {
         match (call.name, &call.numbers[..]) {
-            ("list" | "fresh", [n, ..]) if *n > MOST_WORDS => Answer::Malformed,
+            ("list" | "fresh", [n, ..]) if *n > self.most_words => Answer::Malformed,
             ("list", [n]) => self.lend(*n, 0),
             ("list", [n, value]) => self.lend(*n, *value),
             ("fresh", []) => self.fresh(),
@@ -101,6 +107,13 @@ impl<'a, 't> Session<'a, 't> {
                 Lent::Store(_) => Answer::Flag(true),
                 Lent::Lost(..) => lost(),
             },
+            // what an opened store answers is no other than what the same store answers otherwise
+            ("open", []) => match &self.lent {
+                Lent::Plain(_) => Answer::Refused(1),
+                Lent::Store(_) => Answer::Accepted,
+                Lent::Lost(..) => lost(),
+            },
+            ("close", []) => Answer::Accepted,
             _ => self.call(call),
         }
     }
