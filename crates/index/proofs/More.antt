@@ -4,7 +4,6 @@ use mathlib.Core.Bool.{true}
 use mathlib.Core.List.{List, [], _∷_, _++_}
 use Prim.Native.Nat.{ℕ, _+_, _-_, _/_, _≤_, _<_}
 use native.Mathlib.Omega.{arith}
-use native.Mathlib.Nat.{mod-lt}
 use native.Mathlib.Decide.{ℕ-discrete}
 use borrow.Author.Tests.{eq-eqb, ne-eqb}
 use lib.ListN.{length, drop, getD, set, length-set, length-append}
@@ -14,12 +13,13 @@ use Rattle.words.specs.Table.{Row, entries, Sized}
 use Rattle.words.proofs.Kept.{entries-append}
 use Rattle.index.specs.Digest.{hashFrom, bucketOf}
 use Rattle.index.specs.Chains.{newestFirst, newest, link, Holds, Indexed, added}
+use Rattle.index.proofs.Hashed.{slot-below}
 use Rattle.index.proofs.Older.{entries-fall, first-snoc}
 use Rattle.index.proofs.Split.{newest-low}
 
 pub in-half : (n : ℕ) (e : List ℕ) → 0 < n → bucketOf n e < n
 unfolding bucketOf
-in-half n e z = mod-lt (hashFrom 0 e) z
+in-half n e z = slot-below n (hashFrom 0 e) z
 
 pub length-added : (index : List ℕ) (at : ℕ) (e : List ℕ) → length (added index at e) ≡ length index
 unfolding added

@@ -11,7 +11,7 @@ ghost use lib.ListN.{length, take, drop, getD};
 ghost use Rattle.words.specs.Words.{sizeOf, eqs, fills};
 ghost use Rattle.words.specs.Table.{rows, firstOf, findIn, starts as startsIn};
 ghost use Rattle.words.specs.Made.{make, Segments, Runs};
-ghost use Rattle.index.specs.Digest.{stirred, hashFrom, bucketOf};
+ghost use Rattle.index.specs.Digest.{stirred, hashFrom, slotOf, bucketOf};
 ghost use Rattle.index.specs.Chains.{added};
 ghost use Rattle.index.specs.Covers.{indexedTo, Covers, Opened, Tail};
 
@@ -37,12 +37,22 @@ fn hash(entry: &[u64]) -> u64
     h
 }
 
+// The slot of a hash among n.
+pub fn slot(n: usize, h: u64) -> usize
+    requires { ⌜ 0 < n ⌝ }
+    ensures { λ r. ⌜ (r ≡ slotOf n h) × (r < n) ⌝ }
+{
+    if n < 4294967296 {
+        return ((h % 4294967296) * (n as u64) / 4294967296) as usize;
+    }
+    (h % (n as u64)) as usize
+}
+
 fn bucket(half: usize, entry: &[u64]) -> usize
     requires { ⌜ 0 < half ⌝ }
     ensures { λ r. ⌜ (r ≡ bucketOf half (now (entry .entry))) × (r < half) ⌝ }
 {
-    let h = hash(entry);
-    (h % (half as u64)) as usize
+    slot(half, hash(entry))
 }
 
 // How many of the words are in the index.

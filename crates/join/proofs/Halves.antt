@@ -14,7 +14,8 @@ use Rattle.later.proofs.Right.{lines-later}
 use Rattle.walk_rules.specs.declared.Walk.the-variants.{Dual}
 use Rattle.walk.specs.Remembered.{Remembers as RemembersWalks, Remembered as RememberedWalks}
 use Rattle.walk.proofs.Recall.{settled-stays}
-use Rattle.meet.specs.Remembered.{Remembers as RemembersMeets, Remembered as RememberedMeets}
+use Rattle.later.specs.Right.{RightAfter}
+use Rattle.meet.specs.Remembered.{Remembers as RemembersMeets, Settled as SettledMeet}
 use Rattle.meet.proofs.Recall.{settled-stays as meets-stay}
 use Rattle.join.specs.Memory.{Remembers, Remembered}
 
@@ -47,7 +48,7 @@ module _ (m : List ℕ) (k : ℕ) (half : k ≡ length m / 2) where
       meets = rw (duals-length, sym half, drop-at d (drop k m) k duals-part) ms;
     }
 
-    pub duals-left : {old new′ : List ℕ} {r : Interned} → RememberedWalks Dual old new′ r d → RememberedMeets old new′ r (take k (drop k m)) → Remembered old new′ r (d ++ drop k m)
+    pub duals-left : {old new′ : List ℕ} {r : Interned} → RememberedWalks Dual old new′ r d → RightAfter SettledMeet old new′ r (take k (drop k m)) → Remembered old new′ r (d ++ drop k m)
     duals-left ds ms = record { is = λ h v e. duals-back (ds .is h v e) (ms .is h v e) }
 
   -- d came back in the place of the second half

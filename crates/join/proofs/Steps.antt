@@ -179,7 +179,7 @@ module _ (old new : List ℕ) (used a b : ℕ) (rd : Ready old new used 1 11 a b
         memory₁ = met-memory memory d same
 
         met-remembers : Remembers (take v (old ++ now)) memory₁
-        met-remembers = meets-back memory k refl d same (grown-remembers met-first h v f r .duals) (l .is h v f)
+        met-remembers = meets-back memory k refl d same (grown-remembers met-first h v f r .duals) (l .after .is h v f)
 
         -- the first half of it is what the dual is lent
         pub meet-remembers : RemembersWalks Dual (take v (old ++ now)) (take k memory₁)

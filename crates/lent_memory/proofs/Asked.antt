@@ -1,30 +1,42 @@
--- isa: what meet leaves of the used words alone, and what the memory has of it. Assumes nothing.
+-- isa: what meet leaves of the used words alone, and of the memory. Assumes nothing.
 use mathlib.Core.Path.{_≡_, refl, sym, ap, _∙_}
-use mathlib.Core.Bool.{false}
+use mathlib.Core.Bool.{Bool, false}
 use mathlib.Core.Logic.{⊎-elim}
 use mathlib.Core.List.{List, [], _++_, append-nil}
 use Prim.Native.Nat.{ℕ, suc, _-_, _+_, _*_, _/_, _≤_, max}
 use native.Mathlib.Omega.{arith}
 use borrow.Author.Tests.{ne-eqb}
+use borrow.Rule.Slice.PartMut.{putMid}
 use lib.Dec.{eqb}
 use lib.ListN.{length, take, drop}
 use lib.Seq.{length-take-le, take-take}
 use Rattle.words.specs.Made.{Grown, Ran}
 use Rattle.words.specs.declared.Interned.{Interned}
 use Rattle.words.specs.declared.Interned.the-variants.{At, Full}
+use Rattle.words.proofs.Extend.{ext-length}
 use Rattle.words.proofs.Room.{fitted, overflowed}
 use Rattle.index.specs.Covers.{Covers}
 use Rattle.parts.specs.Parts.{Ready}
 use Rattle.parts.proofs.Good.{part-below}
-use Rattle.memo.specs.Memo.{Tells}
-use Rattle.memo.specs.declared.Recalled.{Recalled}
-use Rattle.memo.specs.declared.Recalled.the-variants.{Is as Recalled·Is}
-use Rattle.memo.proofs.Lines.{recalled}
-use Rattle.later.proofs.Later.{later-same}
 use Rattle.meet.specs.Meet.{meetOf, isaOf, Met}
+use Rattle.meet.specs.Remembered.{Remembered}
+use Rattle.meet.proofs.Grows.{meet-grows}
 use Rattle.meet.proofs.Nice.{meet-nice}
+use Rattle.meet.proofs.Recall.{still-old}
 use Rattle.lent_memory.specs.Memory.{Right}
-use Rattle.lent_memory.proofs.Ways.{meets-lent}
+use Rattle.lent_memory.specs.Second.{second}
+use Rattle.lent_memory.proofs.Parts.{put}
+use Rattle.lent_memory.proofs.Laws.{right-meets}
+use Rattle.lent_memory.proofs.Ways.{met-lent}
+
+module _ (m : Interned) where
+  pub second-at : (h v b : ℕ) → m ≡ At h v → eqb h b ≡ second m b
+  unfolding second
+  second-at h v b e = rw e
+
+  pub second-full : (b : ℕ) → m ≡ Full → false ≡ second m b
+  unfolding second
+  second-full b e = rw e
 
 module _ {ws : List ℕ} {used a b : ℕ} (rd : Ready [] ws used 1 11 a b) where
   abbrev u : List ℕ
@@ -53,6 +65,10 @@ module _ {ws : List ℕ} {used a b : ℕ} (rd : Ready [] ws used 1 11 a b) where
   pub ask-covers : {index : List ℕ} → Covers u index → Covers (take used (u ++ [])) index
   ask-covers x = rw read x
 
+  -- what meet requires of the memory
+  pub ask-right : {memory : List ℕ} → Right u memory → Right (take used (u ++ [])) memory
+  ask-right x = rw read x
+
   abbrev g : Grown
   g = meetOf u a b
 
@@ -74,9 +90,25 @@ module _ {ws : List ℕ} {used a b : ℕ} (rd : Ready [] ws used 1 11 a b) where
         (λ (late : length u ≤ g .handle). let ne : g .handle ≡ b → ⊥ = (λ z. absurd (omega (arith, rd .next, used-words))) in sym (ne-eqb (g .handle) b ne))
         (res .new)
 
-  -- a line of the memory
-  pub isa-known : {memory : List ℕ} → Right u memory → {line : Recalled} → Tells (take (2 * (length memory / 6) - length memory / 6) (drop (length memory / 6) memory)) (a * 1048576 + b) line → (h : ℕ) → line ≡ Recalled·Is h → eqb h b ≡ isaOf u a b
-  isa-known right t h e =
-      let s = recalled (meets-lent right) t h e in
-      let small : suc b ≤ 1048576 = omega (arith, rd .next, rd .within, rd .small) in
-      ap (λ (m : Grown). eqb (m .handle) b) (sym (s .is u (later-same u) a b small refl (suc (max a b)) (omega arith) (omega arith)))
+    -- the answer is read off what meet leaves
+    pub isa-second : (x : Bool) → x ≡ second r b → x ≡ isaOf u a b
+    unfolding second
+    isa-second x is = go r refl is
+      where
+        go : (s : Interned) → r ≡ s → x ≡ second s b → x ≡ isaOf u a b
+        go (At h v) e q = q ∙ isa-at h v e
+        go Full e q = q ∙ isa-full e
+
+    -- and the memory, in which d came back from meet, is right for the words as they were
+    pub isa-right : length new′ ≡ 0 → {memory : List ℕ} → Right u memory → {d : List ℕ} → Remembered u new′ r d → length d ≡ length (take (2 * (length memory / 6) - length memory / 6) (drop (length memory / 6) memory))
+        → Right u (putMid (length memory / 6) (2 * (length memory / 6) - length memory / 6) memory d)
+    isa-right z {memory} right {d} m long = go r refl
+      where
+        go : (s : Interned) → r ≡ s → Right u (putMid (length memory / 6) (2 * (length memory / 6) - length memory / 6) memory d)
+        go (At h v) e =
+            let there = met-lent ask-ready (ask-right right) met (m .after) long .1 .is h v e in
+            let f = fitted used g (u ++ []) (u ++ new′) r ran h v e in
+            let more = ext-length u (g .words) (meet-grows (suc (max a b)) u a b) in
+            let q : take v (u ++ new′) ≡ u = still-old u new′ v (omega (arith, f .end)) z in
+            rw q at there
+        go Full e = right-meets right (put 1 (omega arith) memory (length memory / 6) (2 * (length memory / 6)) (omega arith) (omega arith) d long) (m .full e z)

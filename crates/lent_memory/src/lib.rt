@@ -20,6 +20,7 @@ ghost use Rattle.finals.specs.Final.{Finals};
 ghost use Rattle.make_ro.specs.ReadOnly.{makeRoOf, MadeRo};
 ghost use Rattle.make_ro.specs.Remembered.{Settled};
 ghost use Rattle.lent_memory.specs.Memory.{partOf, Right, RightThen};
+ghost use Rattle.lent_memory.specs.Second.{second};
 
 pub fn meet(
     old: &[u64],
@@ -203,45 +204,46 @@ pub fn is_final(
     finals::is_final(old, new, used, a, &mut memory[5 * n..6 * n])
 }
 
-// Whether the meet of a and b would be b, by meeting them. The used words are lent to be read, with no word behind them: whatever would have to be
-// appended does not fit, and is no old handle.
-fn isa_new(words: &[u64], used: usize, a: u64, b: u64, index: &[u64]) -> bool
-    requires { ⌜ Ready [] (now words) used 1 11 a b ⌝ }
-    requires { ⌜ Covers (take used (now words)) (now index) ⌝ }
-    ensures { λ r. ⌜ r ≡ isaOf (take used (now (words .entry))) a b ⌝ }
+// Whether an answer is b. One that did not fit is not: what would have to be appended is no old handle.
+fn is_second(m: Interned, b: u64) -> bool
+    ensures { λ r. ⌜ r ≡ second m b ⌝ }
 {
-    let mut none = [0u64; 0];
-    let m = own_memory::ask(
-        &words[..used],
-        &mut none,
-        used,
-        a as usize,
-        b as usize,
-        index,
-    );
     match m {
         Interned::At(h, _) => h as u64 == b,
         Interned::Full => false,
     }
 }
 
-// The same, by the memory first, where it may have the pair: only types with parts are in it.
-pub fn isa(words: &[u64], used: usize, a: u64, b: u64, memory: &[u64], index: &[u64]) -> bool
+// Whether the meet of a and b would be b, by meeting them. The used words are lent to be read, with no word behind them, so that nothing is appended; and so the
+// memory stays right for them whatever the answer is.
+pub fn isa(words: &[u64], used: usize, a: u64, b: u64, memory: &mut [u64], index: &[u64]) -> bool
     requires { ⌜ Ready [] (now words) used 1 11 a b ⌝ }
     requires { ⌜ Right (take used (now words)) (now memory) ⌝ }
     requires { ⌜ Covers (take used (now words)) (now index) ⌝ }
     ensures { λ r. ⌜ r ≡ isaOf (take used (now (words .entry))) a b ⌝ }
+    ensures { λ _. ⌜ Right (take used (now (words .entry))) (now (memory .exit)) ⌝ }
 {
+    let mut none = [0u64; 0];
     let n = memory.len() / 6;
     if n == 0 {
-        return isa_new(words, used, a, b, index);
+        let m = own_memory::ask(
+            &words[..used],
+            &mut none,
+            used,
+            a as usize,
+            b as usize,
+            index,
+        );
+        return is_second(m, b);
     }
-    if words[a as usize] % 256 < 7 {
-        return isa_new(words, used, a, b, index);
-    }
-    let line = memo::recall(&memory[n..2 * n], a * 1048576 + b);
-    match line {
-        Recalled::Is(h) => h == b,
-        Recalled::Nothing => isa_new(words, used, a, b, index),
-    }
+    let m = meet::meet_type(
+        &words[..used],
+        &mut none,
+        used,
+        a as usize,
+        b as usize,
+        &mut memory[n..2 * n],
+        index,
+    );
+    is_second(m, b)
 }

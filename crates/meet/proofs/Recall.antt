@@ -2,16 +2,18 @@
 use mathlib.Core.Path.{_≡_, refl, sym, ap, _∙_}
 use mathlib.Core.Bool.{Bool, true, false}
 use mathlib.Core.Logic.{⊎-elim}
-use mathlib.Core.List.{List, _++_}
+use mathlib.Core.List.{List, [], _∷_, _++_, append-nil}
 use Prim.Native.Nat.{ℕ, zero, suc, _+_, _≤_, _<_}
 use native.Mathlib.Omega.{arith}
 use lib.Dec.{eqb}
-use lib.ListN.{take}
-use Rattle.words.specs.Made.{there, make, Segments, Ran, Runs}
+use lib.ListN.{length, take}
+use lib.Seq.{take-all}
+use Rattle.words.specs.Made.{Grown, there, make, Segments, Ran, Runs}
 use Rattle.words.specs.declared.Interned.{Interned}
-use Rattle.words.specs.declared.Interned.the-variants.{At}
+use Rattle.words.specs.declared.Interned.the-variants.{At, Full}
+use Rattle.words.proofs.Extend.{Extends}
 use Rattle.words.proofs.Placed.{make-extends}
-use Rattle.words.proofs.Room.{fitted, fit-front}
+use Rattle.words.proofs.Room.{fitted, fit-front, overflowed}
 use Rattle.call.specs.Handles.{kindOn, countOn}
 use Rattle.parts.specs.Parts.{Part, Ready}
 use Rattle.parts.proofs.Good.{part-below}
@@ -19,7 +21,7 @@ use Rattle.parts.proofs.Grew.{grew-none, grew-there}
 use Rattle.later.specs.Later.{Later}
 use Rattle.later.specs.Right.{Stays}
 use Rattle.later.proofs.Later.{later-same, later-then}
-use Rattle.later.proofs.Right.{right-learned, right-made}
+use Rattle.later.proofs.Right.{right-full, right-same, right-learned, right-made}
 use Rattle.makers.specs.Entries.{pointerEntry, memoryEntry}
 use Rattle.memo.specs.Memo.{Tells, Learned}
 use Rattle.memo.specs.declared.Recalled.{Recalled}
@@ -38,9 +40,31 @@ use Rattle.meet.proofs.Settled.{meet-settled}
 pub settled-stays : Stays Settled
 settled-stays u v key h x s = record { is = λ w y. s .is w (later-then x y) }
 
--- an entry was made, in words for which the memory is right
+-- nothing was appended
+pub remembered-same : {old new memo : List ℕ} {used h : ℕ} → Remembers (take used (old ++ new)) memo → Remembered old new (At h used) memo
+remembered-same m = record { after = right-same Settled m; full = λ e z. let x : _≡_ {A = ℕ} 0 1 = cc in absurd (omega arith) }
+
+-- a part had no room
+pub remembered-full : {old new′ memo : List ℕ} {r : Interned} → r ≡ Full → Remembered old new′ r memo → Remembered old new′ Full memo
+remembered-full e m = record { after = right-full; full = λ f z. m .full e z }
+
+-- no word was lent to append to
+pub still-old : (old now : List ℕ) (v : ℕ) → length old ≤ v → length now ≡ 0 → take v (old ++ now) ≡ old
+still-old old [] v le z = ap (take v) (append-nil old) ∙ take-all v old le
+still-old old (w ∷ ws) v le z = absurd (omega (arith, z))
+
+-- entries were made, in words for which the memory is right
+remembered-made : {old now memo : List ℕ} {v : ℕ} → Segments old now v → Remembers (take v (old ++ now)) memo → (g : Grown) → Extends (take v (old ++ now)) (g .words) → {now₂ : List ℕ} {o : Interned} → Ran v g (old ++ now) (old ++ now₂) o → Remembered old now₂ o memo
+remembered-made {old} {now} {memo} {v} s m g x {now₂} {o} ran = record { after = right-made settled-stays s m g x ran; full = still }
+  where
+    still : o ≡ Full → length now₂ ≡ 0 → Remembers old memo
+    still e z =
+        let kept = ran .full (overflowed v g (old ++ now) (old ++ now₂) o ran e) in
+        let q : take v (old ++ now) ≡ old = sym kept ∙ still-old old now₂ v (s .over) z in
+        rw q at m
+
 pub remembered-entry : {old now memo : List ℕ} {v : ℕ} → Segments old now v → Remembers (take v (old ++ now)) memo → (e : List ℕ) {now₂ : List ℕ} {o : Interned} → Ran v (make (take v (old ++ now)) e) (old ++ now) (old ++ now₂) o → Remembered old now₂ o memo
-remembered-entry {old} {now} {v = v} s m e ran = right-made settled-stays s m (make (take v (old ++ now)) e) (make-extends (take v (old ++ now)) e) ran
+remembered-entry {old} {now} {v = v} s m e ran = remembered-made s m (make (take v (old ++ now)) e) (make-extends (take v (old ++ now)) e) ran
 
 pub remembered-pointer : {old now memo : List ℕ} {v : ℕ} → Segments old now v → Remembers (take v (old ++ now)) memo → (h nil : ℕ) {now₂ : List ℕ} {o : Interned} → Runs (λ w. make w (pointerEntry h nil w)) old now v now₂ o → Remembered old now₂ o memo
 remembered-pointer {old} {now} {v = v} s m h nil ran = remembered-entry s m (pointerEntry h nil (take v (old ++ now))) ran
@@ -50,7 +74,7 @@ remembered-memory {old} {now} {v = v} s m alias h ran = remembered-entry s m (me
 
 -- a struct was made
 pub remembered-fields : {old now memo : List ℕ} {v : ℕ} → Segments old now v → Remembers (take v (old ++ now)) memo → (a b : ℕ) (hs : List ℕ) {now₂ : List ℕ} {o : Interned} → Ran v (meetFields a b hs (take v (old ++ now))) (old ++ now) (old ++ now₂) o → Remembered old now₂ o memo
-remembered-fields {old} {now} {v = v} s m a b hs ran = let p : Many = record { words = take v (old ++ now); handles = hs } in right-made settled-stays s m (structOf a b p) (struct-grows a b p) ran
+remembered-fields {old} {now} {v = v} s m a b hs ran = let p : Many = record { words = take v (old ++ now); handles = hs } in remembered-made s m (structOf a b p) (struct-grows a b p) ran
 
 -- ---- the meet of two structs or forward references is that of two types
 
@@ -106,7 +130,9 @@ module _ {old new : List ℕ} {used a b : ℕ} (rd : Ready old new used 1 11 a b
 
   -- and a line of the memory from then on
   pub met-noted : {new′ memo : List ℕ} {r : Interned} → Met old new used a b new′ r → Remembered old new′ r memo → {memo′ : List ℕ} {o : Interned} → o ≡ r → Learned memo key r memo′ → Met old new used a b new′ o × Remembered old new′ o memo′
-  met-noted t m e l = rw e (t, right-learned Settled m l (met-settled t))
+  met-noted {new′} {r = r} t m {memo′} e l =
+      let n : Remembered old new′ r memo′ = record { after = right-learned Settled (m .after) l (met-settled t); full = λ f z. rw (l .full f) (m .full f z) } in
+      rw e (t, n)
 
 -- ---- a struct's meet
 

@@ -2,8 +2,10 @@
 use mathlib.Core.Path.{_≡_}
 use mathlib.Core.List.{List}
 use Prim.Native.Nat.{ℕ, _+_, _*_, _<_}
+use lib.ListN.{length}
 use Rattle.words.specs.Made.{there}
 use Rattle.words.specs.declared.Interned.{Interned}
+use Rattle.words.specs.declared.Interned.the-variants.{Full}
 use Rattle.memo.specs.Memo.{Lines}
 use Rattle.later.specs.Later.{Later}
 use Rattle.later.specs.Right.{RightAfter}
@@ -21,6 +23,8 @@ pub record Settled (u : List ℕ) (key h : ℕ) : Type 0 where
 abbrev pub Remembers : List ℕ → List ℕ → Type 0
 Remembers u memo = Lines (Settled u) memo
 
--- what the two functions of the cycle leave of a memory
-abbrev pub Remembered : List ℕ → List ℕ → Interned → List ℕ → Type 0
-Remembered old new′ r memo′ = RightAfter Settled old new′ r memo′
+-- what the two functions of the cycle leave of a memory: where the answer fitted, one that is right for the used words as they are then; and where no word was
+-- lent to append to, one that is right for the words as they were, also where the answer did not fit (isa meets so)
+pub record Remembered (old new′ : List ℕ) (r : Interned) (memo′ : List ℕ) : Type 0 where
+  pub after : RightAfter Settled old new′ r memo′
+  pub full : r ≡ Full → length new′ ≡ 0 → Remembers old memo′

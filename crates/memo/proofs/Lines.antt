@@ -42,10 +42,10 @@ noted-line memo key answer j room some fits = record { line = λ i. go i (eqb i 
     go i false q = inl (getD-set-other memo j i (key * 1048576 + answer) 0 (eqb-false i j q))
 
 pub learned-at : (memo : List ℕ) (key h v : ℕ) (memo′ : List ℕ) (r : Interned) → r ≡ At h v → Noted memo key h memo′ → Learned memo key r memo′
-learned-at memo key h v memo′ r e n = record { at = λ k w f. let q : h ≡ k = cc in rw q at n }
+learned-at memo key h v memo′ r e n = record { at = λ k w f. let q : h ≡ k = cc in rw q at n; full = λ f. let z : _≡_ {A = ℕ} 0 1 = cc in absurd (omega arith) }
 
-pub learned-none : (memo : List ℕ) (key : ℕ) (memo′ : List ℕ) (r : Interned) → r ≡ Full → Learned memo key r memo′
-learned-none memo key memo′ r e = record { at = λ h v f. let z : _≡_ {A = ℕ} 0 1 = cc in absurd (omega arith) }
+pub learned-none : (memo : List ℕ) (key : ℕ) (r : Interned) → r ≡ Full → Learned memo key r memo
+learned-none memo key r e = record { at = λ h v f. let z : _≡_ {A = ℕ} 0 1 = cc in absurd (omega arith); full = λ f. refl }
 
 -- it holds of a memory without any
 pub lines-none : {P : ℕ → ℕ → Type 0} {memo : List ℕ} → ((i : ℕ) → getD memo i 0 ≡ 0) → Lines P memo

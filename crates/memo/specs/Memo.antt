@@ -6,7 +6,7 @@ use mathlib.Core.List.{List}
 use Prim.Native.Nat.{ℕ, _+_, _*_, _<_}
 use lib.ListN.{getD}
 use Rattle.words.specs.declared.Interned.{Interned}
-use Rattle.words.specs.declared.Interned.the-variants.{At}
+use Rattle.words.specs.declared.Interned.the-variants.{At, Full}
 use Rattle.memo.specs.declared.Recalled.{Recalled}
 use Rattle.memo.specs.declared.Recalled.the-variants.{Is}
 
@@ -28,6 +28,7 @@ pub record Tells (memo : List ℕ) (key : ℕ) (r : Recalled) : Type 0 where
 pub record Noted (memo : List ℕ) (key answer : ℕ) (memo′ : List ℕ) : Type 0 where
   pub line : (i : ℕ) → (getD memo′ i 0 ≡ getD memo i 0) ⊎ Line memo′ i key answer
 
--- the handle that an operation answered is noted; of an operation that had no room nothing is said
+-- the handle that an operation answered is noted; of an operation that had no room nothing is
 pub record Learned (memo : List ℕ) (key : ℕ) (r : Interned) (memo′ : List ℕ) : Type 0 where
   pub at : (h v : ℕ) → r ≡ At h v → Noted memo key h memo′
+  pub full : r ≡ Full → memo′ ≡ memo

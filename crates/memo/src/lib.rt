@@ -13,18 +13,19 @@ pub enum Recalled {
     Nothing,
 }
 
-// The line that a key asks for. Keys below 2 to the 20 ask for different lines where there are as many. Of a pair both halves are spread over the
-// lines, since pairs come in rows and columns, whose lines would else lie in heaps.
+// The line that a key asks for. Keys below 2 to the 20 ask for different lines where there are as many. Pairs come in rows and columns, whose lines would
+// lie in heaps if they went by their numbers: they are spread by a hash.
 fn home(lines: usize, key: u64) -> usize
     requires { ⌜ 0 < lines ⌝ }
     ensures { λ r. ⌜ r < lines ⌝ }
 {
+    if key < lines as u64 {
+        return key as usize;
+    }
     if key < 1048576 {
         return (key % (lines as u64)) as usize;
     }
-    let first = key / 1048576 % 1073741824 * 2654435761;
-    let second = key % 1048576 * 2246822519;
-    ((first + second) / 32768 % (lines as u64)) as usize
+    index::slot(lines, index::stir(key))
 }
 
 // In how many lines a key is looked for.

@@ -154,8 +154,7 @@ fn name_bucket(half: usize, text: &[u8], wrap: bool) -> usize
     requires { ⌜ length (now text) ≤ 65535 ⌝ }
     ensures { λ r. ⌜ (r ≡ bucketOf half (nameEntry (wrapped wrap (now (text .entry))))) × (r < half) ⌝ }
 {
-    let h = name_hash(text, wrap);
-    (h % (half as u64)) as usize
+    index::slot(half, name_hash(text, wrap))
 }
 
 // Whether the entry at a handle is that of a name.

@@ -42,7 +42,7 @@ same-length-3 : tie.Need-same-length-3
 same-length-3 c = search needs
 
 returns-2 : tie.Need-returns-2
-returns-2 c = met-lent (c .before .before .before .before .before .before .before .before .before .before .before .before .pre .0) (c .before .before .before .before .before .before .before .before .before .before .before .before .pre .1 .0) (c .before .before .before .before .meet-type .ensures .0) (c .before .before .before .before .meet-type .ensures .1) (c .before .before .before .before .meet-type .kept .1 .1 .1 .1 .1 .0)
+returns-2 c = met-lent (c .before .before .before .before .before .before .before .before .before .before .before .before .pre .0) (c .before .before .before .before .before .before .before .before .before .before .before .before .pre .1 .0) (c .before .before .before .before .meet-type .ensures .0) (c .before .before .before .before .meet-type .ensures .1 .after) (c .before .before .before .before .meet-type .kept .1 .1 .1 .1 .1 .0)
 
 pub meet-spec : {M : Type 1} → statement M
 meet-spec =

@@ -9,9 +9,8 @@ use native.Mathlib.Omega.{arith}
 use borrow.Author.Needs.{needs}
 use Rattle.parts.proofs.Good.{ready-segments}
 use Rattle.parts.proofs.Grew.{grew-long, grew-high, grew-up, grew-covers}
-use Rattle.later.proofs.Right.{right-full, right-same}
-use Rattle.meet.specs.Remembered.{Settled, Remembers}
-use Rattle.meet.proofs.Recall.{remembered-entry, remembered-pointer, remembered-memory, remembered-fields, met-known, met-noted, struct-known, struct-noted}
+use Rattle.meet.specs.Remembered.{Remembers}
+use Rattle.meet.proofs.Recall.{remembered-same, remembered-full, remembered-entry, remembered-pointer, remembered-memory, remembered-fields, met-known, met-noted, struct-known, struct-noted}
 use Rattle.meet.proofs.Loop.{Going, going-segments}
 use Rattle.meet.proofs.Ways.{met-first, met-second, met-bottom, met-ints, float-sizes, met-floats, ready-structs, met-structs, pointer-next, pointer-full, pointer-segments, pointer-required, met-pointers, memory-next, memory-full, memory-segments, memory-required, met-memories, tuple-few, tuple-begin, tuple-stop, tuple-end, tuple-next, tuple-turn, names-below, met-former, met-latter, met-lowest, struct-few, struct-begin, struct-stop, struct-end, struct-values, struct-next, struct-turn}
 use Prim.Native.Nat.{ℕ, _<_}
@@ -109,7 +108,7 @@ meet-struct-same-length-2 : (t : ℕ) → meet-struct-lts.Need-same-length-2 (me
 meet-struct-same-length-2 t c = search needs
 
 meet-struct-returns : (t : ℕ) → meet-struct-lts.Need-returns (meet-struct-K t) (meet-struct-at t) meet-struct.Post meet-struct-Inv-loop meet-struct-μ-loop
-meet-struct-returns t c = (struct-known (c .before .before .before .before .before .before .before .before .before .before .before .before .before .before .pre .1 .0) _ (c .before .before .before .before .before .pair-key .ensures) (c .before .before .before .before .before .before .before .before .before .before .before .before .before .before .pre .1 .1 .0) (c .before .before .before .recall .ensures) _ (c .before .line .given .1), right-same Settled (c .before .before .before .before .before .before .before .before .before .before .before .before .before .before .pre .1 .1 .0))
+meet-struct-returns t c = (struct-known (c .before .before .before .before .before .before .before .before .before .before .before .before .before .before .pre .1 .0) _ (c .before .before .before .before .before .pair-key .ensures) (c .before .before .before .before .before .before .before .before .before .before .before .before .before .before .pre .1 .1 .0) (c .before .before .before .recall .ensures) _ (c .before .line .given .1), remembered-same (c .before .before .before .before .before .before .before .before .before .before .before .before .before .before .pre .1 .1 .0))
 
 meet-struct-enum-told-5 : (t : ℕ) → meet-struct-lts.Need-enum-told-5 (meet-struct-K t) (meet-struct-at t) meet-struct.Post meet-struct-Inv-loop meet-struct-μ-loop
 meet-struct-enum-told-5 t c = search needs
@@ -173,7 +172,7 @@ meet-struct-same-length-4 : (t : ℕ) → meet-struct-lts.Need-same-length-4 (me
 meet-struct-same-length-4 t c = search needs
 
 meet-struct-returns-2 : (t : ℕ) → meet-struct-lts.Need-returns-2 (meet-struct-K t) (meet-struct-at t) meet-struct.Post meet-struct-Inv-loop meet-struct-μ-loop
-meet-struct-returns-2 t c = (struct-stop _ _ _ _ _ (c .before .before .before .before .before .before .before .before .before .before .before .before .before .before .before .before .before .before .before .before .before .before .before .before .before .before .before .before .before .before .pre .1 .0) _ (c .before .before .before .before .before .before .before .before .before .before .before .before .before .before .before .before .before .before .before .before .before .before .before .before .struct-rule .ensures) (c .before .before .before .before .before .before .before .before .before .before .before .before .before .before .before .before .before .before .before .before .before .before .enum-told4 .given .1) _ (c .before .before .before .before .before .before .before .before .before .before .before .before .before .before .before .word .ensures) _ _ _ _ (c .before .before .before .before .before .before .before .before .before .before .before .before .before .before .loop .inv .9) (c .before .before .before .before .before .before .before .before .before .before .before .before .before .loop-test .taken) _ _ (c .before .before .before .before .before .before .before .before .before .before .before .word2 .ensures) (c .before .before .before .before .before .before .before .before .before .word3 .ensures) _ _ (c .before .before .before .before .before .before .meet-type .ensures .0) (c .enum-told6 .given .1), right-full)
+meet-struct-returns-2 t c = (struct-stop _ _ _ _ _ (c .before .before .before .before .before .before .before .before .before .before .before .before .before .before .before .before .before .before .before .before .before .before .before .before .before .before .before .before .before .before .pre .1 .0) _ (c .before .before .before .before .before .before .before .before .before .before .before .before .before .before .before .before .before .before .before .before .before .before .before .before .struct-rule .ensures) (c .before .before .before .before .before .before .before .before .before .before .before .before .before .before .before .before .before .before .before .before .before .before .enum-told4 .given .1) _ (c .before .before .before .before .before .before .before .before .before .before .before .before .before .before .before .word .ensures) _ _ _ _ (c .before .before .before .before .before .before .before .before .before .before .before .before .before .before .loop .inv .9) (c .before .before .before .before .before .before .before .before .before .before .before .before .before .loop-test .taken) _ _ (c .before .before .before .before .before .before .before .before .before .before .before .word2 .ensures) (c .before .before .before .before .before .before .before .before .before .word3 .ensures) _ _ (c .before .before .before .before .before .before .meet-type .ensures .0) (c .enum-told6 .given .1), remembered-full (c .enum-told6 .given .1) (c .before .before .before .before .before .before .meet-type .ensures .1))
 
 meet-struct-add-i : (t : ℕ) → meet-struct-lts.Need-add-i (meet-struct-K t) (meet-struct-at t) meet-struct.Post meet-struct-Inv-loop meet-struct-μ-loop
 meet-struct-add-i t c = search needs
@@ -186,7 +185,7 @@ meet-struct-loop-again t c =
     let l = c .before .before .before .before .before .before .before .before .before .before .before .before .before .before .before .loop .inv in
     let i = c .before .before .before .before .before .before .before .before .before .before .before .before .before .before .loop-test .taken in
     let G = struct-turn _ _ _ _ _ _ (c .before .before .before .before .before .before .before .before .before .before .before .before .before .before .before .loop .new) _ _ _ (l .9) i _ _ (c .before .before .before .before .before .before .before .before .before .before .before .before .word2 .ensures) (c .before .before .before .before .before .before .before .before .before .before .word3 .ensures) (c .before .before .before .before .before .before .before .meet-type .ensures .0) _ _ (c .before .m .given .1) (omega (arith, l .1, l .2, i)) in
-    (search needs, l .1, simp length-set (l .2), grew-long (G .turn .grew), grew-high (G .turn .grew), grew-up (G .turn .grew), l .6, l .7, l .8, G, c .before .before .before .before .before .before .before .meet-type .ensures .1 .is _ _ (c .before .m .given .1), omega (arith, l .11, c .before .before .before .before .before .before .before .meet-type .kept .1))
+    (search needs, l .1, simp length-set (l .2), grew-long (G .turn .grew), grew-high (G .turn .grew), grew-up (G .turn .grew), l .6, l .7, l .8, G, c .before .before .before .before .before .before .before .meet-type .ensures .1 .after .is _ _ (c .before .m .given .1), omega (arith, l .11, c .before .before .before .before .before .before .before .meet-type .kept .1))
 
 meet-struct-array-share-prefix-types : (t : ℕ) → meet-struct-lts.Need-array-share-prefix-types (meet-struct-K t) (meet-struct-at t) meet-struct.Post meet-struct-Inv-loop meet-struct-μ-loop
 meet-struct-array-share-prefix-types t c = search needs
@@ -211,19 +210,19 @@ meet-struct-same-length-5 : (t : ℕ) → meet-struct-lts.Need-same-length-5 (me
 meet-struct-same-length-5 t c = search needs
 
 meet-struct-returns-3 : (t : ℕ) → meet-struct-lts.Need-returns-3 (meet-struct-K t) (meet-struct-at t) meet-struct.Post meet-struct-Inv-loop meet-struct-μ-loop
-meet-struct-returns-3 t c = (met-former _ _ _ _ _ (c .before .before .before .before .before .before .before .before .pre .1 .0) _ (c .before .before .struct-rule .ensures) (c .enum-told .given .1), right-same Settled (c .before .before .before .before .before .before .before .before .pre .1 .1 .0))
+meet-struct-returns-3 t c = (met-former _ _ _ _ _ (c .before .before .before .before .before .before .before .before .pre .1 .0) _ (c .before .before .struct-rule .ensures) (c .enum-told .given .1), remembered-same (c .before .before .before .before .before .before .before .before .pre .1 .1 .0))
 
 meet-struct-same-length-6 : (t : ℕ) → meet-struct-lts.Need-same-length-6 (meet-struct-K t) (meet-struct-at t) meet-struct.Post meet-struct-Inv-loop meet-struct-μ-loop
 meet-struct-same-length-6 t c = search needs
 
 meet-struct-returns-4 : (t : ℕ) → meet-struct-lts.Need-returns-4 (meet-struct-K t) (meet-struct-at t) meet-struct.Post meet-struct-Inv-loop meet-struct-μ-loop
-meet-struct-returns-4 t c = (met-latter _ _ _ _ _ (c .before .before .before .before .before .before .before .before .pre .1 .0) _ (c .before .before .struct-rule .ensures) (c .enum-told2 .given .1), right-same Settled (c .before .before .before .before .before .before .before .before .pre .1 .1 .0))
+meet-struct-returns-4 t c = (met-latter _ _ _ _ _ (c .before .before .before .before .before .before .before .before .pre .1 .0) _ (c .before .before .struct-rule .ensures) (c .enum-told2 .given .1), remembered-same (c .before .before .before .before .before .before .before .before .pre .1 .1 .0))
 
 meet-struct-same-length-7 : (t : ℕ) → meet-struct-lts.Need-same-length-7 (meet-struct-K t) (meet-struct-at t) meet-struct.Post meet-struct-Inv-loop meet-struct-μ-loop
 meet-struct-same-length-7 t c = search needs
 
 meet-struct-returns-5 : (t : ℕ) → meet-struct-lts.Need-returns-5 (meet-struct-K t) (meet-struct-at t) meet-struct.Post meet-struct-Inv-loop meet-struct-μ-loop
-meet-struct-returns-5 t c = (met-lowest _ _ _ _ _ (c .before .before .before .before .before .before .before .before .pre .1 .0) _ (c .before .before .struct-rule .ensures) (c .enum-told3 .given .1), right-same Settled (c .before .before .before .before .before .before .before .before .pre .1 .1 .0))
+meet-struct-returns-5 t c = (met-lowest _ _ _ _ _ (c .before .before .before .before .before .before .before .before .pre .1 .0) _ (c .before .before .struct-rule .ensures) (c .enum-told3 .given .1), remembered-same (c .before .before .before .before .before .before .before .before .pre .1 .1 .0))
 
 meet-struct-same-length-8 : (t : ℕ) → meet-struct-lts.Need-same-length-8 (meet-struct-K t) (meet-struct-at t) meet-struct.Post meet-struct-Inv-loop meet-struct-μ-loop
 meet-struct-same-length-8 t c = search needs
@@ -264,7 +263,7 @@ meet-type-same-length-2 : (t : ℕ) → meet-type-lts.Need-same-length-2 (meet-t
 meet-type-same-length-2 t c = search needs
 
 meet-type-returns : (t : ℕ) → meet-type-lts.Need-returns (meet-type-K t) (meet-type-at t) meet-type.Post meet-type-Inv-loop meet-type-μ-loop
-meet-type-returns t c = (met-known (c .before .before .before .before .before .before .before .before .before .before .before .before .pre .1 .0) _ (c .before .before .before .before .before .meet-key .ensures) (c .before .before .before .before .before .before .before .before .before .before .before .before .pre .1 .1 .0) (c .before .before .before .recall .ensures) _ (c .before .line .given .1), right-same Settled (c .before .before .before .before .before .before .before .before .before .before .before .before .pre .1 .1 .0))
+meet-type-returns t c = (met-known (c .before .before .before .before .before .before .before .before .before .before .before .before .pre .1 .0) _ (c .before .before .before .before .before .meet-key .ensures) (c .before .before .before .before .before .before .before .before .before .before .before .before .pre .1 .1 .0) (c .before .before .before .recall .ensures) _ (c .before .line .given .1), remembered-same (c .before .before .before .before .before .before .before .before .before .before .before .before .pre .1 .1 .0))
 
 meet-type-enum-told : (t : ℕ) → meet-type-lts.Need-enum-told (meet-type-K t) (meet-type-at t) meet-type.Post meet-type-Inv-loop meet-type-μ-loop
 meet-type-enum-told t c = search needs
@@ -450,7 +449,7 @@ meet-type-same-length-4 : (t : ℕ) → meet-type-lts.Need-same-length-4 (meet-t
 meet-type-same-length-4 t c = search needs
 
 meet-type-returns-2 : (t : ℕ) → meet-type-lts.Need-returns-2 (meet-type-K t) (meet-type-at t) meet-type.Post meet-type-Inv-loop meet-type-μ-loop
-meet-type-returns-2 t c = (tuple-stop _ _ _ _ _ (c .before .before .before .before .before .before .before .before .before .before .before .before .before .before .before .before .before .before .before .before .before .before .before .before .before .before .before .before .before .before .pre .1 .0) _ (c .before .before .before .before .before .before .before .before .before .before .before .before .before .before .before .before .before .before .before .before .before .before .before .before .type-rule .ensures) (c .before .before .before .before .before .before .before .before .before .before .before .before .before .before .before .before .before .enum-told12 .given .1) _ (c .before .before .before .before .before .before .before .before .before .before .before .before .before .before .before .word9 .ensures) _ _ _ _ (c .before .before .before .before .before .before .before .before .before .before .before .before .before .before .loop .inv .9) (c .before .before .before .before .before .before .before .before .before .before .before .before .before .loop-test .taken) _ _ (c .before .before .before .before .before .before .before .before .before .before .before .word10 .ensures) (c .before .before .before .before .before .before .before .before .before .word11 .ensures) _ _ (c .before .before .before .before .before .before .meet-type2 .ensures .0) (c .enum-told13 .given .1), right-full)
+meet-type-returns-2 t c = (tuple-stop _ _ _ _ _ (c .before .before .before .before .before .before .before .before .before .before .before .before .before .before .before .before .before .before .before .before .before .before .before .before .before .before .before .before .before .before .pre .1 .0) _ (c .before .before .before .before .before .before .before .before .before .before .before .before .before .before .before .before .before .before .before .before .before .before .before .before .type-rule .ensures) (c .before .before .before .before .before .before .before .before .before .before .before .before .before .before .before .before .before .enum-told12 .given .1) _ (c .before .before .before .before .before .before .before .before .before .before .before .before .before .before .before .word9 .ensures) _ _ _ _ (c .before .before .before .before .before .before .before .before .before .before .before .before .before .before .loop .inv .9) (c .before .before .before .before .before .before .before .before .before .before .before .before .before .loop-test .taken) _ _ (c .before .before .before .before .before .before .before .before .before .before .before .word10 .ensures) (c .before .before .before .before .before .before .before .before .before .word11 .ensures) _ _ (c .before .before .before .before .before .before .meet-type2 .ensures .0) (c .enum-told13 .given .1), remembered-full (c .enum-told13 .given .1) (c .before .before .before .before .before .before .meet-type2 .ensures .1))
 
 meet-type-add-i : (t : ℕ) → meet-type-lts.Need-add-i (meet-type-K t) (meet-type-at t) meet-type.Post meet-type-Inv-loop meet-type-μ-loop
 meet-type-add-i t c = search needs
@@ -463,7 +462,7 @@ meet-type-loop-again t c =
     let l = c .before .before .before .before .before .before .before .before .before .before .before .before .before .before .before .loop .inv in
     let i = c .before .before .before .before .before .before .before .before .before .before .before .before .before .before .loop-test .taken in
     let G = tuple-turn _ _ _ _ _ _ (c .before .before .before .before .before .before .before .before .before .before .before .before .before .before .before .loop .new) _ _ _ (l .9) i _ _ (c .before .before .before .before .before .before .before .before .before .before .before .before .word10 .ensures) (c .before .before .before .before .before .before .before .before .before .before .word11 .ensures) (c .before .before .before .before .before .before .before .meet-type2 .ensures .0) _ _ (c .before .m3 .given .1) (omega (arith, l .1, l .2, i)) in
-    (search needs, l .1, simp length-set (l .2), grew-long (G .turn .grew), grew-high (G .turn .grew), grew-up (G .turn .grew), l .6, l .7, l .8, G, c .before .before .before .before .before .before .before .meet-type2 .ensures .1 .is _ _ (c .before .m3 .given .1), omega (arith, l .11, c .before .before .before .before .before .before .before .meet-type2 .kept .1))
+    (search needs, l .1, simp length-set (l .2), grew-long (G .turn .grew), grew-high (G .turn .grew), grew-up (G .turn .grew), l .6, l .7, l .8, G, c .before .before .before .before .before .before .before .meet-type2 .ensures .1 .after .is _ _ (c .before .m3 .given .1), omega (arith, l .11, c .before .before .before .before .before .before .before .meet-type2 .kept .1))
 
 meet-type-array-share-prefix-parts : (t : ℕ) → meet-type-lts.Need-array-share-prefix-parts (meet-type-K t) (meet-type-at t) meet-type.Post meet-type-Inv-loop meet-type-μ-loop
 meet-type-array-share-prefix-parts t c = search needs
@@ -487,7 +486,7 @@ meet-type-same-length-6 : (t : ℕ) → meet-type-lts.Need-same-length-6 (meet-t
 meet-type-same-length-6 t c = search needs
 
 meet-type-returns-3 : (t : ℕ) → meet-type-lts.Need-returns-3 (meet-type-K t) (meet-type-at t) meet-type.Post meet-type-Inv-loop meet-type-μ-loop
-meet-type-returns-3 t c = (met-first _ _ _ _ _ (c .before .before .before .before .before .before .before .before .before .before .before .before .before .pre .1 .0) _ (c .before .before .before .before .before .before .before .type-rule .ensures) (c .enum-told2 .given .1), right-same Settled (c .before .before .before .before .before .before .before .before .before .before .before .before .before .pre .1 .1 .0))
+meet-type-returns-3 t c = (met-first _ _ _ _ _ (c .before .before .before .before .before .before .before .before .before .before .before .before .before .pre .1 .0) _ (c .before .before .before .before .before .before .before .type-rule .ensures) (c .enum-told2 .given .1), remembered-same (c .before .before .before .before .before .before .before .before .before .before .before .before .before .pre .1 .1 .0))
 
 meet-type-same-length-7 : (t : ℕ) → meet-type-lts.Need-same-length-7 (meet-type-K t) (meet-type-at t) meet-type.Post meet-type-Inv-loop meet-type-μ-loop
 meet-type-same-length-7 t c = search needs
@@ -496,7 +495,7 @@ meet-type-same-length-8 : (t : ℕ) → meet-type-lts.Need-same-length-8 (meet-t
 meet-type-same-length-8 t c = search needs
 
 meet-type-returns-4 : (t : ℕ) → meet-type-lts.Need-returns-4 (meet-type-K t) (meet-type-at t) meet-type.Post meet-type-Inv-loop meet-type-μ-loop
-meet-type-returns-4 t c = (met-second _ _ _ _ _ (c .before .before .before .before .before .before .before .before .before .before .before .before .before .pre .1 .0) _ (c .before .before .before .before .before .before .before .type-rule .ensures) (c .enum-told3 .given .1), right-same Settled (c .before .before .before .before .before .before .before .before .before .before .before .before .before .pre .1 .1 .0))
+meet-type-returns-4 t c = (met-second _ _ _ _ _ (c .before .before .before .before .before .before .before .before .before .before .before .before .before .pre .1 .0) _ (c .before .before .before .before .before .before .before .type-rule .ensures) (c .enum-told3 .given .1), remembered-same (c .before .before .before .before .before .before .before .before .before .before .before .before .before .pre .1 .1 .0))
 
 meet-type-same-length-9 : (t : ℕ) → meet-type-lts.Need-same-length-9 (meet-type-K t) (meet-type-at t) meet-type.Post meet-type-Inv-loop meet-type-μ-loop
 meet-type-same-length-9 t c = search needs
@@ -505,7 +504,7 @@ meet-type-same-length-10 : (t : ℕ) → meet-type-lts.Need-same-length-10 (meet
 meet-type-same-length-10 t c = search needs
 
 meet-type-returns-5 : (t : ℕ) → meet-type-lts.Need-returns-5 (meet-type-K t) (meet-type-at t) meet-type.Post meet-type-Inv-loop meet-type-μ-loop
-meet-type-returns-5 t c = (met-bottom _ _ _ _ _ (c .before .before .before .before .before .before .before .before .before .before .before .before .before .pre .1 .0) _ (c .before .before .before .before .before .before .before .type-rule .ensures) (c .enum-told4 .given .1), right-same Settled (c .before .before .before .before .before .before .before .before .before .before .before .before .before .pre .1 .1 .0))
+meet-type-returns-5 t c = (met-bottom _ _ _ _ _ (c .before .before .before .before .before .before .before .before .before .before .before .before .before .pre .1 .0) _ (c .before .before .before .before .before .before .before .type-rule .ensures) (c .enum-told4 .given .1), remembered-same (c .before .before .before .before .before .before .before .before .before .before .before .before .before .pre .1 .1 .0))
 
 meet-type-same-length-11 : (t : ℕ) → meet-type-lts.Need-same-length-11 (meet-type-K t) (meet-type-at t) meet-type.Post meet-type-Inv-loop meet-type-μ-loop
 meet-type-same-length-11 t c = search needs
@@ -523,7 +522,7 @@ meet-type-same-length-14 : (t : ℕ) → meet-type-lts.Need-same-length-14 (meet
 meet-type-same-length-14 t c = search needs
 
 meet-type-returns-7 : (t : ℕ) → meet-type-lts.Need-returns-7 (meet-type-K t) (meet-type-at t) meet-type.Post meet-type-Inv-loop meet-type-μ-loop
-meet-type-returns-7 t c = (met-floats _ _ _ _ _ (c .before .before .before .before .before .before .before .before .before .before .before .before .before .before .before .pre .1 .0) _ (c .before .before .before .before .before .before .before .before .before .type-rule .ensures) (c .before .before .enum-told6 .given .1) _ (c .meet-float .ensures), right-same Settled (c .before .before .before .before .before .before .before .before .before .before .before .before .before .before .before .pre .1 .1 .0))
+meet-type-returns-7 t c = (met-floats _ _ _ _ _ (c .before .before .before .before .before .before .before .before .before .before .before .before .before .before .before .pre .1 .0) _ (c .before .before .before .before .before .before .before .before .before .type-rule .ensures) (c .before .before .enum-told6 .given .1) _ (c .meet-float .ensures), remembered-same (c .before .before .before .before .before .before .before .before .before .before .before .before .before .before .before .pre .1 .1 .0))
 
 meet-type-same-length-15 : (t : ℕ) → meet-type-lts.Need-same-length-15 (meet-type-K t) (meet-type-at t) meet-type.Post meet-type-Inv-loop meet-type-μ-loop
 meet-type-same-length-15 t c = search needs
@@ -543,7 +542,7 @@ meet-type-same-length-18 t c = search needs
 meet-type-returns-9 : (t : ℕ) → meet-type-lts.Need-returns-9 (meet-type-K t) (meet-type-at t) meet-type.Post meet-type-Inv-loop meet-type-μ-loop
 meet-type-returns-9 t c =
     let t = met-pointers _ _ _ _ _ (c .before .before .before .before .before .before .before .before .before .before .before .before .before .before .before .before .before .before .before .before .before .before .before .before .before .before .before .before .before .before .before .before .before .before .before .before .before .before .before .before .pre .1 .0) _ (c .before .before .before .before .before .before .before .before .before .before .before .before .before .before .before .before .before .before .before .before .before .before .before .before .before .before .before .before .before .before .before .before .before .before .type-rule .ensures) (c .before .before .before .before .before .before .before .before .before .before .before .before .before .before .before .before .before .before .before .before .before .before .before .before .before .before .before .enum-told8 .given .1) _ _ (c .before .before .before .before .before .before .before .before .before .before .before .before .before .before .before .before .before .before .before .before .before .before .before .before .before .word .ensures) (c .before .before .before .before .before .before .before .before .before .before .before .before .before .before .before .before .before .before .before .before .before .before .before .word2 .ensures) _ _ (c .before .before .before .before .before .before .before .before .before .before .before .before .before .before .before .meet-struct2 .ensures .0) _ _ (c .before .before .before .before .before .before .before .before .before .m .given .1) _ _ _ (c .before .before .before .before .before .before .before .before .before .before .before .before .before .before .before .before .before .before .before .before .before .word3 .ensures) (c .before .before .before .before .before .before .before .before .before .before .before .before .before .before .before .before .before .before .before .word4 .ensures) (c .before .before .before .before .before .before .before .before .before .before .before .before .before .before .before .before .before .before .larger .ensures) _ _ (c .before .before .before .before .before .before .pointer .ensures) in
-    let m = remembered-pointer (pointer-segments _ _ _ _ _ (c .before .before .before .before .before .before .before .before .before .before .before .before .before .before .before .before .before .before .before .before .before .before .before .before .before .before .before .before .before .before .before .before .before .before .before .before .before .before .before .before .pre .1 .0) _ (c .before .before .before .before .before .before .before .before .before .before .before .before .before .before .before .before .before .before .before .before .before .before .before .before .before .before .before .before .before .before .before .before .before .before .type-rule .ensures) (c .before .before .before .before .before .before .before .before .before .before .before .before .before .before .before .before .before .before .before .before .before .before .before .before .before .before .before .enum-told8 .given .1) _ _ (c .before .before .before .before .before .before .before .before .before .before .before .before .before .before .before .before .before .before .before .before .before .before .before .before .before .word .ensures) (c .before .before .before .before .before .before .before .before .before .before .before .before .before .before .before .before .before .before .before .before .before .before .before .word2 .ensures) _ _ (c .before .before .before .before .before .before .before .before .before .before .before .before .before .before .before .meet-struct2 .ensures .0) _ _ (c .before .before .before .before .before .before .before .before .before .m .given .1)) (c .before .before .before .before .before .before .before .before .before .before .before .before .before .before .before .meet-struct2 .ensures .1 .is _ _ (c .before .before .before .before .before .before .before .before .before .m .given .1)) _ _ (c .before .before .before .before .before .before .pointer .ensures) in
+    let m = remembered-pointer (pointer-segments _ _ _ _ _ (c .before .before .before .before .before .before .before .before .before .before .before .before .before .before .before .before .before .before .before .before .before .before .before .before .before .before .before .before .before .before .before .before .before .before .before .before .before .before .before .before .pre .1 .0) _ (c .before .before .before .before .before .before .before .before .before .before .before .before .before .before .before .before .before .before .before .before .before .before .before .before .before .before .before .before .before .before .before .before .before .before .type-rule .ensures) (c .before .before .before .before .before .before .before .before .before .before .before .before .before .before .before .before .before .before .before .before .before .before .before .before .before .before .before .enum-told8 .given .1) _ _ (c .before .before .before .before .before .before .before .before .before .before .before .before .before .before .before .before .before .before .before .before .before .before .before .before .before .word .ensures) (c .before .before .before .before .before .before .before .before .before .before .before .before .before .before .before .before .before .before .before .before .before .before .before .word2 .ensures) _ _ (c .before .before .before .before .before .before .before .before .before .before .before .before .before .before .before .meet-struct2 .ensures .0) _ _ (c .before .before .before .before .before .before .before .before .before .m .given .1)) (c .before .before .before .before .before .before .before .before .before .before .before .before .before .before .before .meet-struct2 .ensures .1 .after .is _ _ (c .before .before .before .before .before .before .before .before .before .m .given .1)) _ _ (c .before .before .before .before .before .before .pointer .ensures) in
     met-noted (c .before .before .before .before .before .before .before .before .before .before .before .before .before .before .before .before .before .before .before .before .before .before .before .before .before .before .before .before .before .before .before .before .before .before .before .before .before .before .before .before .pre .1 .0) _ (c .before .before .before .before .before .before .before .before .before .before .before .before .before .before .before .before .before .before .before .before .before .before .before .before .before .before .before .before .before .before .before .before .before .meet-key .ensures) t m (c .before .before .noted .ensures .0) (c .before .before .noted .ensures .1)
 
 meet-type-same-length-19 : (t : ℕ) → meet-type-lts.Need-same-length-19 (meet-type-K t) (meet-type-at t) meet-type.Post meet-type-Inv-loop meet-type-μ-loop
@@ -553,7 +552,7 @@ meet-type-same-length-20 : (t : ℕ) → meet-type-lts.Need-same-length-20 (meet
 meet-type-same-length-20 t c = search needs
 
 meet-type-returns-10 : (t : ℕ) → meet-type-lts.Need-returns-10 (meet-type-K t) (meet-type-at t) meet-type.Post meet-type-Inv-loop meet-type-μ-loop
-meet-type-returns-10 t c = (pointer-full _ _ _ _ _ (c .before .before .before .before .before .before .before .before .before .before .before .before .before .before .before .before .before .before .before .before .before .before .before .before .before .before .before .before .before .before .before .pre .1 .0) _ (c .before .before .before .before .before .before .before .before .before .before .before .before .before .before .before .before .before .before .before .before .before .before .before .before .before .type-rule .ensures) (c .before .before .before .before .before .before .before .before .before .before .before .before .before .before .before .before .before .before .enum-told8 .given .1) _ _ (c .before .before .before .before .before .before .before .before .before .before .before .before .before .before .before .before .word .ensures) (c .before .before .before .before .before .before .before .before .before .before .before .before .before .before .word2 .ensures) _ _ (c .before .before .before .before .before .before .meet-struct2 .ensures .0) (c .enum-told9 .given .1), right-full)
+meet-type-returns-10 t c = (pointer-full _ _ _ _ _ (c .before .before .before .before .before .before .before .before .before .before .before .before .before .before .before .before .before .before .before .before .before .before .before .before .before .before .before .before .before .before .before .pre .1 .0) _ (c .before .before .before .before .before .before .before .before .before .before .before .before .before .before .before .before .before .before .before .before .before .before .before .before .before .type-rule .ensures) (c .before .before .before .before .before .before .before .before .before .before .before .before .before .before .before .before .before .before .enum-told8 .given .1) _ _ (c .before .before .before .before .before .before .before .before .before .before .before .before .before .before .before .before .word .ensures) (c .before .before .before .before .before .before .before .before .before .before .before .before .before .before .word2 .ensures) _ _ (c .before .before .before .before .before .before .meet-struct2 .ensures .0) (c .enum-told9 .given .1), remembered-full (c .enum-told9 .given .1) (c .before .before .before .before .before .before .meet-struct2 .ensures .1))
 
 meet-type-same-length-21 : (t : ℕ) → meet-type-lts.Need-same-length-21 (meet-type-K t) (meet-type-at t) meet-type.Post meet-type-Inv-loop meet-type-μ-loop
 meet-type-same-length-21 t c = search needs
@@ -564,7 +563,7 @@ meet-type-same-length-22 t c = search needs
 meet-type-returns-11 : (t : ℕ) → meet-type-lts.Need-returns-11 (meet-type-K t) (meet-type-at t) meet-type.Post meet-type-Inv-loop meet-type-μ-loop
 meet-type-returns-11 t c =
     let t = met-memories _ _ _ _ _ (c .before .before .before .before .before .before .before .before .before .before .before .before .before .before .before .before .before .before .before .before .before .before .before .before .before .before .before .before .before .before .before .before .before .before .before .before .before .before .before .before .pre .1 .0) _ (c .before .before .before .before .before .before .before .before .before .before .before .before .before .before .before .before .before .before .before .before .before .before .before .before .before .before .before .before .before .before .before .before .before .before .type-rule .ensures) (c .before .before .before .before .before .before .before .before .before .before .before .before .before .before .before .before .before .before .before .before .before .before .before .before .before .before .before .enum-told10 .given .1) _ _ (c .before .before .before .before .before .before .before .before .before .before .before .before .before .before .before .before .before .before .before .before .word7 .ensures) (c .before .before .before .before .before .before .before .before .before .before .before .before .before .before .before .before .before .before .word8 .ensures) _ _ (c .before .before .before .before .before .before .before .before .before .before .before .before .before .before .before .meet-type .ensures .0) _ _ (c .before .before .before .before .before .before .before .before .before .m2 .given .1) _ _ _ (c .before .before .before .before .before .before .before .before .before .before .before .before .before .before .before .before .before .before .before .before .before .before .before .before .before .word5 .ensures) (c .before .before .before .before .before .before .before .before .before .before .before .before .before .before .before .before .before .before .before .before .before .before .before .word6 .ensures) (c .before .before .before .before .before .before .before .before .before .before .before .before .before .before .before .before .before .before .before .before .before .before .shared-alias .ensures) _ _ (c .before .before .before .before .before .before .memory .ensures) in
-    let m = remembered-memory (memory-segments _ _ _ _ _ (c .before .before .before .before .before .before .before .before .before .before .before .before .before .before .before .before .before .before .before .before .before .before .before .before .before .before .before .before .before .before .before .before .before .before .before .before .before .before .before .before .pre .1 .0) _ (c .before .before .before .before .before .before .before .before .before .before .before .before .before .before .before .before .before .before .before .before .before .before .before .before .before .before .before .before .before .before .before .before .before .before .type-rule .ensures) (c .before .before .before .before .before .before .before .before .before .before .before .before .before .before .before .before .before .before .before .before .before .before .before .before .before .before .before .enum-told10 .given .1) _ _ (c .before .before .before .before .before .before .before .before .before .before .before .before .before .before .before .before .before .before .before .before .word7 .ensures) (c .before .before .before .before .before .before .before .before .before .before .before .before .before .before .before .before .before .before .word8 .ensures) _ _ (c .before .before .before .before .before .before .before .before .before .before .before .before .before .before .before .meet-type .ensures .0) _ _ (c .before .before .before .before .before .before .before .before .before .m2 .given .1)) (c .before .before .before .before .before .before .before .before .before .before .before .before .before .before .before .meet-type .ensures .1 .is _ _ (c .before .before .before .before .before .before .before .before .before .m2 .given .1)) _ _ (c .before .before .before .before .before .before .memory .ensures) in
+    let m = remembered-memory (memory-segments _ _ _ _ _ (c .before .before .before .before .before .before .before .before .before .before .before .before .before .before .before .before .before .before .before .before .before .before .before .before .before .before .before .before .before .before .before .before .before .before .before .before .before .before .before .before .pre .1 .0) _ (c .before .before .before .before .before .before .before .before .before .before .before .before .before .before .before .before .before .before .before .before .before .before .before .before .before .before .before .before .before .before .before .before .before .before .type-rule .ensures) (c .before .before .before .before .before .before .before .before .before .before .before .before .before .before .before .before .before .before .before .before .before .before .before .before .before .before .before .enum-told10 .given .1) _ _ (c .before .before .before .before .before .before .before .before .before .before .before .before .before .before .before .before .before .before .before .before .word7 .ensures) (c .before .before .before .before .before .before .before .before .before .before .before .before .before .before .before .before .before .before .word8 .ensures) _ _ (c .before .before .before .before .before .before .before .before .before .before .before .before .before .before .before .meet-type .ensures .0) _ _ (c .before .before .before .before .before .before .before .before .before .m2 .given .1)) (c .before .before .before .before .before .before .before .before .before .before .before .before .before .before .before .meet-type .ensures .1 .after .is _ _ (c .before .before .before .before .before .before .before .before .before .m2 .given .1)) _ _ (c .before .before .before .before .before .before .memory .ensures) in
     met-noted (c .before .before .before .before .before .before .before .before .before .before .before .before .before .before .before .before .before .before .before .before .before .before .before .before .before .before .before .before .before .before .before .before .before .before .before .before .before .before .before .before .pre .1 .0) _ (c .before .before .before .before .before .before .before .before .before .before .before .before .before .before .before .before .before .before .before .before .before .before .before .before .before .before .before .before .before .before .before .before .before .meet-key .ensures) t m (c .before .before .noted2 .ensures .0) (c .before .before .noted2 .ensures .1)
 
 meet-type-same-length-23 : (t : ℕ) → meet-type-lts.Need-same-length-23 (meet-type-K t) (meet-type-at t) meet-type.Post meet-type-Inv-loop meet-type-μ-loop
@@ -574,7 +573,7 @@ meet-type-same-length-24 : (t : ℕ) → meet-type-lts.Need-same-length-24 (meet
 meet-type-same-length-24 t c = search needs
 
 meet-type-returns-12 : (t : ℕ) → meet-type-lts.Need-returns-12 (meet-type-K t) (meet-type-at t) meet-type.Post meet-type-Inv-loop meet-type-μ-loop
-meet-type-returns-12 t c = (memory-full _ _ _ _ _ (c .before .before .before .before .before .before .before .before .before .before .before .before .before .before .before .before .before .before .before .before .before .before .before .before .before .before .before .before .before .before .before .pre .1 .0) _ (c .before .before .before .before .before .before .before .before .before .before .before .before .before .before .before .before .before .before .before .before .before .before .before .before .before .type-rule .ensures) (c .before .before .before .before .before .before .before .before .before .before .before .before .before .before .before .before .before .before .enum-told10 .given .1) _ _ (c .before .before .before .before .before .before .before .before .before .before .before .word7 .ensures) (c .before .before .before .before .before .before .before .before .before .word8 .ensures) _ _ (c .before .before .before .before .before .before .meet-type .ensures .0) (c .enum-told11 .given .1), right-full)
+meet-type-returns-12 t c = (memory-full _ _ _ _ _ (c .before .before .before .before .before .before .before .before .before .before .before .before .before .before .before .before .before .before .before .before .before .before .before .before .before .before .before .before .before .before .before .pre .1 .0) _ (c .before .before .before .before .before .before .before .before .before .before .before .before .before .before .before .before .before .before .before .before .before .before .before .before .before .type-rule .ensures) (c .before .before .before .before .before .before .before .before .before .before .before .before .before .before .before .before .before .before .enum-told10 .given .1) _ _ (c .before .before .before .before .before .before .before .before .before .before .before .word7 .ensures) (c .before .before .before .before .before .before .before .before .before .word8 .ensures) _ _ (c .before .before .before .before .before .before .meet-type .ensures .0) (c .enum-told11 .given .1), remembered-full (c .enum-told11 .given .1) (c .before .before .before .before .before .before .meet-type .ensures .1))
 
 meet-type-same-length-25 : (t : ℕ) → meet-type-lts.Need-same-length-25 (meet-type-K t) (meet-type-at t) meet-type.Post meet-type-Inv-loop meet-type-μ-loop
 meet-type-same-length-25 t c = search needs

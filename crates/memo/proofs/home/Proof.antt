@@ -4,27 +4,23 @@ use borrow.Author.Needs.{needs}
 use Rattle.memo.proofs.home.Statement.{statement}
 use Rattle.memo.proofs.home.Tie as tie
 
+returns : tie.Need-returns
+returns c = search needs
+
 rem-result : tie.Need-rem-result
 rem-result c = search needs
 
-returns : tie.Need-returns
-returns c = mod-lt _ (c .before .pre)
-
-mul-first : tie.Need-mul-first
-mul-first c = search needs
-
-mul-second : tie.Need-mul-second
-mul-second c = search needs
-
-add-result : tie.Need-add-result
-add-result c = search needs
-
-rem-result-2 : tie.Need-rem-result-2
-rem-result-2 c = search needs
-
 returns-2 : tie.Need-returns-2
-returns-2 c = mod-lt _ (c .before .pre)
+returns-2 c = mod-lt _ (c .before .before .pre)
+
+stir-requires : tie.Need-stir-requires
+stir-requires c κs = search needs
+
+slot-requires : tie.Need-slot-requires
+slot-requires c κs = search needs
+
+returns-3 : tie.Need-returns-3
+returns-3 c = search needs
 
 pub home-spec : {M : Type 1} → statement M
-home-spec =
-    tie.close (tie.spec rem-result returns mul-first mul-second add-result rem-result-2 returns-2)
+home-spec = tie.close (tie.spec returns rem-result returns-2 stir-requires slot-requires returns-3)

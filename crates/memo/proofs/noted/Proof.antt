@@ -21,7 +21,7 @@ returns : tie.Need-returns
 returns c = (sym (c .before .before .before .before .before .r .given .1), learned-at _ _ _ _ _ _ (c .before .before .before .before .before .r .given .1) (c .before .before .note .ensures))
 
 returns-2 : tie.Need-returns-2
-returns-2 c = (sym (c .enum-told .given .1), learned-none _ _ _ _ (c .enum-told .given .1))
+returns-2 c = (sym (c .enum-told .given .1), learned-none _ _ _ (c .enum-told .given .1))
 
 pub noted-spec : {M : Type 1} → statement M
 noted-spec =
