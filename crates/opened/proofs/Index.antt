@@ -77,6 +77,17 @@ module _ (ws index : List ℕ) (ok : wellFormed ws ≡ true) where
 pub tail-all : (k : ℕ) (l : List ℕ) → take (length l - k) (drop k l) ≡ drop k l
 tail-all k l = ap (λ (n : ℕ). take n (drop k l)) (sym (length-drop k l)) ∙ take-length (drop k l)
 
+-- nothing was appended
+pub none-new : (ws index : List ℕ) → wellFormed ws ≡ true → Stale ws index → (k : ℕ) → k ≡ marksSize (length ws) → (from : ℕ) → from ≡ indexedTo (take (length index - k) (drop k index)) → from ≡ getD ws 0 0 → IndexOf ws index
+none-new ws index ok s k is from covered all =
+    let q : indexedTo (drop k index) ≡ getD ws 0 0 = ap indexedTo (sym (tail-all k index)) ∙ sym covered ∙ all in
+    let e : indexedTo (chainsOf ws index) ≡ getD ws 0 0 = rw is at q in
+    record {
+      room = s .room;
+      marks = s .marks ∙ ap (λ (n : ℕ). starts (take n ws)) e;
+      chains = record { covers = s .covers; all = λ fits. e ∙ sym (used-long ws index ok) };
+    }
+
 module _ (ws index : List ℕ) (k : ℕ) (is : k ≡ marksSize (length ws)) (room : indexSize (length ws) ≤ length index) where
   pub k-fits : k ≤ length index
   k-fits = omega (arith, is, room)

@@ -44,7 +44,7 @@ fn mark_from(words: &[u64], from: usize, used: usize, bits: &mut [u64])
     }
 }
 
-// Takes the entries that a call has appended into the index.
+// Takes the entries that a call has appended into the index, if there are any.
 fn extend(words: &[u64], index: &mut [u64])
     requires { ⌜ wellFormed (now words) ≡ true ⌝ }
     requires { ⌜ Stale (now words) (now index) ⌝ }
@@ -53,6 +53,9 @@ fn extend(words: &[u64], index: &mut [u64])
     let used = words[0] as usize;
     let k = marks_size(words.len());
     let from = index::covered(&index[k..]);
+    if from == used {
+        return;
+    }
     mark_from(words, from, used, &mut index[..k]);
     index::extend(words, used, &mut index[k..]);
 }

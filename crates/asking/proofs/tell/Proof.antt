@@ -27,7 +27,7 @@ tell-spec =
     (λ c. (as-answer (c .before .before .before .asking .given .1) _ (ap number (c .kind-on .ensures)), c .before .before .before .before .before .before .before .before .before .pre .1 .0))
     (λ c. (as-answer (c .before .before .asking2 .given .1) _ (ap handle (c .bool-at .ensures)), c .before .before .before .before .before .before .before .before .pre .1 .0))
     (λ c. search needs)
-    (λ c. (as-answer (c .before .before .before .asking3 .given .1) _ (ap flag (c .isa .ensures)), c .before .before .before .before .before .before .before .before .before .pre .1 .0))
+    (λ c. (as-answer (c .before .before .before .before .before .asking3 .given .1) _ (ap flag (c .before .before .isa .ensures .0)), c .before .before .isa .ensures .1))
     (λ c. search needs)
     (λ c. search needs)
     (λ c. (as-answer (c .before .before .before .before .before .before .before .before .before .asking4 .given .1) _ (ap flag (c .before .before .before .before .is-final .ensures .0 .is (suc (c .before .before .before .before .before .before .before .before .before .asking4 .given .0 .0)) (omega arith))), c .before .before .before .before .is-final .ensures .1)))
