@@ -51,7 +51,7 @@ same-length : tie.Need-same-length
 same-length c = search needs
 
 returns-2 : tie.Need-returns-2
-returns-2 c = 
+returns-2 c =
     let s = c .before .before .before .before .before .before .before .before .before .before .before .before in
     let m = c .before .before .before .before .meet-type in
     (isa-second (s .pre .0) _ _ (m .ensures .0) _ (c .is-second2 .ensures), isa-right (s .pre .0) _ _ (m .ensures .0) (m .kept .1 .0) (s .pre .1 .0) (m .ensures .1) (m .kept .1 .1 .1 .1 .1 .0))

@@ -60,7 +60,7 @@ same-length-2 : tie.Need-same-length-2
 same-length-2 c = search needs
 
 returns-2 : tie.Need-returns-2
-returns-2 c = 
+returns-2 c =
     let s = c .before .before .before .before .before .before .before .before .before .before .before .before .before .before .before .before in
     let m = c .before .before .before .before .before .before .mark-from in
     three-index _ _ _ (c .before .before .before .before .before .before .before .before .before .before .before .before .marks-size .ensures .0) (s .pre .1 .room) _ (m .kept .1 .1 .1 .0) _ (c .before .before .extend .kept .1 .1 .0) (m .ensures) (c .before .before .extend .ensures)
