@@ -37,10 +37,10 @@ pub fn rows_of(words: &[u64], used: usize, bits: &[u64], asking: Asking) -> u8
     ensures { λ r. ⌜ r ≡ rowsOf asking (take used (now (words .entry))) ⌝ }
 {
     match asking {
-        Asking::Kind(h) => rows::types_rows(words, used, bits, &[h]),
+        Asking::Kind(h) => rows::types_rows(&*words, used, &*bits, &[h]),
         Asking::GetBool(value) => bool_rows(value),
-        Asking::Isa(a, b) => rows::types_rows(words, used, bits, &[a, b]),
-        Asking::IsFinal(a) => rows::types_rows(words, used, bits, &[a]),
+        Asking::Isa(a, b) => rows::types_rows(&*words, used, &*bits, &[a, b]),
+        Asking::IsFinal(a) => rows::types_rows(&*words, used, &*bits, &[a]),
     }
 }
 
@@ -72,11 +72,11 @@ pub fn tell(
 {
     let none = [0u64; 0];
     match asking {
-        Asking::Kind(h) => Answer::Number(call::kind_on(&none, words, used, h)),
+        Asking::Kind(h) => Answer::Number(call::kind_on(&none, &*words, used, h)),
         Asking::GetBool(value) => Answer::Handle(bool_at(value)),
-        Asking::Isa(a, b) => Answer::Flag(lent_memory::isa(words, used, a, b, memory, index)),
+        Asking::Isa(a, b) => Answer::Flag(lent_memory::isa(&*words, used, a, b, memory, &*index)),
         Asking::IsFinal(a) => {
-            let yes = lent_memory::is_final(&none, words, used, a as usize, scratch, memory);
+            let yes = lent_memory::is_final(&none, &*words, used, a as usize, scratch, memory);
             Answer::Flag(yes)
         }
     }

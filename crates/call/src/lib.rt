@@ -38,7 +38,7 @@ pub fn begin(words: &[u64], bits: &mut [u64]) -> usize
     requires { ⌜ min (length (now words)) 1048576 ≤ 64 * length (now bits) ⌝ }
     ensures { λ r. ⌜ Opening (now (words .entry)) (now (bits .exit)) r ⌝ }
 {
-    if !wellformed::verify(words, bits) {
+    if !wellformed::verify(&*words, bits) {
         return 0;
     }
     let w = words[0];
@@ -72,7 +72,7 @@ pub fn all_start(bits: &[u64], hs: &[u64]) -> bool
 {
     let mut i = 0;
     while i < hs.len() {
-        if !bitset::contains(bits, hs[i]) {
+        if !bitset::contains(&*bits, hs[i]) {
             return false;
         }
         i += 1;
@@ -85,7 +85,7 @@ pub fn kind_on(old: &[u64], new: &[u64], used: usize, h: u64) -> u64
     requires { ⌜ (length (now old) ≤ used) × (used ≤ length (now old) + length (now new)) ⌝ }
     ensures { λ r. ⌜ r ≡ kindOn (take used (now (old .entry) ++ now (new .entry))) h ⌝ }
 {
-    words::word(old, new, used, h as usize) % 256
+    words::word(&*old, &*new, used, h as usize) % 256
 }
 
 // Whether the kinds of all entries are from low to high: row 3.
@@ -95,7 +95,7 @@ pub fn all_kinds(old: &[u64], new: &[u64], used: usize, hs: &[u64], low: u64, hi
 {
     let mut i = 0;
     while i < hs.len() {
-        let k = kind_on(old, new, used, hs[i]);
+        let k = kind_on(&*old, &*new, used, hs[i]);
         if k < low {
             return false;
         }
@@ -112,7 +112,7 @@ pub fn depth_on(old: &[u64], new: &[u64], used: usize, h: u64) -> u64
     requires { ⌜ (length (now old) ≤ used) × (used ≤ length (now old) + length (now new)) ⌝ }
     ensures { λ r. ⌜ (r ≡ depthOf (word (take used (now (old .entry) ++ now (new .entry))) h)) × (r < 256) ⌝ }
 {
-    words::word(old, new, used, h as usize) / 256 % 256
+    words::word(&*old, &*new, used, h as usize) / 256 % 256
 }
 
 // The depth of the deepest of the entries at the handles.
@@ -123,7 +123,7 @@ pub fn deep(old: &[u64], new: &[u64], used: usize, hs: &[u64]) -> u64
     let mut d: u64 = 0;
     let mut i = 0;
     while i < hs.len() {
-        d = wellformed::larger(d, depth_on(old, new, used, hs[i]));
+        d = wellformed::larger(d, depth_on(&*old, &*new, used, hs[i]));
         i += 1;
     }
     d

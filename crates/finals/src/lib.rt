@@ -29,14 +29,14 @@ pub fn is_final(old: &[u64], new: &[u64], used: usize, a: usize, known: &mut [u6
     ensures { λ r. ⌜ Finals (take used (now (old .entry) ++ now (new .entry))) a r ⌝ }
     ensures { λ _. ⌜ Knows (take used (now (old .entry) ++ now (new .entry))) (now (known .exit)) ⌝ }
 {
-    let head = words::word(old, new, used, a);
+    let head = words::word(&*old, &*new, used, a);
     let kind = head % 256;
     if bitset::contains(known, a as u64) {
         return true;
     }
     if kind == 10 {
-        let to = words::word(old, new, used, a + 1) as usize;
-        let r = is_final(old, new, used, to, known);
+        let to = words::word(&*old, &*new, used, a + 1) as usize;
+        let r = is_final(&*old, &*new, used, to, known);
         return kept(known, a, r);
     }
     if kind != 8 {
@@ -46,12 +46,12 @@ pub fn is_final(old: &[u64], new: &[u64], used: usize, a: usize, known: &mut [u6
     let mut i: usize = 0;
     while i < n {
         let p = a + 3 + 3 * i;
-        let flag = words::word(old, new, used, p + 1) % 2;
+        let flag = words::word(&*old, &*new, used, p + 1) % 2;
         if flag != 1 {
             return false;
         }
-        let t = words::word(old, new, used, p) as usize;
-        if !is_final(old, new, used, t, known) {
+        let t = words::word(&*old, &*new, used, p) as usize;
+        if !is_final(&*old, &*new, used, t, known) {
             return false;
         }
         i += 1;

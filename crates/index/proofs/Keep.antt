@@ -11,7 +11,7 @@ use Rattle.words.proofs.Extend.{Extends}
 use Rattle.index.specs.Chains.{Indexed}
 use Rattle.index.proofs.Zero.{no-entries}
 use Rattle.index.proofs.Built.{Built, built-all}
-use Rattle.index.specs.Covers.{indexedTo, Covers, Opened}
+use Rattle.index.specs.Covers.{indexedTo, Covers, Blank, Opened}
 use Rattle.index.proofs.Chain.{to-none, to-word}
 use Rattle.index.proofs.Prefix.{rest-fills}
 
@@ -104,18 +104,19 @@ extend-last ws used index at high full b out half is =
       all = λ l. counted-to index at low ∙ q ∙ sym n;
     }
 
--- ---- `open`
+-- ---- `blank`
 
-module _ (ws : List ℕ) (used : ℕ) (index : List ℕ) (low : 1 ≤ used) (high : used ≤ length ws) where
-  pub open-none : length index / 2 ≡ 0 → Opened (take used ws) index
-  open-none z =
-      let n : length (take used ws) ≡ used = length-take-le used ws high in
-      record { covers = covers-none (take used ws) index (omega arith) z; all = λ l. absurd (omega arith) }
+-- without any words
+pub blank-none : (index : List ℕ) → length index / 2 ≡ 0 → Blank index
+blank-none index z = record { none = sym (to-none index z); covers = λ u low. covers-none u index low z }
 
-  pub open-one : (length index / 2 ≡ 0 → ⊥) → ((i : ℕ) → getD index i 0 ≡ 0) → Covers (take used ws) (set index (length index / 2) 1)
+-- of zeros, with 1 in the word of handle 0
+module _ (index : List ℕ) (some : length index / 2 ≡ 0 → ⊥) (zeros : (i : ℕ) → getD index i 0 ≡ 0) where
+  pub blank-one : Blank (set index (length index / 2) 1)
   unfolding fills
-  open-one some zeros =
-      let u = take used ws in
-      let n : length u ≡ used = length-take-le used ws high in
-      let m : length (take 1 u) ≤ 1 = omega (arith, length-take 1 u) in
-      covers-set index 1 (omega arith) u (omega arith) (omega arith) (rw (drop-of-length-le (take 1 u) m)) (no-entries u index (omega arith) zeros)
+  blank-one = record {
+    none = counted-to index 1 (omega arith);
+    covers = λ u low.
+        let m : length (take 1 u) ≤ 1 = omega (arith, length-take 1 u) in
+        covers-set index 1 (omega arith) u (omega arith) (omega arith) (rw (drop-of-length-le (take 1 u) m)) (no-entries u index (omega arith) zeros);
+  }

@@ -19,6 +19,11 @@ pub record Covers (u index : List ℕ) : Type 0 where
   pub cut : fills 0 (drop 1 (take (indexedTo index) u)) ≡ true
   pub indexed : (length index / 2 ≡ 0 → ⊥) → Indexed (take (indexedTo index) u) index
 
+-- an index of no entry, which is one of any used words
+pub record Blank (index : List ℕ) : Type 0 where
+  pub none : indexedTo index ≡ 1
+  pub covers : (u : List ℕ) → 1 ≤ length u → Covers u index
+
 -- it has all of them, where they fit
 pub record Opened (u index : List ℕ) : Type 0 where
   pub covers : Covers u index

@@ -13,7 +13,7 @@ ghost use Rattle.words.specs.Table.{rows, firstOf, findIn, starts as startsIn};
 ghost use Rattle.words.specs.Made.{make, Segments, Runs};
 ghost use Rattle.index.specs.Digest.{stirred, hashFrom, slotOf, bucketOf};
 ghost use Rattle.index.specs.Chains.{added};
-ghost use Rattle.index.specs.Covers.{indexedTo, Covers, Opened, Tail};
+ghost use Rattle.index.specs.Covers.{indexedTo, Covers, Blank, Opened, Tail};
 
 // ---- where an entry is looked for
 
@@ -52,7 +52,7 @@ fn bucket(half: usize, entry: &[u64]) -> usize
     requires { ⌜ 0 < half ⌝ }
     ensures { λ r. ⌜ (r ≡ bucketOf half (now (entry .entry))) × (r < half) ⌝ }
 {
-    slot(half, hash(entry))
+    slot(half, hash(&*entry))
 }
 
 // How many of the words are in the index.
@@ -75,11 +75,11 @@ fn is_at(old: &[u64], new: &[u64], used: usize, at: usize, entry: &[u64]) -> boo
 {
     if at < old.len() {
         let n = words::size(old[at]);
-        return words::same(&old[at..at + n], entry);
+        return words::same(&old[at..at + n], &*entry);
     }
     let p = at - old.len();
     let n = words::size(new[p]);
-    words::same(&new[p..p + n], entry)
+    words::same(&new[p..p + n], &*entry)
 }
 
 // A number or another, by a test.
@@ -103,11 +103,11 @@ fn search(old: &[u64], new: &[u64], used: usize, entry: &[u64], index: &[u64]) -
     if half == 0 {
         return Found::Nothing;
     }
-    let b = bucket(half, entry);
+    let b = bucket(half, &*entry);
     let mut at = index[b] as usize;
     let mut lowest = 0;
     while at != 0 {
-        let same = is_at(old, new, used, at, entry);
+        let same = is_at(&*old, &*new, used, at, &*entry);
         lowest = either(same, at, lowest);
         at = (index[half + at] - 1) as usize;
     }
@@ -123,12 +123,18 @@ fn rest(old: &[u64], new: &[u64], used: usize, from: usize, entry: &[u64]) -> Fo
     ensures { λ r. ⌜ r ≡ firstOf (rows from 0 (drop from (take used (now (old .entry) ++ now (new .entry))))) (now (entry .entry)) ⌝ }
 {
     if old.len() <= from {
-        return words::look(new, old.len(), from - old.len(), used - old.len(), entry);
+        return words::look(
+            &*new,
+            old.len(),
+            from - old.len(),
+            used - old.len(),
+            &*entry,
+        );
     }
-    let f = words::look(old, 0, from, old.len(), entry);
+    let f = words::look(&*old, 0, from, old.len(), &*entry);
     match f {
         Found::At(h) => Found::At(h),
-        Found::Nothing => words::look(new, old.len(), 0, used - old.len(), entry),
+        Found::Nothing => words::look(&*new, old.len(), 0, used - old.len(), &*entry),
     }
 }
 
@@ -138,10 +144,10 @@ pub fn find(old: &[u64], new: &[u64], used: usize, entry: &[u64], index: &[u64])
     requires { ⌜ Covers (take used (now old ++ now new)) (now index) ⌝ }
     ensures { λ r. ⌜ r ≡ findIn (take used (now (old .entry) ++ now (new .entry))) (now (entry .entry)) ⌝ }
 {
-    let f = search(old, new, used, entry, index);
+    let f = search(&*old, &*new, used, &*entry, &*index);
     match f {
         Found::At(h) => Found::At(h),
-        Found::Nothing => rest(old, new, used, covered(index), entry),
+        Found::Nothing => rest(&*old, &*new, used, covered(&*index), &*entry),
     }
 }
 
@@ -151,13 +157,13 @@ pub fn intern(old: &[u64], new: &mut [u64], used: usize, entry: &[u64], index: &
     requires { ⌜ Covers (take used (now old ++ now new)) (now index) ⌝ }
     ensures { λ r. ⌜ Runs (λ u. make u (now (entry .entry))) (now (old .entry)) (now (new .entry)) used (now (new .exit)) r ⌝ }
 {
-    let f = find(old, new, used, entry, index);
+    let f = find(&*old, new, used, &*entry, &*index);
     match f {
         Found::At(h) => Interned::At(h, used),
         Found::Nothing => {
             let at = used - old.len();
             if entry.len() <= new.len() - at {
-                words::write(&mut new[at..], entry);
+                words::write(&mut new[at..], &*entry);
                 Interned::At(used, used + entry.len())
             } else {
                 Interned::Full
@@ -174,7 +180,7 @@ fn add(index: &mut [u64], at: usize, entry: &[u64])
     ensures { λ _. ⌜ now (index .exit) ≡ added (now (index .entry)) at (now (entry .entry)) ⌝ }
 {
     let half = index.len() / 2;
-    let b = bucket(half, entry);
+    let b = bucket(half, &*entry);
     index[half + at] = index[b] + 1;
     index[b] = at as u64;
 }
@@ -197,10 +203,9 @@ pub fn extend(words: &[u64], used: usize, index: &mut [u64])
     index[half] = at as u64;
 }
 
-// Makes the index of the used words, where there is room for them.
-pub fn open(words: &[u64], used: usize, index: &mut [u64])
-    requires { ⌜ (1 ≤ used) × (used ≤ length (now words)) × (fills 0 (drop 1 (take used (now words))) ≡ true) ⌝ }
-    ensures { λ _. ⌜ Opened (take used (now (words .entry))) (now (index .exit)) ⌝ }
+// Makes an index of no entry.
+pub fn blank(index: &mut [u64])
+    ensures { λ _. ⌜ Blank (now (index .exit)) ⌝ }
 {
     words::clear(index);
     let half = index.len() / 2;
@@ -208,5 +213,13 @@ pub fn open(words: &[u64], used: usize, index: &mut [u64])
         return;
     }
     index[half] = 1;
-    extend(words, used, index);
+}
+
+// Makes the index of the used words, where there is room for them.
+pub fn open(words: &[u64], used: usize, index: &mut [u64])
+    requires { ⌜ (1 ≤ used) × (used ≤ length (now words)) × (fills 0 (drop 1 (take used (now words))) ≡ true) ⌝ }
+    ensures { λ _. ⌜ Opened (take used (now (words .entry))) (now (index .exit)) ⌝ }
+{
+    blank(index);
+    extend(&*words, used, index);
 }

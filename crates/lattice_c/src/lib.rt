@@ -66,7 +66,7 @@ fn of_done(m: Done) -> u64
 fn append(words: &mut [u64], making: Making, list: &[u64], text: &[u8]) -> u64
     ensures { λ r. ⌜ Coded (run (appended making (now (list .entry)) (now (text .entry))) (now (words .entry))) r (now (words .exit)) ⌝ }
 {
-    of_made(plain::append(words, making, list, text))
+    of_made(plain::append(words, making, &*list, &*text))
 }
 
 // A call that has neither a list nor a text.
@@ -79,14 +79,14 @@ fn make(words: &mut [u64], making: Making) -> u64
 fn ask(words: &[u64], asking: Asking) -> u64
     ensures { λ r. ⌜ Coded (run (asked asking) (now (words .entry))) r (now (words .entry)) ⌝ }
 {
-    of_answer(plain::ask(words, asking))
+    of_answer(plain::ask(&*words, asking))
 }
 
 #[no_mangle]
 pub extern "C" fn ferigulan_well_formed(words: &[u64]) -> bool
     ensures { λ r. ⌜ r ≡ wellFormed (now (words .entry)) ⌝ }
 {
-    wellformed::well_formed(words)
+    wellformed::well_formed(&*words)
 }
 
 #[no_mangle]
@@ -100,14 +100,14 @@ pub extern "C" fn ferigulan_fresh(words: &mut [u64]) -> u64
 pub extern "C" fn ferigulan_kind(words: &[u64], h: u64) -> u64
     ensures { λ r. ⌜ Coded (run (kind h) (now (words .entry))) r (now (words .entry)) ⌝ }
 {
-    ask(words, Asking::Kind(h))
+    ask(&*words, Asking::Kind(h))
 }
 
 #[no_mangle]
 pub extern "C" fn ferigulan_get_bool(words: &[u64], value: u64) -> u64
     ensures { λ r. ⌜ Coded (run (get_bool value) (now (words .entry))) r (now (words .entry)) ⌝ }
 {
-    ask(words, Asking::GetBool(value))
+    ask(&*words, Asking::GetBool(value))
 }
 
 #[no_mangle]
@@ -142,21 +142,21 @@ pub extern "C" fn ferigulan_make_float(words: &mut [u64], sz: u64, bits: u64) ->
 pub extern "C" fn ferigulan_get_tuple(words: &mut [u64], types: &[u64]) -> u64
     ensures { λ r. ⌜ Coded (run (get_tuple (now (types .entry))) (now (words .entry))) r (now (words .exit)) ⌝ }
 {
-    append(words, Making::GetTuple, types, b"")
+    append(words, Making::GetTuple, &*types, b"")
 }
 
 #[no_mangle]
 pub extern "C" fn ferigulan_get_str(words: &mut [u64], name: &[u8]) -> u64
     ensures { λ r. ⌜ Coded (run (get_str (now (name .entry))) (now (words .entry))) r (now (words .exit)) ⌝ }
 {
-    append(words, Making::GetStr, &[], name)
+    append(words, Making::GetStr, &[], &*name)
 }
 
 #[no_mangle]
 pub extern "C" fn ferigulan_get_struct(words: &mut [u64], name: u64, fields: &[u64]) -> u64
     ensures { λ r. ⌜ Coded (run (get_struct name (now (fields .entry))) (now (words .entry))) r (now (words .exit)) ⌝ }
 {
-    append(words, Making::GetStruct(name), fields, b"")
+    append(words, Making::GetStruct(name), &*fields, b"")
 }
 
 #[no_mangle]
@@ -174,7 +174,7 @@ pub extern "C" fn ferigulan_make_ary(
         words,
         Making::MakeAry(len, len_alias, body, body_alias),
         &[],
-        text,
+        &*text,
     )
 }
 
@@ -210,7 +210,7 @@ pub extern "C" fn ferigulan_meet(words: &mut [u64], a: u64, b: u64) -> u64
 pub extern "C" fn ferigulan_isa(words: &[u64], a: u64, b: u64) -> u64
     ensures { λ r. ⌜ Coded (run (isa a b) (now (words .entry))) r (now (words .entry)) ⌝ }
 {
-    ask(words, Asking::Isa(a, b))
+    ask(&*words, Asking::Isa(a, b))
 }
 
 #[no_mangle]
@@ -245,7 +245,7 @@ pub extern "C" fn ferigulan_lub(words: &mut [u64], a: u64) -> u64
 pub extern "C" fn ferigulan_is_final(words: &[u64], a: u64) -> u64
     ensures { λ r. ⌜ Coded (run (is_final a) (now (words .entry))) r (now (words .entry)) ⌝ }
 {
-    ask(words, Asking::IsFinal(a))
+    ask(&*words, Asking::IsFinal(a))
 }
 
 #[no_mangle]
@@ -273,15 +273,7 @@ fn opened_append(
     ensures { λ r. ⌜ Coded (run (appended making (now (list .entry)) (now (text .entry))) (now (words .entry))) r (now (words .exit)) ⌝ }
     ensures { λ _. ⌜ OpenStore (now (words .exit)) (now (index .exit)) (now (memory .exit)) ⌝ }
 {
-    of_made(opened::append(words, index, memory, making, list, text))
-}
-
-fn opened_make(words: &mut [u64], index: &mut [u64], memory: &mut [u64], making: Making) -> u64
-    requires { ⌜ OpenStore (now words) (now index) (now memory) ⌝ }
-    ensures { λ r. ⌜ Coded (run (appended making [] []) (now (words .entry))) r (now (words .exit)) ⌝ }
-    ensures { λ _. ⌜ OpenStore (now (words .exit)) (now (index .exit)) (now (memory .exit)) ⌝ }
-{
-    opened_append(words, index, memory, making, &[], b"")
+    of_made(opened::append(words, index, memory, making, &*list, &*text))
 }
 
 fn opened_ask(words: &[u64], index: &[u64], memory: &mut [u64], asking: Asking) -> u64
@@ -289,7 +281,7 @@ fn opened_ask(words: &[u64], index: &[u64], memory: &mut [u64], asking: Asking) 
     ensures { λ r. ⌜ Coded (run (asked asking) (now (words .entry))) r (now (words .entry)) ⌝ }
     ensures { λ _. ⌜ OpenStore (now (words .entry)) (now (index .entry)) (now (memory .exit)) ⌝ }
 {
-    of_answer(opened::ask(words, index, memory, asking))
+    of_answer(opened::ask(&*words, &*index, memory, asking))
 }
 
 // Tests row 1, and makes the index and a blank memory; any words may stand in the two lists before.
@@ -298,7 +290,7 @@ pub extern "C" fn ferigulan_open(words: &[u64], index: &mut [u64], memory: &mut 
     ensures { λ r. ⌜ r ≡ code (openReply (now (words .entry)) (length (now (index .entry)))) ⌝ }
     ensures { λ r. ⌜ CodedOpening (now (words .entry)) (now (index .entry)) (now (memory .entry)) (now (index .exit)) (now (memory .exit)) r ⌝ }
 {
-    of_done(opened::open(words, index, memory))
+    of_done(opened::open(&*words, index, memory))
 }
 
 #[no_mangle]
@@ -312,7 +304,7 @@ pub extern "C" fn ferigulan_opened_kind(
     ensures { λ r. ⌜ Coded (run (kind h) (now (words .entry))) r (now (words .entry)) ⌝ }
     ensures { λ _. ⌜ OpenStore (now (words .entry)) (now (index .entry)) (now (memory .exit)) ⌝ }
 {
-    opened_ask(words, index, memory, Asking::Kind(h))
+    opened_ask(&*words, &*index, memory, Asking::Kind(h))
 }
 
 #[no_mangle]
@@ -326,7 +318,7 @@ pub extern "C" fn ferigulan_opened_get_bool(
     ensures { λ r. ⌜ Coded (run (get_bool value) (now (words .entry))) r (now (words .entry)) ⌝ }
     ensures { λ _. ⌜ OpenStore (now (words .entry)) (now (index .entry)) (now (memory .exit)) ⌝ }
 {
-    opened_ask(words, index, memory, Asking::GetBool(value))
+    opened_ask(&*words, &*index, memory, Asking::GetBool(value))
 }
 
 #[no_mangle]
@@ -340,7 +332,14 @@ pub extern "C" fn ferigulan_opened_get_int(
     ensures { λ r. ⌜ Coded (run (get_int value) (now (words .entry))) r (now (words .exit)) ⌝ }
     ensures { λ _. ⌜ OpenStore (now (words .exit)) (now (index .exit)) (now (memory .exit)) ⌝ }
 {
-    opened_make(words, index, memory, Making::MakeInt(value, value))
+    opened_append(
+        words,
+        index,
+        memory,
+        Making::MakeInt(value, value),
+        &[],
+        b"",
+    )
 }
 
 #[no_mangle]
@@ -355,7 +354,7 @@ pub extern "C" fn ferigulan_opened_make_int(
     ensures { λ r. ⌜ Coded (run (make_int min max) (now (words .entry))) r (now (words .exit)) ⌝ }
     ensures { λ _. ⌜ OpenStore (now (words .exit)) (now (index .exit)) (now (memory .exit)) ⌝ }
 {
-    opened_make(words, index, memory, Making::MakeInt(min, max))
+    opened_append(words, index, memory, Making::MakeInt(min, max), &[], b"")
 }
 
 #[no_mangle]
@@ -369,7 +368,7 @@ pub extern "C" fn ferigulan_opened_get_float(
     ensures { λ r. ⌜ Coded (run (get_float bits) (now (words .entry))) r (now (words .exit)) ⌝ }
     ensures { λ _. ⌜ OpenStore (now (words .exit)) (now (index .exit)) (now (memory .exit)) ⌝ }
 {
-    opened_make(words, index, memory, Making::MakeFloat(0, bits))
+    opened_append(words, index, memory, Making::MakeFloat(0, bits), &[], b"")
 }
 
 #[no_mangle]
@@ -384,7 +383,7 @@ pub extern "C" fn ferigulan_opened_make_float(
     ensures { λ r. ⌜ Coded (run (make_float sz bits) (now (words .entry))) r (now (words .exit)) ⌝ }
     ensures { λ _. ⌜ OpenStore (now (words .exit)) (now (index .exit)) (now (memory .exit)) ⌝ }
 {
-    opened_make(words, index, memory, Making::MakeFloat(sz, bits))
+    opened_append(words, index, memory, Making::MakeFloat(sz, bits), &[], b"")
 }
 
 #[no_mangle]
@@ -398,7 +397,7 @@ pub extern "C" fn ferigulan_opened_get_tuple(
     ensures { λ r. ⌜ Coded (run (get_tuple (now (types .entry))) (now (words .entry))) r (now (words .exit)) ⌝ }
     ensures { λ _. ⌜ OpenStore (now (words .exit)) (now (index .exit)) (now (memory .exit)) ⌝ }
 {
-    opened_append(words, index, memory, Making::GetTuple, types, b"")
+    opened_append(words, index, memory, Making::GetTuple, &*types, b"")
 }
 
 #[no_mangle]
@@ -412,7 +411,7 @@ pub extern "C" fn ferigulan_opened_get_str(
     ensures { λ r. ⌜ Coded (run (get_str (now (name .entry))) (now (words .entry))) r (now (words .exit)) ⌝ }
     ensures { λ _. ⌜ OpenStore (now (words .exit)) (now (index .exit)) (now (memory .exit)) ⌝ }
 {
-    opened_append(words, index, memory, Making::GetStr, &[], name)
+    opened_append(words, index, memory, Making::GetStr, &[], &*name)
 }
 
 #[no_mangle]
@@ -427,7 +426,7 @@ pub extern "C" fn ferigulan_opened_get_struct(
     ensures { λ r. ⌜ Coded (run (get_struct name (now (fields .entry))) (now (words .entry))) r (now (words .exit)) ⌝ }
     ensures { λ _. ⌜ OpenStore (now (words .exit)) (now (index .exit)) (now (memory .exit)) ⌝ }
 {
-    opened_append(words, index, memory, Making::GetStruct(name), fields, b"")
+    opened_append(words, index, memory, Making::GetStruct(name), &*fields, b"")
 }
 
 #[no_mangle]
@@ -451,7 +450,7 @@ pub extern "C" fn ferigulan_opened_make_ary(
         memory,
         Making::MakeAry(len, len_alias, body, body_alias),
         &[],
-        text,
+        &*text,
     )
 }
 
@@ -466,7 +465,7 @@ pub extern "C" fn ferigulan_opened_make_struct_fref(
     ensures { λ r. ⌜ Coded (run (make_struct_fref name) (now (words .entry))) r (now (words .exit)) ⌝ }
     ensures { λ _. ⌜ OpenStore (now (words .exit)) (now (index .exit)) (now (memory .exit)) ⌝ }
 {
-    opened_make(words, index, memory, Making::MakeStructFref(name))
+    opened_append(words, index, memory, Making::MakeStructFref(name), &[], b"")
 }
 
 #[no_mangle]
@@ -481,7 +480,7 @@ pub extern "C" fn ferigulan_opened_get_mem_ptr(
     ensures { λ r. ⌜ Coded (run (get_mem_ptr to nil) (now (words .entry))) r (now (words .exit)) ⌝ }
     ensures { λ _. ⌜ OpenStore (now (words .exit)) (now (index .exit)) (now (memory .exit)) ⌝ }
 {
-    opened_make(words, index, memory, Making::GetMemPtr(to, nil))
+    opened_append(words, index, memory, Making::GetMemPtr(to, nil), &[], b"")
 }
 
 #[no_mangle]
@@ -496,7 +495,7 @@ pub extern "C" fn ferigulan_opened_get_mem(
     ensures { λ r. ⌜ Coded (run (get_mem alias t) (now (words .entry))) r (now (words .exit)) ⌝ }
     ensures { λ _. ⌜ OpenStore (now (words .exit)) (now (index .exit)) (now (memory .exit)) ⌝ }
 {
-    opened_make(words, index, memory, Making::GetMem(alias, t))
+    opened_append(words, index, memory, Making::GetMem(alias, t), &[], b"")
 }
 
 #[no_mangle]
@@ -511,7 +510,7 @@ pub extern "C" fn ferigulan_opened_meet(
     ensures { λ r. ⌜ Coded (run (meet a b) (now (words .entry))) r (now (words .exit)) ⌝ }
     ensures { λ _. ⌜ OpenStore (now (words .exit)) (now (index .exit)) (now (memory .exit)) ⌝ }
 {
-    opened_make(words, index, memory, Making::Meet(a, b))
+    opened_append(words, index, memory, Making::Meet(a, b), &[], b"")
 }
 
 #[no_mangle]
@@ -526,7 +525,7 @@ pub extern "C" fn ferigulan_opened_isa(
     ensures { λ r. ⌜ Coded (run (isa a b) (now (words .entry))) r (now (words .entry)) ⌝ }
     ensures { λ _. ⌜ OpenStore (now (words .entry)) (now (index .entry)) (now (memory .exit)) ⌝ }
 {
-    opened_ask(words, index, memory, Asking::Isa(a, b))
+    opened_ask(&*words, &*index, memory, Asking::Isa(a, b))
 }
 
 #[no_mangle]
@@ -540,7 +539,7 @@ pub extern "C" fn ferigulan_opened_dual(
     ensures { λ r. ⌜ Coded (run (dual a) (now (words .entry))) r (now (words .exit)) ⌝ }
     ensures { λ _. ⌜ OpenStore (now (words .exit)) (now (index .exit)) (now (memory .exit)) ⌝ }
 {
-    opened_make(words, index, memory, Making::Walk(Walk::Dual, a))
+    opened_append(words, index, memory, Making::Walk(Walk::Dual, a), &[], b"")
 }
 
 #[no_mangle]
@@ -555,7 +554,7 @@ pub extern "C" fn ferigulan_opened_join(
     ensures { λ r. ⌜ Coded (run (join a b) (now (words .entry))) r (now (words .exit)) ⌝ }
     ensures { λ _. ⌜ OpenStore (now (words .exit)) (now (index .exit)) (now (memory .exit)) ⌝ }
 {
-    opened_make(words, index, memory, Making::Join(a, b))
+    opened_append(words, index, memory, Making::Join(a, b), &[], b"")
 }
 
 #[no_mangle]
@@ -569,7 +568,7 @@ pub extern "C" fn ferigulan_opened_glb(
     ensures { λ r. ⌜ Coded (run (glb a) (now (words .entry))) r (now (words .exit)) ⌝ }
     ensures { λ _. ⌜ OpenStore (now (words .exit)) (now (index .exit)) (now (memory .exit)) ⌝ }
 {
-    opened_make(words, index, memory, Making::Walk(Walk::Glb, a))
+    opened_append(words, index, memory, Making::Walk(Walk::Glb, a), &[], b"")
 }
 
 #[no_mangle]
@@ -583,7 +582,7 @@ pub extern "C" fn ferigulan_opened_lub(
     ensures { λ r. ⌜ Coded (run (lub a) (now (words .entry))) r (now (words .exit)) ⌝ }
     ensures { λ _. ⌜ OpenStore (now (words .exit)) (now (index .exit)) (now (memory .exit)) ⌝ }
 {
-    opened_make(words, index, memory, Making::Walk(Walk::Lub, a))
+    opened_append(words, index, memory, Making::Walk(Walk::Lub, a), &[], b"")
 }
 
 #[no_mangle]
@@ -597,7 +596,7 @@ pub extern "C" fn ferigulan_opened_is_final(
     ensures { λ r. ⌜ Coded (run (is_final a) (now (words .entry))) r (now (words .entry)) ⌝ }
     ensures { λ _. ⌜ OpenStore (now (words .entry)) (now (index .entry)) (now (memory .exit)) ⌝ }
 {
-    opened_ask(words, index, memory, Asking::IsFinal(a))
+    opened_ask(&*words, &*index, memory, Asking::IsFinal(a))
 }
 
 #[no_mangle]
@@ -611,5 +610,5 @@ pub extern "C" fn ferigulan_opened_make_ro(
     ensures { λ r. ⌜ Coded (run (make_ro a) (now (words .entry))) r (now (words .exit)) ⌝ }
     ensures { λ _. ⌜ OpenStore (now (words .exit)) (now (index .exit)) (now (memory .exit)) ⌝ }
 {
-    opened_make(words, index, memory, Making::MakeRo(a))
+    opened_append(words, index, memory, Making::MakeRo(a), &[], b"")
 }

@@ -40,9 +40,9 @@ pub fn meet(
     let n = memory.len() / 6;
     if n == 0 {
         let mut known = [0u64; 0];
-        return own_memory::run(Operation::Meet(b), old, new, used, a, &mut known, index);
+        return own_memory::run(Operation::Meet(b), &*old, new, used, a, &mut known, &*index);
     }
-    meet::meet_type(old, new, used, a, b, &mut memory[n..2 * n], index)
+    meet::meet_type(&*old, new, used, a, b, &mut memory[n..2 * n], &*index)
 }
 
 // The part with the answers of a walk.
@@ -75,11 +75,19 @@ pub fn walk(
     let n = memory.len() / 6;
     if n == 0 {
         let mut known = [0u64; 0];
-        return own_memory::run(Operation::Walk(op), old, new, used, a, &mut known, index);
+        return own_memory::run(
+            Operation::Walk(op),
+            &*old,
+            new,
+            used,
+            a,
+            &mut known,
+            &*index,
+        );
     }
     let from = part_of(op) * n;
     let end = from + n;
-    walk::walk_type(op, old, new, used, a, &mut memory[from..end], index)
+    walk::walk_type(op, &*old, new, used, a, &mut memory[from..end], &*index)
 }
 
 // Parts 0 and 1 are lent together: the first half is for the duals, the second for the meet.
@@ -100,9 +108,9 @@ pub fn join(
 {
     let n = memory.len() / 6;
     if n == 0 {
-        return own_memory::join(old, new, used, a, b, index);
+        return own_memory::join(&*old, new, used, a, b, &*index);
     }
-    join::join(old, new, used, a, b, &mut memory[..2 * n], index)
+    join::join(&*old, new, used, a, b, &mut memory[..2 * n], &*index)
 }
 
 // make_ro of a small type, which needs no set of final types: its walk is over soon.
@@ -121,7 +129,7 @@ fn make_ro_small(
     ensures { λ r. ⌜ RightAfter Settled (now (old .entry)) (now (new .exit)) r (now (memo .exit)) ⌝ }
 {
     let mut known = [0u64; 0];
-    make_ro::make_ro(old, new, used, a, memo, &mut known, index)
+    make_ro::make_ro(&*old, new, used, a, memo, &mut known, &*index)
 }
 
 // make_ro of a larger type: the set of final types is the lent one, the answers on the way are kept in a memory of its own, since two parts of one list are not lent
@@ -143,12 +151,12 @@ fn make_ro_large(
     let n = memory.len() / 6;
     let r = own_memory::run(
         Operation::MakeRo,
-        old,
+        &*old,
         new,
         used,
         a,
         &mut memory[5 * n..6 * n],
-        index,
+        &*index,
     );
     memo::noted(&mut memory[4 * n..5 * n], a as u64, r)
 }
@@ -171,16 +179,16 @@ pub fn make_ro(
 {
     let n = memory.len() / 6;
     if n == 0 {
-        return own_memory::make_ro(old, new, used, a, scratch, index);
+        return own_memory::make_ro(&*old, new, used, a, scratch, &*index);
     }
     let line = memo::recall(&memory[4 * n..5 * n], a as u64);
     if let Recalled::Is(h) = line {
         return Interned::At(h as usize, used);
     }
-    if small::is_small(old, new, used, a) {
-        return make_ro_small(old, new, used, a, &mut memory[4 * n..5 * n], index);
+    if small::is_small(&*old, new, used, a) {
+        return make_ro_small(&*old, new, used, a, &mut memory[4 * n..5 * n], &*index);
     }
-    make_ro_large(old, new, used, a, memory, index)
+    make_ro_large(&*old, new, used, a, memory, &*index)
 }
 
 // Without a lent memory `scratch` is the set of types that are known to be final, whatever it holds.
@@ -199,9 +207,9 @@ pub fn is_final(
 {
     let n = memory.len() / 6;
     if n == 0 {
-        return own_memory::is_final(old, new, used, a, scratch);
+        return own_memory::is_final(&*old, &*new, used, a, scratch);
     }
-    finals::is_final(old, new, used, a, &mut memory[5 * n..6 * n])
+    finals::is_final(&*old, &*new, used, a, &mut memory[5 * n..6 * n])
 }
 
 // Whether an answer is b. One that did not fit is not: what would have to be appended is no old handle.
@@ -232,7 +240,7 @@ pub fn isa(words: &[u64], used: usize, a: u64, b: u64, memory: &mut [u64], index
             used,
             a as usize,
             b as usize,
-            index,
+            &*index,
         );
         return is_second(m, b);
     }
@@ -243,7 +251,7 @@ pub fn isa(words: &[u64], used: usize, a: u64, b: u64, memory: &mut [u64], index
         a as usize,
         b as usize,
         &mut memory[n..2 * n],
-        index,
+        &*index,
     );
     is_second(m, b)
 }

@@ -35,10 +35,10 @@ fn made_final(
     let n = types.len();
     if n <= 8 {
         let few = [1u64; 8];
-        return structs::made_again(old, new, used, a, types, &few[..n], index);
+        return structs::made_again(&*old, new, used, a, &*types, &few[..n], &*index);
     }
     let many = [1u64; 255];
-    structs::made_again(old, new, used, a, types, &many[..n], index)
+    structs::made_again(&*old, new, used, a, &*types, &many[..n], &*index)
 }
 
 // What a type is remembered under: its handle; or 0, which is nothing, for a type that is its own answer.
@@ -69,22 +69,22 @@ pub fn make_ro(
     ensures { λ r. ⌜ MadeRo (now (old .entry)) (now (new .entry)) used a (now (new .exit)) r ⌝ }
     ensures { λ r. ⌜ Remembered (now (old .entry)) (now (new .exit)) r (now (memo .exit)) (now (known .exit)) ⌝ }
 {
-    let kind = words::word(old, new, used, a) % 256;
+    let kind = words::word(&*old, new, used, a) % 256;
     let key = ro_key(kind, a);
     let line = memo::recall(memo, key);
     if let Recalled::Is(h) = line {
         return Interned::At(h as usize, used);
     }
     if kind == 10 {
-        let to = words::word(old, new, used, a + 1) as usize;
-        let nil = words::word(old, new, used, a + 2);
-        let m = make_ro(old, new, used, to, memo, known, index);
+        let to = words::word(&*old, new, used, a + 1) as usize;
+        let nil = words::word(&*old, new, used, a + 2);
+        let m = make_ro(&*old, new, used, to, memo, known, &*index);
         match m {
             Interned::At(h, v) => {
                 if h == to {
                     return memo::noted(memo, key, Interned::At(a, v));
                 }
-                let r = makers::pointer(old, new, v, h as u64, nil, index);
+                let r = makers::pointer(&*old, new, v, h as u64, nil, &*index);
                 return memo::noted(memo, key, r);
             }
             Interned::Full => {
@@ -95,10 +95,10 @@ pub fn make_ro(
     if kind != 8 {
         return Interned::At(a, used);
     }
-    if finals::is_final(old, new, used, a, known) {
+    if finals::is_final(&*old, new, used, a, known) {
         return Interned::At(a, used);
     }
-    let r = make_struct_ro(old, new, used, a, memo, known, index);
+    let r = make_struct_ro(&*old, new, used, a, memo, known, &*index);
     memo::noted(memo, key, r)
 }
 
@@ -119,15 +119,15 @@ fn make_struct_ro(
     ensures { λ r. ⌜ MadeRo (now (old .entry)) (now (new .entry)) used a (now (new .exit)) r ⌝ }
     ensures { λ r. ⌜ Remembered (now (old .entry)) (now (new .exit)) r (now (memo .exit)) (now (known .exit)) ⌝ }
 {
-    let n = (words::word(old, new, used, a) / 65536) as usize;
+    let n = (words::word(&*old, new, used, a) / 65536) as usize;
     let mut types = [0u64; 255];
     let mut v = used;
     let mut i: usize = 0;
     while i < n {
         let p = a + 3 + 3 * i;
-        let t = words::word(old, new, used, p) as usize;
-        let value = words::word(old, new, used, p + 1);
-        let m = make_field_ro(old, new, v, value, t, memo, known, index);
+        let t = words::word(&*old, new, used, p) as usize;
+        let value = words::word(&*old, new, used, p + 1);
+        let m = make_field_ro(&*old, new, v, value, t, memo, known, &*index);
         match m {
             Interned::At(h, w) => {
                 types[i] = h as u64;
@@ -139,7 +139,7 @@ fn make_struct_ro(
         }
         i += 1;
     }
-    made_final(old, new, v, a, &types[..n], index)
+    made_final(&*old, new, v, a, &types[..n], &*index)
 }
 
 // A final field keeps its type; value is 2 × alias + final.
@@ -162,5 +162,5 @@ fn make_field_ro(
     if value % 2 == 1 {
         return Interned::At(t, used);
     }
-    make_ro(old, new, used, t, memo, known, index)
+    make_ro(&*old, new, used, t, memo, known, &*index)
 }

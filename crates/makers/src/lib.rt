@@ -19,7 +19,7 @@ pub fn int(old: &[u64], new: &mut [u64], used: usize, min: u64, max: u64, index:
     requires { ⌜ Covers (take used (now old ++ now new)) (now index) ⌝ }
     ensures { λ r. ⌜ Runs (λ u. make u (intEntry min max)) (now (old .entry)) (now (new .entry)) used (now (new .exit)) r ⌝ }
 {
-    index::intern(old, new, used, &[261, min, max], index)
+    index::intern(&*old, new, used, &[261, min, max], &*index)
 }
 
 // A float's size and constant come as a struct. The bits stand beside it, since all NaNs are one f64.
@@ -38,7 +38,7 @@ pub fn float(
 {
     let size = type_float::size_word(f.sz);
     let con = type_float::bits_of(f.con, bits);
-    index::intern(old, new, used, &[262, size, con], index)
+    index::intern(&*old, new, used, &[262, size, con], &*index)
 }
 
 // Fills the first words of `dst` with a head and a list.
@@ -46,7 +46,7 @@ pub fn headed(dst: &mut [u64], head: u64, list: &[u64])
     requires { ⌜ 1 + length (now list) ≤ length (now dst) ⌝ }
     ensures { λ _. ⌜ now (dst .exit) ≡ (head ∷ now (list .entry)) ++ drop (1 + length (now (list .entry))) (now (dst .entry)) ⌝ }
 {
-    words::write(&mut dst[1..], list);
+    words::write(&mut dst[1..], &*list);
     dst[0] = head;
 }
 
@@ -64,10 +64,10 @@ fn tuple_in(
     requires { ⌜ Covers (take used (now old ++ now new)) (now index) ⌝ }
     ensures { λ r. ⌜ Runs (λ u. make u (tupleEntry (now (types .entry)) u)) (now (old .entry)) (now (new .entry)) used (now (new .exit)) r ⌝ }
 {
-    let d = call::deep(old, new, used, types);
+    let d = call::deep(&*old, new, used, &*types);
     let n = types.len();
-    headed(e, 7 + 256 * (1 + d) + 65536 * (n as u64), types);
-    index::intern(old, new, used, &e[..1 + n], index)
+    headed(e, 7 + 256 * (1 + d) + 65536 * (n as u64), &*types);
+    index::intern(&*old, new, used, &e[..1 + n], &*index)
 }
 
 // Few elements are given few words for their entry, since all of them are cleared at each call.
@@ -79,10 +79,10 @@ pub fn tuple(old: &[u64], new: &mut [u64], used: usize, types: &[u64], index: &[
 {
     if types.len() <= 7 {
         let mut few = [0u64; 8];
-        return tuple_in(old, new, used, types, &mut few, index);
+        return tuple_in(&*old, new, used, &*types, &mut few, &*index);
     }
     let mut many = [0u64; 256];
-    tuple_in(old, new, used, types, &mut many, index)
+    tuple_in(&*old, new, used, &*types, &mut many, &*index)
 }
 
 pub fn fref(old: &[u64], new: &mut [u64], used: usize, name: u64, index: &[u64]) -> Interned
@@ -90,7 +90,7 @@ pub fn fref(old: &[u64], new: &mut [u64], used: usize, name: u64, index: &[u64])
     requires { ⌜ Covers (take used (now old ++ now new)) (now index) ⌝ }
     ensures { λ r. ⌜ Runs (λ u. make u (frefEntry name)) (now (old .entry)) (now (new .entry)) used (now (new .exit)) r ⌝ }
 {
-    index::intern(old, new, used, &[265, name], index)
+    index::intern(&*old, new, used, &[265, name], &*index)
 }
 
 pub fn pointer(
@@ -105,8 +105,8 @@ pub fn pointer(
     requires { ⌜ Covers (take used (now old ++ now new)) (now index) ⌝ }
     ensures { λ r. ⌜ Runs (λ u. make u (pointerEntry to nil u)) (now (old .entry)) (now (new .entry)) used (now (new .exit)) r ⌝ }
 {
-    let d = call::depth_on(old, new, used, to);
-    index::intern(old, new, used, &[10 + 256 * (1 + d), to, nil], index)
+    let d = call::depth_on(&*old, new, used, to);
+    index::intern(&*old, new, used, &[10 + 256 * (1 + d), to, nil], &*index)
 }
 
 pub fn memory(
@@ -121,8 +121,8 @@ pub fn memory(
     requires { ⌜ Covers (take used (now old ++ now new)) (now index) ⌝ }
     ensures { λ r. ⌜ Runs (λ u. make u (memoryEntry alias t u)) (now (old .entry)) (now (new .entry)) used (now (new .exit)) r ⌝ }
 {
-    let d = call::depth_on(old, new, used, t);
-    index::intern(old, new, used, &[11 + 256 * (1 + d), alias, t], index)
+    let d = call::depth_on(&*old, new, used, t);
+    index::intern(&*old, new, used, &[11 + 256 * (1 + d), alias, t], &*index)
 }
 
 // The depth of the deepest of the lent fields' types.
@@ -134,7 +134,7 @@ pub fn fields_deep(old: &[u64], new: &[u64], used: usize, fields: &[u64]) -> u64
     let mut at = 1;
     let mut j = fields.len() / 4;
     while 0 < j {
-        d = wellformed::larger(d, call::depth_on(old, new, used, fields[at]));
+        d = wellformed::larger(d, call::depth_on(&*old, &*new, used, fields[at]));
         at += 4;
         j -= 1;
     }
@@ -163,7 +163,7 @@ fn struct_words(e: &mut [u64], head: u64, name: u64, fields: &[u64])
     requires { ⌜ ValuesFit (now fields) ⌝ }
     ensures { λ _. ⌜ now (e .exit) ≡ (head ∷ name ∷ fieldWords (fieldCount (now (fields .entry))) 0 (now (fields .entry))) ++ drop (2 + 3 * fieldCount (now (fields .entry))) (now (e .entry)) ⌝ }
 {
-    field_words(&mut e[2..], fields);
+    field_words(&mut e[2..], &*fields);
     e[1] = name;
     e[0] = head;
 }
@@ -183,10 +183,10 @@ fn structure_in(
     requires { ⌜ Covers (take used (now old ++ now new)) (now index) ⌝ }
     ensures { λ r. ⌜ Runs (λ u. make u (structEntry name (now (fields .entry)) u)) (now (old .entry)) (now (new .entry)) used (now (new .exit)) r ⌝ }
 {
-    let d = fields_deep(old, new, used, fields);
+    let d = fields_deep(&*old, new, used, &*fields);
     let n = fields.len() / 4;
-    struct_words(e, 8 + 256 * (1 + d) + 65536 * (n as u64), name, fields);
-    index::intern(old, new, used, &e[..2 + 3 * n], index)
+    struct_words(e, 8 + 256 * (1 + d) + 65536 * (n as u64), name, &*fields);
+    index::intern(&*old, new, used, &e[..2 + 3 * n], &*index)
 }
 
 // Few fields are given few words for their entry, since all of them are cleared at each call.
@@ -205,8 +205,8 @@ pub fn structure(
 {
     if fields.len() / 4 <= 10 {
         let mut few = [0u64; 32];
-        return structure_in(old, new, used, name, fields, &mut few, index);
+        return structure_in(&*old, new, used, name, &*fields, &mut few, &*index);
     }
     let mut many = [0u64; 767];
-    structure_in(old, new, used, name, fields, &mut many, index)
+    structure_in(&*old, new, used, name, &*fields, &mut many, &*index)
 }

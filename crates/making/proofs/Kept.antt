@@ -1,10 +1,10 @@
 -- A memory stays right: over an operation that does not ask it, and over the end of a call. And what an operation requires of a store that row 1 has passed. Assumes
 -- nothing.
-use mathlib.Core.Path.{_≡_, refl, ap, _∙_}
+use mathlib.Core.Path.{_≡_, refl, sym, ap, _∙_}
 use mathlib.Core.List.{List, [], _++_}
 use Prim.Native.Nat.{ℕ, _≤_, _<_}
 use native.Mathlib.Omega.{arith}
-use lib.ListN.{length, take, getD, set}
+use lib.ListN.{length, take, getD, set, replicate}
 use lib.Seq.{length-take-le, getD-set-same, take-set-lt}
 use Rattle.words.specs.Made.{Grown, Segments, Ran}
 use Rattle.words.specs.declared.Interned.{Interned}
@@ -14,8 +14,7 @@ use Rattle.words.proofs.Room.{fitted}
 use Rattle.wellformed.specs.Form.{usedWords}
 use Rattle.wellformed.proofs.Before.{tests}
 use Rattle.call.specs.declared.Made.{Made}
-use Rattle.call.specs.declared.Made.the-variants.{Handle, Refused}
-use Rattle.call.specs.Call.{Outcome, refused, left, made}
+use Rattle.call.specs.Call.{Outcome, left, made}
 use Rattle.call.specs.Steps.{finishIn}
 use Rattle.call.proofs.Ways.{Begun}
 use Rattle.parts.specs.Parts.{Good}
@@ -23,8 +22,8 @@ use Rattle.parts.proofs.Good.{well-good}
 use Rattle.later.proofs.Right.{made-later}
 use Rattle.later.proofs.Keeps.{later-set}
 use Rattle.lent_memory.specs.Memory.{Right, RightThen}
-use Rattle.lent_memory.proofs.Laws.{right-later}
-use Rattle.making.specs.Making.{Cleared, Kept}
+use Rattle.lent_memory.proofs.Laws.{right-later, right-blank}
+use Rattle.making.specs.Making.{Cleared, Forgot}
 
 -- ---- a store that row 1 has passed
 
@@ -50,28 +49,34 @@ pub right-grown : {old new memory : List ℕ} {used : ℕ} → Segments old new 
     → {new′ : List ℕ} {r : Interned} → Ran used g (old ++ new) (old ++ new′) r → RightThen old new′ r memory
 right-grown s m g x {new′} ran = record { is = λ h v e. right-later (made-later s g x new′ ran h v e) m }
 
+-- a memory that is forgotten where the answer did not fit
+module _ (r : Interned) (memory : List ℕ) where
+  pub forgot-all : (memory′ : List ℕ) → r ≡ Full → memory′ ≡ replicate (length memory) 0 → Forgot r memory memory′
+  forgot-all memory′ is z = record { full = λ _. z; kept = λ ne. absurd (ne is) }
+
+  pub forgot-none : (h v : ℕ) → r ≡ At h v → Forgot r memory memory
+  forgot-none h v is = record { full = λ e. absurd (clash (sym is ∙ e)); kept = λ _. refl }
+    where
+      clash : At h v ≡ Full → ⊥
+      clash q = let z : _≡_ {A = ℕ} 0 1 = cc in omega arith
+
 -- the end of a call
-pub kept-call : (ws ws₁ ws₂ memory : List ℕ) (used : ℕ) (r : Interned) (g : Grown) (m : Made) → 0 < used → used ≤ length ws → 0 < length ws₁ → Extends (take used ws) (g .words) → Ran used g ws ws₁ r → RightThen [] ws₁ r memory
-    → left (made m) ws₂ ≡ finishIn used r ws₁ → Kept m ws₂ memory
+pub kept-call : (ws ws₁ ws₂ memory memory′ : List ℕ) (used : ℕ) (r : Interned) (g : Grown) (m : Made) → 0 < used → used ≤ length ws → 0 < length ws₁ → Extends (take used ws) (g .words) → Ran used g ws ws₁ r → RightThen [] ws₁ r memory → Forgot r memory memory′
+    → left (made m) ws₂ ≡ finishIn used r ws₁ → Right (usedWords ws₂) memory′
 unfolding finishIn
-kept-call ws ws₁ ws₂ memory used r g m some within long x ran right e = record { right = λ ne. go r refl ne }
+kept-call ws ws₁ ws₂ memory memory′ used r g m some within long x ran right f e = go r refl
   where
     end : (h v : ℕ) → r ≡ At h v → 0 < v
     end h v k =
         let n : length (take used ws) ≡ used = length-take-le used ws within in
         omega (arith, fitted used g ws ws₁ r ran h v k .end, ext-length (take used ws) (g .words) x)
 
-    twelve : (n : Made) → made n ≡ refused 12 → n ≡ Refused 12
-    twelve (Handle h) q = let z : _≡_ {A = ℕ} 0 1 = cc in absurd (omega arith)
-    twelve (Refused n) q = cc
-
-    go : (s : Interned) → r ≡ s → (m ≡ Refused 12 → ⊥) → Right (usedWords ws₂) memory
-    go (At h v) k ne =
+    go : (s : Interned) → r ≡ s → Right (usedWords ws₂) memory′
+    go (At h v) k =
         let e₁ : left (made m) ws₂ ≡ finishIn used (At h v) ws₁ = rw k at e in
         let w : ws₂ ≡ set ws₁ 0 v = ap (λ (y : Outcome). y .words) e₁ in
         let c : getD (set ws₁ 0 v) 0 0 ≡ v = getD-set-same ws₁ 0 v 0 long in
         let q : usedWords (set ws₁ 0 v) ≡ set (take v ws₁) 0 v = ap (λ (n : ℕ). take n (set ws₁ 0 v)) c ∙ take-set-lt v ws₁ 0 v (end h v k) in
-        rw (w, q) (right-later (later-set (take v ws₁) v) (right .is h v k))
-    go Full k ne =
-        let e₁ : left (made m) ws₂ ≡ finishIn used Full ws₁ = rw k at e in
-        absurd (ne (twelve m (ap (λ (y : Outcome). y .reply) e₁)))
+        let same : memory′ ≡ memory = f .kept (λ full. let z : _≡_ {A = ℕ} 0 1 = cc in absurd (omega arith)) in
+        rw (same, w, q) (right-later (later-set (take v ws₁) v) (right .is h v k))
+    go Full k = rw (f .full k) (right-blank (usedWords ws₂) (length memory))

@@ -5,14 +5,13 @@ use mathlib.Core.Path.{_≡_}
 use mathlib.Core.Bool.{true, not}
 use mathlib.Core.List.{List, [], _∷_, _++_}
 use Prim.Native.Nat.{ℕ, _+_, _≤_}
-use lib.ListN.{length, take, drop}
+use lib.ListN.{length, take, drop, replicate}
 use lib.Dec.{ltb}
 use Rattle.words.specs.Words.{fills}
 use Rattle.words.specs.Made.{Grown, make}
+use Rattle.words.specs.declared.Interned.{Interned}
+use Rattle.words.specs.declared.Interned.the-variants.{Full}
 use Rattle.wellformed.specs.Entry.{mostCounted, isType, isStruct, isFlag, isAlias, floatOk}
-use Rattle.wellformed.specs.Form.{usedWords}
-use Rattle.call.specs.declared.Made.{Made}
-use Rattle.call.specs.declared.Made.the-variants.{Refused}
 use Rattle.call.specs.Call.{_when_}
 use Rattle.call.specs.Handles.{typesRows}
 use Rattle.names.specs.Name.{nameEntry}
@@ -25,7 +24,6 @@ use Rattle.walk_rules.specs.declared.Walk.the-variants.{Dual, Glb, Lub}
 use Rattle.walk.specs.Walked.{walkOf}
 use Rattle.join.specs.Join.{joinOf}
 use Rattle.make_ro.specs.ReadOnly.{makeRoOf}
-use Rattle.lent_memory.specs.Memory.{Right}
 use Rattle.every_call.specs.Run as Run
 use Rattle.making.specs.declared.Making.{Making}
 use Rattle.making.specs.declared.Making.the-variants as Making-variants
@@ -92,6 +90,7 @@ pub record Cleared (rows : List ℕ → ℕ) (old new : List ℕ) (used : ℕ) :
   pub good : Good (take used (old ++ new))
   pub passed : rows (take used (old ++ new)) ≡ 0
 
--- what a call leaves of a memory: unless it was refused with 12, one that is right for the used words as they are then
-pub record Kept (r : Made) (ws memory : List ℕ) : Type 0 where
-  pub right : (r ≡ Refused 12 → ⊥) → Right (usedWords ws) memory
+-- after an operation: a memory of blanks where its answer did not fit
+pub record Forgot (r : Interned) (memory memory′ : List ℕ) : Type 0 where
+  pub full : r ≡ Full → memory′ ≡ replicate (length memory) 0
+  pub kept : (r ≡ Full → ⊥) → memory′ ≡ memory

@@ -11,12 +11,13 @@ ghost use lib.ListN.{length, take};
 ghost use Rattle.words.specs.Made.{make, Segments, Runs};
 ghost use Rattle.index.specs.Covers.{Covers};
 ghost use Rattle.wellformed.specs.Entry.{mostCounted, floatOk};
+ghost use Rattle.wellformed.specs.Form.{usedWords};
 ghost use Rattle.call.specs.Call.{left, made, _when_};
 ghost use Rattle.call.specs.Steps.{usedOf, Open};
 ghost use Rattle.makers.specs.Entries.{storedSize, floatEntry};
 ghost use Rattle.lent_memory.specs.Memory.{Right, RightThen};
 ghost use Rattle.every_call.specs.Run.{run, typed};
-ghost use Rattle.making.specs.Making.{appended, rowsOf, opOf, Cleared, Kept};
+ghost use Rattle.making.specs.Making.{appended, rowsOf, opOf, Cleared, Forgot};
 
 // A call that appends. The types of a tuple, the fields of a struct and the bytes of a name are lent beside it. get_int is MakeInt, get_float is MakeFloat.
 pub enum Making {
@@ -71,21 +72,21 @@ pub fn rows_of(
     match making {
         Making::MakeInt(_, _) => 0,
         Making::MakeFloat(sz, con) => float_rows(sz, con),
-        Making::GetStr => str_rows(text),
-        Making::GetTuple => rows::tuple_rows(words, used, bits, list),
-        Making::GetStruct(name) => rows::struct_rows(words, used, bits, name, list),
+        Making::GetStr => str_rows(&*text),
+        Making::GetTuple => rows::tuple_rows(&*words, used, &*bits, &*list),
+        Making::GetStruct(name) => rows::struct_rows(&*words, used, &*bits, name, &*list),
         Making::MakeAry(len, la, body, ba) => {
-            rows::ary_rows(words, used, bits, len, la, body, ba, text)
+            rows::ary_rows(&*words, used, &*bits, len, la, body, ba, &*text)
         }
-        Making::MakeStructFref(name) => rows::fref_rows(words, used, bits, name),
-        Making::GetMemPtr(to, nil) => rows::part_rows(words, used, bits, to, 8, 9, nil <= 1),
+        Making::MakeStructFref(name) => rows::fref_rows(&*words, used, &*bits, name),
+        Making::GetMemPtr(to, nil) => rows::part_rows(&*words, used, &*bits, to, 8, 9, nil <= 1),
         Making::GetMem(alias, t) => {
-            rows::part_rows(words, used, bits, t, 1, 11, alias <= 4294967295)
+            rows::part_rows(&*words, used, &*bits, t, 1, 11, alias <= 4294967295)
         }
-        Making::Meet(a, b) => rows::types_rows(words, used, bits, &[a, b]),
-        Making::Join(a, b) => rows::types_rows(words, used, bits, &[a, b]),
-        Making::Walk(_, a) => rows::types_rows(words, used, bits, &[a]),
-        Making::MakeRo(a) => rows::types_rows(words, used, bits, &[a]),
+        Making::Meet(a, b) => rows::types_rows(&*words, used, &*bits, &[a, b]),
+        Making::Join(a, b) => rows::types_rows(&*words, used, &*bits, &[a, b]),
+        Making::Walk(_, a) => rows::types_rows(&*words, used, &*bits, &[a]),
+        Making::MakeRo(a) => rows::types_rows(&*words, used, &*bits, &[a]),
     }
 }
 
@@ -99,7 +100,7 @@ fn float(old: &[u64], new: &mut [u64], used: usize, sz: u64, bits: u64, index: &
 {
     let size = std::num::wrapping_add_u64(sz, 64);
     let f = type_float::float_of(size, bits);
-    makers::float(old, new, used, f, bits, index)
+    makers::float(&*old, new, used, f, bits, &*index)
 }
 
 // Appends what the call makes, behind the used words of two segments. `scratch` may hold anything; `memory` and `index` may have no words.
@@ -122,29 +123,38 @@ pub fn operate(
     ensures { λ _. ⌜ typed (appended making (now (list .entry)) (now (text .entry))) ≡ true ⌝ }
 {
     match making {
-        Making::MakeInt(min, max) => makers::int(old, new, used, min, max, index),
-        Making::MakeFloat(sz, con) => float(old, new, used, sz, con, index),
-        Making::GetStr => names::intern_name(old, new, used, text, false, index),
-        Making::GetTuple => makers::tuple(old, new, used, list, index),
-        Making::GetStruct(name) => makers::structure(old, new, used, name, list, index),
+        Making::MakeInt(min, max) => makers::int(&*old, new, used, min, max, &*index),
+        Making::MakeFloat(sz, con) => float(&*old, new, used, sz, con, &*index),
+        Making::GetStr => names::intern_name(&*old, new, used, &*text, false, &*index),
+        Making::GetTuple => makers::tuple(&*old, new, used, &*list, &*index),
+        Making::GetStruct(name) => makers::structure(&*old, new, used, name, &*list, &*index),
         Making::MakeAry(len, la, body, ba) => {
-            arrays::array(old, new, used, len, la, body, ba, text, index)
+            arrays::array(&*old, new, used, len, la, body, ba, &*text, &*index)
         }
-        Making::MakeStructFref(name) => makers::fref(old, new, used, name, index),
-        Making::GetMemPtr(to, nil) => makers::pointer(old, new, used, to, nil, index),
-        Making::GetMem(alias, t) => makers::memory(old, new, used, alias, t, index),
+        Making::MakeStructFref(name) => makers::fref(&*old, new, used, name, &*index),
+        Making::GetMemPtr(to, nil) => makers::pointer(&*old, new, used, to, nil, &*index),
+        Making::GetMem(alias, t) => makers::memory(&*old, new, used, alias, t, &*index),
         Making::Meet(a, b) => {
-            lent_memory::meet(old, new, used, a as usize, b as usize, memory, index)
+            lent_memory::meet(&*old, new, used, a as usize, b as usize, memory, &*index)
         }
         Making::Join(a, b) => {
-            lent_memory::join(old, new, used, a as usize, b as usize, memory, index)
+            lent_memory::join(&*old, new, used, a as usize, b as usize, memory, &*index)
         }
         Making::Walk(walk, a) => {
-            lent_memory::walk(walk, old, new, used, a as usize, memory, index)
+            lent_memory::walk(walk, &*old, new, used, a as usize, memory, &*index)
         }
         Making::MakeRo(a) => {
-            lent_memory::make_ro(old, new, used, a as usize, scratch, memory, index)
+            lent_memory::make_ro(&*old, new, used, a as usize, scratch, memory, &*index)
         }
+    }
+}
+
+// Where the answer did not fit, the store is put back as it was, and lines that were noted on the way may speak of entries that are gone: all are forgotten.
+fn forget(r: Interned, memory: &mut [u64])
+    ensures { λ _. ⌜ Forgot r (now (memory .entry)) (now (memory .exit)) ⌝ }
+{
+    if let Interned::Full = r {
+        words::clear(memory);
     }
 }
 
@@ -164,7 +174,7 @@ pub fn append(
     requires { ⌜ Right (take used (now words)) (now memory) ⌝ }
     requires { ⌜ Covers (take used (now words)) (now index) ⌝ }
     ensures { λ r. ⌜ left (made r) (now (words .exit)) ≡ run (appended making (now (list .entry)) (now (text .entry))) (now (words .entry)) ⌝ }
-    ensures { λ r. ⌜ Kept r (now (words .exit)) (now (memory .exit)) ⌝ }
+    ensures { λ _. ⌜ Right (usedWords (now (words .exit))) (now (memory .exit)) ⌝ }
     ensures { λ _. ⌜ typed (appended making (now (list .entry)) (now (text .entry))) ≡ true ⌝ }
 {
     let none = [0u64; 0];
@@ -173,11 +183,12 @@ pub fn append(
         words,
         used,
         making,
-        list,
-        text,
+        &*list,
+        &*text,
         scratch,
         memory,
-        index,
+        &*index,
     );
+    forget(r, memory);
     call::finish(words, used, r)
 }

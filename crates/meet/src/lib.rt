@@ -49,7 +49,7 @@ pub fn meet_type(
     ensures { λ r. ⌜ Met (now (old .entry)) (now (new .entry)) used a b (now (new .exit)) r ⌝ }
     ensures { λ r. ⌜ Remembered (now (old .entry)) (now (new .exit)) r (now (memo .exit)) ⌝ }
 {
-    let rule = meet_rules::type_rule(old, new, used, a, b);
+    let rule = meet_rules::type_rule(&*old, new, used, a, b);
     let key = meet_key(rule, a, b);
     let line = memo::recall(memo, key);
     if let Recalled::Is(h) = line {
@@ -59,20 +59,20 @@ pub fn meet_type(
         Rule::First => Interned::At(a, used),
         Rule::Second => Interned::At(b, used),
         Rule::Bottom => Interned::At(5, used),
-        Rule::Ints => meet_rules::meet_int(old, new, used, a, b, index),
-        Rule::Floats => Interned::At(meet_rules::meet_float(old, new, used, a, b), used),
-        Rule::Structs => meet_struct(old, new, used, a, b, memo, index),
+        Rule::Ints => meet_rules::meet_int(&*old, new, used, a, b, &*index),
+        Rule::Floats => Interned::At(meet_rules::meet_float(&*old, new, used, a, b), used),
+        Rule::Structs => meet_struct(&*old, new, used, a, b, memo, &*index),
         Rule::Pointers => {
-            let x = words::word(old, new, used, a + 1) as usize;
-            let y = words::word(old, new, used, b + 1) as usize;
+            let x = words::word(&*old, new, used, a + 1) as usize;
+            let y = words::word(&*old, new, used, b + 1) as usize;
             let nil = wellformed::larger(
-                words::word(old, new, used, a + 2),
-                words::word(old, new, used, b + 2),
+                words::word(&*old, new, used, a + 2),
+                words::word(&*old, new, used, b + 2),
             );
-            let m = meet_struct(old, new, used, x, y, memo, index);
+            let m = meet_struct(&*old, new, used, x, y, memo, &*index);
             match m {
                 Interned::At(h, v) => {
-                    let pointer = makers::pointer(old, new, v, h as u64, nil, index);
+                    let pointer = makers::pointer(&*old, new, v, h as u64, nil, &*index);
                     memo::noted(memo, key, pointer)
                 }
                 Interned::Full => Interned::Full,
@@ -80,29 +80,29 @@ pub fn meet_type(
         }
         Rule::Memories => {
             let alias = meet_rules::shared_alias(
-                words::word(old, new, used, a + 1),
-                words::word(old, new, used, b + 1),
+                words::word(&*old, new, used, a + 1),
+                words::word(&*old, new, used, b + 1),
             );
-            let x = words::word(old, new, used, a + 2) as usize;
-            let y = words::word(old, new, used, b + 2) as usize;
-            let m = meet_type(old, new, used, x, y, memo, index);
+            let x = words::word(&*old, new, used, a + 2) as usize;
+            let y = words::word(&*old, new, used, b + 2) as usize;
+            let m = meet_type(&*old, new, used, x, y, memo, &*index);
             match m {
                 Interned::At(h, v) => {
-                    let memory = makers::memory(old, new, v, alias, h as u64, index);
+                    let memory = makers::memory(&*old, new, v, alias, h as u64, &*index);
                     memo::noted(memo, key, memory)
                 }
                 Interned::Full => Interned::Full,
             }
         }
         Rule::Tuples => {
-            let n = (words::word(old, new, used, a) / 65536) as usize;
+            let n = (words::word(&*old, new, used, a) / 65536) as usize;
             let mut parts = [0u64; 255];
             let mut v = used;
             let mut i: usize = 0;
             while i < n {
-                let x = words::word(old, new, used, a + 1 + i) as usize;
-                let y = words::word(old, new, used, b + 1 + i) as usize;
-                let m = meet_type(old, new, v, x, y, memo, index);
+                let x = words::word(&*old, new, used, a + 1 + i) as usize;
+                let y = words::word(&*old, new, used, b + 1 + i) as usize;
+                let m = meet_type(&*old, new, v, x, y, memo, &*index);
                 match m {
                     Interned::At(h, w) => {
                         parts[i] = h as u64;
@@ -114,7 +114,7 @@ pub fn meet_type(
                 }
                 i += 1;
             }
-            let tuple = makers::tuple(old, new, v, &parts[..n], index);
+            let tuple = makers::tuple(&*old, new, v, &parts[..n], &*index);
             memo::noted(memo, key, tuple)
         }
     }
@@ -135,7 +135,7 @@ fn meet_struct(
     ensures { λ r. ⌜ MetStruct (now (old .entry)) (now (new .entry)) used a b (now (new .exit)) r ⌝ }
     ensures { λ r. ⌜ Remembered (now (old .entry)) (now (new .exit)) r (now (memo .exit)) ⌝ }
 {
-    let rule = meet_rules::struct_rule(old, new, used, a, b);
+    let rule = meet_rules::struct_rule(&*old, new, used, a, b);
     match rule {
         StructRule::Former => Interned::At(a, used),
         StructRule::Latter => Interned::At(b, used),
@@ -146,14 +146,14 @@ fn meet_struct(
             if let Recalled::Is(h) = line {
                 return Interned::At(h as usize, used);
             }
-            let n = (words::word(old, new, used, a) / 65536) as usize;
+            let n = (words::word(&*old, new, used, a) / 65536) as usize;
             let mut types = [0u64; 255];
             let mut v = used;
             let mut i: usize = 0;
             while i < n {
-                let x = words::word(old, new, used, a + 3 + 3 * i) as usize;
-                let y = words::word(old, new, used, b + 3 + 3 * i) as usize;
-                let m = meet_type(old, new, v, x, y, memo, index);
+                let x = words::word(&*old, new, used, a + 3 + 3 * i) as usize;
+                let y = words::word(&*old, new, used, b + 3 + 3 * i) as usize;
+                let m = meet_type(&*old, new, v, x, y, memo, &*index);
                 match m {
                     Interned::At(h, w) => {
                         types[i] = h as u64;
@@ -165,7 +165,7 @@ fn meet_struct(
                 }
                 i += 1;
             }
-            let fields = meet_fields::meet_fields(old, new, v, a, b, &types[..n], index);
+            let fields = meet_fields::meet_fields(&*old, new, v, a, b, &types[..n], &*index);
             memo::noted(memo, key, fields)
         }
     }

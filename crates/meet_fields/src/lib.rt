@@ -26,8 +26,8 @@ fn either_final(
 {
     let mut i = 0;
     while i < n {
-        let f = words::word(old, new, used, p + 3 * i) % 2;
-        let g = words::word(old, new, used, q + 3 * i) % 2;
+        let f = words::word(&*old, &*new, used, p + 3 * i) % 2;
+        let g = words::word(&*old, &*new, used, q + 3 * i) % 2;
         dst[i] = wellformed::larger(f, g);
         i += 1;
     }
@@ -51,8 +51,8 @@ fn meet_fields_in(
     ensures { λ r. ⌜ Runs (meetFields a b (now (types .entry))) (now (old .entry)) (now (new .entry)) used (now (new .exit)) r ⌝ }
 {
     let n = types.len();
-    either_final(finals, old, new, used, n, a + 4, b + 4);
-    structs::made_again(old, new, used, a, types, &finals[..n], index)
+    either_final(finals, &*old, new, used, n, a + 4, b + 4);
+    structs::made_again(&*old, new, used, a, &*types, &finals[..n], &*index)
 }
 
 // Makes the struct that the structs at a and b meet in, with these types. Few fields are given few words, since all of them are cleared at each call.
@@ -72,8 +72,8 @@ pub fn meet_fields(
 {
     if types.len() <= 8 {
         let mut few = [0u64; 8];
-        return meet_fields_in(old, new, used, a, b, types, &mut few, index);
+        return meet_fields_in(&*old, new, used, a, b, &*types, &mut few, &*index);
     }
     let mut many = [0u64; 255];
-    meet_fields_in(old, new, used, a, b, types, &mut many, index)
+    meet_fields_in(&*old, new, used, a, b, &*types, &mut many, &*index)
 }

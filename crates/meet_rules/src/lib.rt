@@ -136,8 +136,8 @@ pub fn type_rule(old: &[u64], new: &[u64], used: usize, a: usize, b: usize) -> R
     requires { ⌜ (length (now old) ≤ used) × (used ≤ length (now old) + length (now new)) ⌝ }
     ensures { λ r. ⌜ r ≡ typeRule (take used (now (old .entry) ++ now (new .entry))) a b ⌝ }
 {
-    let x = words::word(old, new, used, a);
-    let y = words::word(old, new, used, b);
+    let x = words::word(&*old, &*new, used, a);
+    let y = words::word(&*old, &*new, used, b);
     rule_for(a, b, x % 256, y % 256, x / 65536, y / 65536)
 }
 
@@ -151,7 +151,7 @@ fn same_words(old: &[u64], new: &[u64], used: usize, n: usize, p: usize, q: usiz
 {
     let mut i = 0;
     while i < n {
-        if words::word(old, new, used, p + i) != words::word(old, new, used, q + i) {
+        if words::word(&*old, &*new, used, p + i) != words::word(&*old, &*new, used, q + i) {
             return false;
         }
         i += 1;
@@ -168,8 +168,8 @@ fn same_name(old: &[u64], new: &[u64], used: usize, p: usize, q: usize) -> bool
     if p == q {
         return true;
     }
-    let n = words::size(words::word(old, new, used, p));
-    same_words(old, new, used, n, p, q)
+    let n = words::size(words::word(&*old, &*new, used, p));
+    same_words(&*old, &*new, used, n, p, q)
 }
 
 // Whether the n fields from p on have the names and aliases of those from q on.
@@ -181,13 +181,13 @@ fn same_fields(old: &[u64], new: &[u64], used: usize, n: usize, p: usize, q: usi
 {
     let mut i = 0;
     while i < n {
-        let x = words::word(old, new, used, p + 3 * i) as usize;
-        let y = words::word(old, new, used, q + 3 * i) as usize;
-        if !same_name(old, new, used, x, y) {
+        let x = words::word(&*old, &*new, used, p + 3 * i) as usize;
+        let y = words::word(&*old, &*new, used, q + 3 * i) as usize;
+        if !same_name(&*old, &*new, used, x, y) {
             return false;
         }
-        let f = words::word(old, new, used, p + 3 * i + 2);
-        let g = words::word(old, new, used, q + 3 * i + 2);
+        let f = words::word(&*old, &*new, used, p + 3 * i + 2);
+        let g = words::word(&*old, &*new, used, q + 3 * i + 2);
         if f / 2 != g / 2 {
             return false;
         }
@@ -201,13 +201,13 @@ fn named_rule(old: &[u64], new: &[u64], used: usize, a: usize, b: usize) -> Stru
     requires { ⌜ (a < 1048576) × (b < 1048576) × NamesBelow (take used (now old ++ now new)) a × NamesBelow (take used (now old ++ now new)) b ⌝ }
     ensures { λ r. ⌜ r ≡ namedRule (take used (now (old .entry) ++ now (new .entry))) a b ⌝ }
 {
-    let x = words::word(old, new, used, a + 1) as usize;
-    let y = words::word(old, new, used, b + 1) as usize;
-    if !same_name(old, new, used, x, y) {
+    let x = words::word(&*old, &*new, used, a + 1) as usize;
+    let y = words::word(&*old, &*new, used, b + 1) as usize;
+    if !same_name(&*old, &*new, used, x, y) {
         return StructRule::Lowest;
     }
-    let f = words::word(old, new, used, a);
-    let g = words::word(old, new, used, b);
+    let f = words::word(&*old, &*new, used, a);
+    let g = words::word(&*old, &*new, used, b);
     if f % 256 == 9 {
         return StructRule::Latter; // a forward reference yields to its namesake
     }
@@ -218,7 +218,7 @@ fn named_rule(old: &[u64], new: &[u64], used: usize, a: usize, b: usize) -> Stru
         return StructRule::Lowest;
     }
     let n = (f / 65536) as usize;
-    if !same_fields(old, new, used, n, a + 2, b + 2) {
+    if !same_fields(&*old, &*new, used, n, a + 2, b + 2) {
         return StructRule::Lowest;
     }
     StructRule::Fields
@@ -245,7 +245,7 @@ pub fn struct_rule(old: &[u64], new: &[u64], used: usize, a: usize, b: usize) ->
     if b == 18 {
         return StructRule::Former;
     }
-    named_rule(old, new, used, a, b)
+    named_rule(&*old, &*new, used, a, b)
 }
 
 // ---- answers
@@ -264,14 +264,14 @@ pub fn meet_int(
     ensures { λ r. ⌜ Runs (λ u. make u (intEntry (smaller (word u (a + 1)) (word u (b + 1))) (larger (word u (a + 2)) (word u (b + 2))))) (now (old .entry)) (now (new .entry)) used (now (new .exit)) r ⌝ }
 {
     let min = type_integer::smaller_of(
-        words::word(old, new, used, a + 1),
-        words::word(old, new, used, b + 1),
+        words::word(&*old, new, used, a + 1),
+        words::word(&*old, new, used, b + 1),
     );
     let max = type_integer::larger_of(
-        words::word(old, new, used, a + 2),
-        words::word(old, new, used, b + 2),
+        words::word(&*old, new, used, a + 2),
+        words::word(&*old, new, used, b + 2),
     );
-    makers::int(old, new, used, min, max, index)
+    makers::int(&*old, new, used, min, max, &*index)
 }
 
 // The handle of the float that answers.
@@ -292,12 +292,12 @@ pub fn meet_float(old: &[u64], new: &[u64], used: usize, a: usize, b: usize) -> 
     ensures { λ r. ⌜ r ≡ floatHandle a b (floatRule (readingOn (take used (now (old .entry) ++ now (new .entry))) a) (readingOn (take used (now (old .entry) ++ now (new .entry))) b)) ⌝ }
 {
     let f = type_float::float_of(
-        words::word(old, new, used, a + 1),
-        words::word(old, new, used, a + 2),
+        words::word(&*old, &*new, used, a + 1),
+        words::word(&*old, &*new, used, a + 2),
     );
     let g = type_float::float_of(
-        words::word(old, new, used, b + 1),
-        words::word(old, new, used, b + 2),
+        words::word(&*old, &*new, used, b + 1),
+        words::word(&*old, &*new, used, b + 2),
     );
     float_handle(a, b, float_meet::meet(f, g))
 }

@@ -7,9 +7,8 @@ use Prim.Native.Nat.{ℕ, _+_, _*_, _/_, _%_, _<_}
 use native.Mathlib.Omega.{arith}
 use borrow.Author.Tests.{eqb-true, eqb-false}
 use lib.Dec.{eqb}
-use lib.ListN.{length, getD, set, replicate}
+use lib.ListN.{length, getD, set}
 use lib.Seq.{getD-set-same, getD-set-other}
-use Rattle.words.proofs.Zeros.{zeros}
 use Rattle.words.specs.declared.Interned.{Interned}
 use Rattle.words.specs.declared.Interned.the-variants.{At, Full}
 use Rattle.memo.specs.Memo.{Line, Lines, Tells, Noted, Learned}
@@ -50,9 +49,6 @@ learned-none memo key r e = record { at = λ h v f. let z : _≡_ {A = ℕ} 0 1 
 -- it holds of a memory without any
 pub lines-none : {P : ℕ → ℕ → Type 0} {memo : List ℕ} → ((i : ℕ) → getD memo i 0 ≡ 0) → Lines P memo
 lines-none z = record { line = λ i key answer l. absurd (l .some (omega (arith, l .word, z i))) }
-
-pub lines-blank : {P : ℕ → ℕ → Type 0} (n : ℕ) → Lines P (replicate n 0)
-lines-blank n = lines-none (zeros n)
 
 -- it holds where it follows from what holds
 pub lines-weak : {P Q : ℕ → ℕ → Type 0} {memo : List ℕ} → ((key answer : ℕ) → P key answer → Q key answer) → Lines P memo → Lines Q memo

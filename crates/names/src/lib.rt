@@ -47,7 +47,7 @@ fn byte_at(text: &[u8], wrap: bool, i: usize) -> u64
     ensures { λ r. ⌜ (r ≡ getD (wrapped wrap (now (text .entry))) i 0) × (r < 256) ⌝ }
 {
     if !wrap {
-        return text_at(text, i);
+        return text_at(&*text, i);
     }
     if i == 0 {
         return 91;
@@ -55,7 +55,7 @@ fn byte_at(text: &[u8], wrap: bool, i: usize) -> u64
     if i - 1 == text.len() {
         return 93;
     }
-    text_at(text, i - 1)
+    text_at(&*text, i - 1)
 }
 
 // Eight bytes of a name, from a position on, as a word.
@@ -67,7 +67,7 @@ fn name_word(text: &[u8], wrap: bool, at: usize) -> u64
     let mut j = 8;
     while 0 < j {
         j -= 1;
-        w = byte_at(text, wrap, at + j) + 256 * w;
+        w = byte_at(&*text, wrap, at + j) + 256 * w;
     }
     w
 }
@@ -77,7 +77,7 @@ fn name_size(text: &[u8], wrap: bool) -> usize
     requires { ⌜ length (now text) ≤ 65535 ⌝ }
     ensures { λ r. ⌜ r ≡ length (nameEntry (wrapped wrap (now (text .entry)))) ⌝ }
 {
-    1 + (name_len(text, wrap) + 7) / 8
+    1 + (name_len(&*text, wrap) + 7) / 8
 }
 
 // A word of a name's entry.
@@ -87,9 +87,9 @@ fn entry_word(text: &[u8], wrap: bool, i: usize) -> u64
     ensures { λ r. ⌜ r ≡ getD (nameEntry (wrapped wrap (now (text .entry)))) i 0 ⌝ }
 {
     if i == 0 {
-        return 65536 * name_len(text, wrap) as u64;
+        return 65536 * name_len(&*text, wrap) as u64;
     }
-    name_word(text, wrap, 8 * (i - 1))
+    name_word(&*text, wrap, 8 * (i - 1))
 }
 
 // Whether an entry is that of a name. The length and the head come first, so that other entries are passed over quickly.
@@ -97,12 +97,12 @@ fn same_name(e: &[u64], text: &[u8], wrap: bool) -> bool
     requires { ⌜ length (now text) ≤ 65535 ⌝ }
     ensures { λ r. ⌜ r ≡ eqs (now (e .entry)) (nameEntry (wrapped wrap (now (text .entry)))) ⌝ }
 {
-    if e.len() != name_size(text, wrap) {
+    if e.len() != name_size(&*text, wrap) {
         return false;
     }
     let mut i = 0;
     while i < e.len() {
-        if e[i] != entry_word(text, wrap, i) {
+        if e[i] != entry_word(&*text, wrap, i) {
             return false;
         }
         i += 1;
@@ -126,7 +126,7 @@ fn look_name(
     let mut at = from;
     while at < to {
         let n = words::size(words[at]);
-        if same_name(&words[at..at + n], text, wrap) {
+        if same_name(&words[at..at + n], &*text, wrap) {
             return words::Found::At(base + at);
         }
         at += n;
@@ -139,11 +139,11 @@ fn name_hash(text: &[u8], wrap: bool) -> u64
     requires { ⌜ length (now text) ≤ 65535 ⌝ }
     ensures { λ r. ⌜ r ≡ hashFrom 0 (nameEntry (wrapped wrap (now (text .entry)))) ⌝ }
 {
-    let n = name_size(text, wrap);
+    let n = name_size(&*text, wrap);
     let mut h = 0;
     let mut i = 0;
     while i < n {
-        h = index::stir(h ^ entry_word(text, wrap, i));
+        h = index::stir(h ^ entry_word(&*text, wrap, i));
         i += 1;
     }
     h
@@ -154,7 +154,7 @@ fn name_bucket(half: usize, text: &[u8], wrap: bool) -> usize
     requires { ⌜ length (now text) ≤ 65535 ⌝ }
     ensures { λ r. ⌜ (r ≡ bucketOf half (nameEntry (wrapped wrap (now (text .entry))))) × (r < half) ⌝ }
 {
-    index::slot(half, name_hash(text, wrap))
+    index::slot(half, name_hash(&*text, wrap))
 }
 
 // Whether the entry at a handle is that of a name.
@@ -165,11 +165,11 @@ fn is_name_at(old: &[u64], new: &[u64], used: usize, at: usize, text: &[u8], wra
 {
     if at < old.len() {
         let n = words::size(old[at]);
-        return same_name(&old[at..at + n], text, wrap);
+        return same_name(&old[at..at + n], &*text, wrap);
     }
     let p = at - old.len();
     let n = words::size(new[p]);
-    same_name(&new[p..p + n], text, wrap)
+    same_name(&new[p..p + n], &*text, wrap)
 }
 
 // The lowest handle of a name's entry among those in the index.
@@ -190,11 +190,11 @@ fn search_name(
     if half == 0 {
         return words::Found::Nothing;
     }
-    let b = name_bucket(half, text, wrap);
+    let b = name_bucket(half, &*text, wrap);
     let mut at = index[b] as usize;
     let mut lowest = 0;
     while at != 0 {
-        let same = is_name_at(old, new, used, at, text, wrap);
+        let same = is_name_at(&*old, &*new, used, at, &*text, wrap);
         lowest = index::either(same, at, lowest);
         at = (index[half + at] - 1) as usize;
     }
@@ -219,18 +219,18 @@ fn rest_name(
 {
     if old.len() <= from {
         return look_name(
-            new,
+            &*new,
             old.len(),
             from - old.len(),
             used - old.len(),
-            text,
+            &*text,
             wrap,
         );
     }
-    let f = look_name(old, 0, from, old.len(), text, wrap);
+    let f = look_name(&*old, 0, from, old.len(), &*text, wrap);
     match f {
         words::Found::At(h) => words::Found::At(h),
-        words::Found::Nothing => look_name(new, old.len(), 0, used - old.len(), text, wrap),
+        words::Found::Nothing => look_name(&*new, old.len(), 0, used - old.len(), &*text, wrap),
     }
 }
 
@@ -248,10 +248,17 @@ pub fn find_name(
     requires { ⌜ Covers (take used (now old ++ now new)) (now index) ⌝ }
     ensures { λ r. ⌜ r ≡ findIn (take used (now (old .entry) ++ now (new .entry))) (nameEntry (wrapped wrap (now (text .entry)))) ⌝ }
 {
-    let f = search_name(old, new, used, text, wrap, index);
+    let f = search_name(&*old, &*new, used, &*text, wrap, &*index);
     match f {
         words::Found::At(h) => words::Found::At(h),
-        words::Found::Nothing => rest_name(old, new, used, index::covered(index), text, wrap),
+        words::Found::Nothing => rest_name(
+            &*old,
+            &*new,
+            used,
+            index::covered(&*index),
+            &*text,
+            wrap,
+        ),
     }
 }
 
@@ -261,10 +268,10 @@ fn write_name(dst: &mut [u64], text: &[u8], wrap: bool)
     requires { ⌜ length (nameEntry (wrapped wrap (now text))) ≤ length (now dst) ⌝ }
     ensures { λ _. ⌜ now (dst .exit) ≡ nameEntry (wrapped wrap (now (text .entry))) ++ drop (length (nameEntry (wrapped wrap (now (text .entry))))) (now (dst .entry)) ⌝ }
 {
-    let n = name_size(text, wrap);
+    let n = name_size(&*text, wrap);
     let mut i = 0;
     while i < n {
-        dst[i] = entry_word(text, wrap, i);
+        dst[i] = entry_word(&*text, wrap, i);
         i += 1;
     }
 }
@@ -283,14 +290,14 @@ pub fn intern_name(
     requires { ⌜ Covers (take used (now old ++ now new)) (now index) ⌝ }
     ensures { λ r. ⌜ Runs (λ u. make u (nameEntry (wrapped wrap (now (text .entry))))) (now (old .entry)) (now (new .entry)) used (now (new .exit)) r ⌝ }
 {
-    let f = find_name(old, new, used, text, wrap, index);
+    let f = find_name(&*old, new, used, &*text, wrap, &*index);
     match f {
         words::Found::At(h) => words::Interned::At(h, used),
         words::Found::Nothing => {
             let at = used - old.len();
-            let n = name_size(text, wrap);
+            let n = name_size(&*text, wrap);
             if n <= new.len() - at {
-                write_name(&mut new[at..], text, wrap);
+                write_name(&mut new[at..], &*text, wrap);
                 words::Interned::At(used, used + n)
             } else {
                 words::Interned::Full

@@ -11,7 +11,7 @@ use Rattle.words.specs.Table.{rows, entries, starts}
 use Rattle.bitset.specs.Bitset.{bitAt}
 use Rattle.wellformed.specs.Form.{wellFormed, usedWords}
 use Rattle.wellformed.proofs.Before.{tests}
-use Rattle.index.specs.Covers.{indexedTo, Covers, Opened}
+use Rattle.index.specs.Covers.{indexedTo, Covers, Blank, Opened}
 use Rattle.later.specs.Later.{Later}
 use Rattle.opened.specs.OpenStore.{marksSize, indexSize, chainsOf, IndexOf}
 use Rattle.opened.specs.Steps.{Stale}
@@ -114,15 +114,30 @@ module _ (ws index : List ℕ) (k : ℕ) (is : k ≡ marksSize (length ws)) (roo
 
     -- and then the chains
     module _ (chains : List ℕ) (long : length chains ≡ length (take (length two - k) (drop k two))) where
-      pub three-index : bitAt bits ≡ starts (usedWords ws) → Opened (usedWords ws) chains → IndexOf ws (putMid k (length two - k) two chains)
-      three-index marks opened =
-          let t : length (take k two) ≡ k = length-take-le k two (omega (arith, two-long, k-fits)) in
-          let rest = chains ++ drop (length two - k) (drop k two) in
+      abbrev three : List ℕ
+      three = putMid k (length two - k) two chains
+
+      pub three-room : indexSize (length ws) ≤ length three
+      three-room = omega (arith, same-len-mid k (length two - k) two chains long, two-long, room)
+
+      three-front-long : length (take k two) ≡ k
+      three-front-long = length-take-le k two (omega (arith, two-long, k-fits))
+
+      pub three-marks : take k three ≡ bits
+      three-marks = take-at (take k two) (chains ++ drop (length two - k) (drop k two)) k three-front-long ∙ two-marks
+
+      pub three-chains : drop k three ≡ chains
+      three-chains =
           let none : drop (length two - k) (drop k two) ≡ [] = drop-of-length-le (drop k two) {i = length two - k} (omega (arith, length-drop k two)) in
-          let front : take k (take k two ++ rest) ≡ bits = take-at (take k two) rest k t ∙ two-marks in
-          let back : drop k (take k two ++ rest) ≡ chains = drop-at (take k two) rest k t ∙ rw none (append-nil chains) in
-          record {
-            room = omega (arith, same-len-mid k (length two - k) two chains long, two-long, room);
-            marks = rw (sym is, front) marks;
-            chains = rw (sym is, back) opened;
-          }
+          drop-at (take k two) (chains ++ drop (length two - k) (drop k two)) k three-front-long ∙ rw none (append-nil chains)
+
+      pub three-index : bitAt bits ≡ starts (usedWords ws) → Opened (usedWords ws) chains → IndexOf ws three
+      three-index marks opened = record { room = three-room; marks = rw (sym is, three-marks) marks; chains = rw (sym is, three-chains) opened }
+
+      -- no entry is in it yet
+      pub three-blank : 1 ≤ length (usedWords ws) → bitAt bits ≡ starts (take 1 ws) → Blank chains → Stale ws three
+      three-blank some marks blank = record {
+        room = three-room;
+        covers = rw (sym is, three-chains) (blank .covers (usedWords ws) some);
+        marks = rw (sym is, three-marks, three-chains, blank .none) marks;
+      }

@@ -1,12 +1,10 @@
 -- What an opened store gives its calls, and what they leave. Assumes nothing.
-use mathlib.Core.Path.{_≡_, refl, sym, ap, _∙_}
-use mathlib.Core.Bool.{Bool, true, false}
+use mathlib.Core.Path.{_≡_, refl, ap, _∙_}
+use mathlib.Core.Bool.{true}
 use mathlib.Core.List.{List, [], _∷_, _++_}
 use Prim.Native.Nat.{ℕ, _+_, _*_, _-_, _≤_, _<_}
 use native.Mathlib.Omega.{arith}
-use borrow.Author.Tests.{eqb-true, eqb-false}
-use lib.Dec.{eqb}
-use lib.ListN.{length, take, drop, getD, replicate}
+use lib.ListN.{length, take, drop, getD}
 use lib.Seq.{length-take-le, take-take}
 use Rattle.words.specs.Words.{fills}
 use Rattle.words.specs.Table.{rows, entries, isAt, starts}
@@ -14,20 +12,15 @@ use Rattle.bitset.specs.Bitset.{bitAt, nowhere}
 use Rattle.wellformed.specs.Form.{wellFormed, usedWords}
 use Rattle.wellformed.proofs.Before.{tests}
 use Rattle.index.specs.Covers.{indexedTo, Covers}
-use Rattle.call.specs.declared.Made.{Made}
-use Rattle.call.specs.declared.Made.the-variants.{Handle, Refused}
 use Rattle.call.specs.Call.{Reply, left}
 use Rattle.call.specs.Steps.{usedOf, Open}
 use Rattle.call.specs.Keep.{Keeps}
 use Rattle.call.proofs.Keep.{well-sound}
 use Rattle.later.proofs.Keeps.{later-keeps}
-use Rattle.lent_memory.specs.Memory.{Right}
-use Rattle.lent_memory.proofs.Laws.{right-blank}
 use Rattle.every_call.specs.Run.{Call, run, typed}
 use Rattle.every_call.proofs.Keeps.{run-keeps}
-use Rattle.making.specs.Making.{Kept}
 use Rattle.opened.specs.OpenStore.{marksSize, chainsOf, IndexOf, OpenStore}
-use Rattle.opened.specs.Steps.{Stale, Forgot}
+use Rattle.opened.specs.Steps.{Stale}
 use Rattle.opened.proofs.Index.{tail-all, two-chains, stale}
 
 -- ---- what is known of an opened store
@@ -58,24 +51,6 @@ module _ {ws index memory : List ℕ} (o : OpenStore ws index memory) (k : ℕ) 
 
   pub lent-covers : Covers (take (getD ws 0 0) ws) (take (length index - k) (drop k index))
   lent-covers = rw (tail-all k index, is) (o .whole .chains .covers)
-
--- ---- forgetting
-
-module _ (r : Made) (memory : List ℕ) where
-  pub forgot-all : (memory′ : List ℕ) (n : ℕ) → r ≡ Refused n → n ≡ 12 → memory′ ≡ replicate (length memory) 0 → Forgot r memory memory′
-  forgot-all memory′ n is e z = record { full = λ _. z; kept = λ ne. absurd (ne (is ∙ ap Refused e)) }
-
-  pub forgot-none : (n : ℕ) → r ≡ Refused n → (n ≡ 12 → ⊥) → Forgot r memory memory
-  forgot-none n is ne = record { full = λ e. absurd (ne (number n 12 (sym is ∙ e))); kept = λ _. refl }
-    where
-      number : (a b : ℕ) → Refused a ≡ Refused b → a ≡ b
-      number a b q = cc
-
-  pub forgot-handle : (h : ℕ) → r ≡ Handle h → Forgot r memory memory
-  forgot-handle h is = record { full = λ e. absurd (clash (sym is ∙ e)); kept = λ _. refl }
-    where
-      clash : Handle h ≡ Refused 12 → ⊥
-      clash q = let z : _≡_ {A = ℕ} 0 1 = cc in omega arith
 
 -- ---- what `extend` and `open` require of their parts
 
@@ -124,14 +99,3 @@ module _ (ws ws′ : List ℕ) (c : Call) (t : typed c ≡ true) (ok : wellForme
 
   pub after-stale : (index : List ℕ) → length ws′ ≡ length ws → IndexOf ws index → Stale ws′ index
   after-stale index same x = stale ws index ok x ws′ same (later-keeps ws (left r ws′) ok keeps) after-well
-
-pub after-right : (r : Made) (ws memory memory′ : List ℕ) → Kept r ws memory → Forgot r memory memory′ → Right (usedWords ws) memory′
-after-right (Handle h) ws memory memory′ k f = let ne : Handle h ≡ Refused 12 → ⊥ = (λ e. let z : _≡_ {A = ℕ} 0 1 = cc in absurd (omega arith)) in rw (f .kept ne) (k .right ne)
-after-right (Refused n) ws memory memory′ k f = go (eqb n 12) refl
-  where
-    number : Refused n ≡ Refused 12 → n ≡ 12
-    number q = cc
-
-    go : (b : Bool) → eqb n 12 ≡ b → Right (usedWords ws) memory′
-    go true e = rw (f .full (ap Refused (eqb-true n 12 e))) (right-blank (usedWords ws) (length memory))
-    go false e = let ne : Refused n ≡ Refused 12 → ⊥ = (λ q. eqb-false n 12 e (number q)) in rw (f .kept ne) (k .right ne)

@@ -1,14 +1,12 @@
--- What the steps of an opened call leave, in its functions.
+-- What `extend` requires of the index.
 use mathlib.Core.Path.{_≡_}
 use mathlib.Core.List.{List}
 use Prim.Native.Nat.{ℕ, _≤_}
-use lib.ListN.{length, take, replicate}
+use lib.ListN.{length, take}
 use Rattle.words.specs.Table.{starts}
 use Rattle.bitset.specs.Bitset.{bitAt}
 use Rattle.wellformed.specs.Form.{usedWords}
 use Rattle.index.specs.Covers.{indexedTo, Covers}
-use Rattle.call.specs.declared.Made.{Made}
-use Rattle.call.specs.declared.Made.the-variants.{Refused}
 use Rattle.opened.specs.OpenStore.{indexSize, marksOf, chainsOf}
 
 -- an index of the first words of a store, before the entries of the last call are taken into it
@@ -16,8 +14,3 @@ pub record Stale (ws index : List ℕ) : Type 0 where
   pub room : indexSize (length ws) ≤ length index
   pub covers : Covers (usedWords ws) (chainsOf ws index)
   pub marks : bitAt (marksOf ws index) ≡ starts (take (indexedTo (chainsOf ws index)) ws)
-
--- after a call that may have been refused with 12
-pub record Forgot (r : Made) (memory memory′ : List ℕ) : Type 0 where
-  pub full : r ≡ Refused 12 → memory′ ≡ replicate (length memory) 0
-  pub kept : (r ≡ Refused 12 → ⊥) → memory′ ≡ memory

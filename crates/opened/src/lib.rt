@@ -19,7 +19,7 @@ ghost use Rattle.every_call.specs.Run.{run};
 ghost use Rattle.making.specs.Making.{appended};
 ghost use Rattle.asking.specs.Asking.{asked};
 ghost use Rattle.opened.specs.OpenStore.{marksSize, IndexOf, OpenStore, openReply, Opening};
-ghost use Rattle.opened.specs.Steps.{Stale, Forgot};
+ghost use Rattle.opened.specs.Steps.{Stale};
 
 // ---- the index
 
@@ -44,7 +44,7 @@ fn mark_from(words: &[u64], from: usize, used: usize, bits: &mut [u64])
     }
 }
 
-// Takes the entries that a call has appended into the index, if there are any.
+// Takes the entries that are not in the index yet into it, if there are any.
 fn extend(words: &[u64], index: &mut [u64])
     requires { ⌜ wellFormed (now words) ≡ true ⌝ }
     requires { ⌜ Stale (now words) (now index) ⌝ }
@@ -56,8 +56,8 @@ fn extend(words: &[u64], index: &mut [u64])
     if from == used {
         return;
     }
-    mark_from(words, from, used, &mut index[..k]);
-    index::extend(words, used, &mut index[k..]);
+    mark_from(&*words, from, used, &mut index[..k]);
+    index::extend(&*words, used, &mut index[k..]);
 }
 
 // ---- opening
@@ -67,7 +67,7 @@ pub fn open(words: &[u64], index: &mut [u64], memory: &mut [u64]) -> Done
     ensures { λ r. ⌜ done r ≡ openReply (now (words .entry)) (length (now (index .entry))) ⌝ }
     ensures { λ r. ⌜ Opening (now (words .entry)) (now (index .entry)) (now (memory .entry)) (now (index .exit)) (now (memory .exit)) r ⌝ }
 {
-    if !wellformed::well_formed(words) {
+    if !wellformed::well_formed(&*words) {
         return Done::Refused(1);
     }
     let n = words.len();
@@ -75,26 +75,14 @@ pub fn open(words: &[u64], index: &mut [u64], memory: &mut [u64]) -> Done
     if index.len() < k + 2 * n {
         return Done::Refused(11);
     }
-    let used = words[0] as usize;
     bitset::clear(&mut index[..k]);
-    mark_from(words, 1, used, &mut index[..k]);
-    index::open(words, used, &mut index[k..]);
+    index::blank(&mut index[k..]);
+    extend(&*words, index);
     words::clear(memory);
     Done::Accepted
 }
 
 // ---- calls
-
-// After 12 the store is put back as it was, and whatever was remembered on the way is forgotten.
-fn forget(r: Made, memory: &mut [u64])
-    ensures { λ _. ⌜ Forgot r (now (memory .entry)) (now (memory .exit)) ⌝ }
-{
-    if let Made::Refused(n) = r {
-        if n == 12 {
-            words::clear(memory);
-        }
-    }
-}
 
 // A call that appends.
 pub fn append(
@@ -111,7 +99,7 @@ pub fn append(
 {
     let used = words[0] as usize;
     let k = marks_size(words.len());
-    let no = making::rows_of(words, used, &index[..k], making, list, text);
+    let no = making::rows_of(words, used, &index[..k], making, &*list, &*text);
     if no != 0 {
         return Made::Refused(no);
     }
@@ -120,13 +108,12 @@ pub fn append(
         words,
         used,
         making,
-        list,
-        text,
+        &*list,
+        &*text,
         &mut none,
         memory,
         &index[k..],
     );
-    forget(r, memory);
     extend(words, index);
     r
 }
@@ -139,10 +126,10 @@ pub fn ask(words: &[u64], index: &[u64], memory: &mut [u64], asking: Asking) -> 
 {
     let used = words[0] as usize;
     let k = marks_size(words.len());
-    let no = asking::rows_of(words, used, &index[..k], asking);
+    let no = asking::rows_of(&*words, used, &index[..k], asking);
     if no != 0 {
         return Answer::Refused(no);
     }
     let mut none = [0u64; 0];
-    asking::tell(words, used, asking, &mut none, memory, &index[k..])
+    asking::tell(&*words, used, asking, &mut none, memory, &index[k..])
 }

@@ -28,8 +28,8 @@ fn fields_with(
     let mut i = 0;
     while i < n {
         let at = p + 3 * i;
-        let name = words::word(old, new, used, at);
-        let alias = words::word(old, new, used, at + 2) / 2;
+        let name = words::word(&*old, &*new, used, at);
+        let alias = words::word(&*old, &*new, used, at + 2) / 2;
         words::write(&mut dst[4 * i..], &[name, types[i], alias, finals[i]]);
         i += 1;
     }
@@ -53,9 +53,9 @@ fn made_again_in(
     ensures { λ r. ⌜ Runs (remake a (now (types .entry)) (now (finals .entry))) (now (old .entry)) (now (new .entry)) used (now (new .exit)) r ⌝ }
 {
     let n = types.len();
-    fields_with(fields, old, new, used, a + 2, types, finals);
-    let name = words::word(old, new, used, a + 1);
-    makers::structure(old, new, used, name, &fields[..4 * n], index)
+    fields_with(fields, &*old, new, used, a + 2, &*types, &*finals);
+    let name = words::word(&*old, new, used, a + 1);
+    makers::structure(&*old, new, used, name, &fields[..4 * n], &*index)
 }
 
 // Makes the struct at a again with these types and finals. Few fields are given few words, since all of them are cleared at each call.
@@ -76,8 +76,8 @@ pub fn made_again(
 {
     if types.len() <= 8 {
         let mut few = [0u64; 32];
-        return made_again_in(old, new, used, a, types, finals, &mut few, index);
+        return made_again_in(&*old, new, used, a, &*types, &*finals, &mut few, &*index);
     }
     let mut many = [0u64; 1020];
-    made_again_in(old, new, used, a, types, finals, &mut many, index)
+    made_again_in(&*old, new, used, a, &*types, &*finals, &mut many, &*index)
 }

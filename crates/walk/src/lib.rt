@@ -46,7 +46,7 @@ pub fn walk_type(
     ensures { λ r. ⌜ Walked op (now (old .entry)) (now (new .entry)) used a (now (new .exit)) r ⌝ }
     ensures { λ r. ⌜ Remembered op (now (old .entry)) (now (new .exit)) r (now (memo .exit)) ⌝ }
 {
-    let form = walk_rules::form_of(op, old, new, used, a);
+    let form = walk_rules::form_of(op, &*old, new, used, a);
     let key = walk_key(form, a);
     let line = memo::recall(memo, key);
     if let Recalled::Is(h) = line {
@@ -54,44 +54,44 @@ pub fn walk_type(
     }
     match form {
         Form::Is(h) => Interned::At(h, used),
-        Form::Ints => walk_rules::int_of(op, old, new, used, a, index),
-        Form::Floats => walk_rules::float_of(op, old, new, used, a, index),
+        Form::Ints => walk_rules::int_of(op, &*old, new, used, a, &*index),
+        Form::Floats => walk_rules::float_of(op, &*old, new, used, a, &*index),
         Form::Fields => {
-            let r = walk_struct(op, old, new, used, a, memo, index);
+            let r = walk_struct(op, &*old, new, used, a, memo, &*index);
             memo::noted(memo, key, r)
         }
         Form::Pointers => {
-            let x = words::word(old, new, used, a + 1) as usize;
-            let nil = walk_rules::nil_of(op, words::word(old, new, used, a + 2));
-            let m = walk_type(op, old, new, used, x, memo, index);
+            let x = words::word(&*old, new, used, a + 1) as usize;
+            let nil = walk_rules::nil_of(op, words::word(&*old, new, used, a + 2));
+            let m = walk_type(op, &*old, new, used, x, memo, &*index);
             match m {
                 Interned::At(h, v) => {
-                    let r = makers::pointer(old, new, v, h as u64, nil, index);
+                    let r = makers::pointer(&*old, new, v, h as u64, nil, &*index);
                     memo::noted(memo, key, r)
                 }
                 Interned::Full => Interned::Full,
             }
         }
         Form::Memories => {
-            let alias = words::word(old, new, used, a + 1);
-            let x = words::word(old, new, used, a + 2) as usize;
-            let m = walk_type(op, old, new, used, x, memo, index);
+            let alias = words::word(&*old, new, used, a + 1);
+            let x = words::word(&*old, new, used, a + 2) as usize;
+            let m = walk_type(op, &*old, new, used, x, memo, &*index);
             match m {
                 Interned::At(h, v) => {
-                    let r = makers::memory(old, new, v, alias, h as u64, index);
+                    let r = makers::memory(&*old, new, v, alias, h as u64, &*index);
                     memo::noted(memo, key, r)
                 }
                 Interned::Full => Interned::Full,
             }
         }
         Form::Tuples => {
-            let n = (words::word(old, new, used, a) / 65536) as usize;
+            let n = (words::word(&*old, new, used, a) / 65536) as usize;
             let mut parts = [0u64; 255];
             let mut v = used;
             let mut i: usize = 0;
             while i < n {
-                let x = words::word(old, new, used, a + 1 + i) as usize;
-                let m = walk_type(op, old, new, v, x, memo, index);
+                let x = words::word(&*old, new, used, a + 1 + i) as usize;
+                let m = walk_type(op, &*old, new, v, x, memo, &*index);
                 match m {
                     Interned::At(h, w) => {
                         parts[i] = h as u64;
@@ -103,7 +103,7 @@ pub fn walk_type(
                 }
                 i += 1;
             }
-            let r = makers::tuple(old, new, v, &parts[..n], index);
+            let r = makers::tuple(&*old, new, v, &parts[..n], &*index);
             memo::noted(memo, key, r)
         }
     }
@@ -125,13 +125,13 @@ fn walk_struct(
     ensures { λ r. ⌜ Walked op (now (old .entry)) (now (new .entry)) used a (now (new .exit)) r ⌝ }
     ensures { λ r. ⌜ Remembered op (now (old .entry)) (now (new .exit)) r (now (memo .exit)) ⌝ }
 {
-    let n = (words::word(old, new, used, a) / 65536) as usize;
+    let n = (words::word(&*old, new, used, a) / 65536) as usize;
     let mut types = [0u64; 255];
     let mut v = used;
     let mut i: usize = 0;
     while i < n {
-        let x = words::word(old, new, used, a + 3 + 3 * i) as usize;
-        let m = walk_type(op, old, new, v, x, memo, index);
+        let x = words::word(&*old, new, used, a + 3 + 3 * i) as usize;
+        let m = walk_type(op, &*old, new, v, x, memo, &*index);
         match m {
             Interned::At(h, w) => {
                 types[i] = h as u64;
@@ -143,5 +143,5 @@ fn walk_struct(
         }
         i += 1;
     }
-    walk_rules::fields_of(op, old, new, v, a, &types[..n], index)
+    walk_rules::fields_of(op, &*old, new, v, a, &types[..n], &*index)
 }

@@ -132,7 +132,7 @@ pub fn form_of(walk: Walk, old: &[u64], new: &[u64], used: usize, a: usize) -> F
     requires { ⌜ (length (now old) ≤ used) × (used ≤ length (now old) + length (now new)) ⌝ }
     ensures { λ r. ⌜ r ≡ formFor walk a (kindOn (take used (now (old .entry) ++ now (new .entry))) a) ⌝ }
 {
-    form_for(walk, a, words::word(old, new, used, a) % 256)
+    form_for(walk, a, words::word(&*old, &*new, used, a) % 256)
 }
 
 // ---- answers
@@ -152,9 +152,9 @@ pub fn int_of(
 {
     match walk {
         Walk::Dual => {
-            let min = words::word(old, new, used, a + 2);
-            let max = words::word(old, new, used, a + 1);
-            makers::int(old, new, used, min, max, index)
+            let min = words::word(&*old, new, used, a + 2);
+            let max = words::word(&*old, new, used, a + 1);
+            makers::int(&*old, new, used, min, max, &*index)
         }
         Walk::Glb => Interned::At(25, used),
         Walk::Lub => Interned::At(22, used),
@@ -167,12 +167,12 @@ fn dual_float(old: &[u64], new: &mut [u64], used: usize, a: usize, index: &[u64]
     requires { ⌜ Covers (take used (now old ++ now new)) (now index) ⌝ }
     ensures { λ r. ⌜ Runs (floatOf Dual a) (now (old .entry)) (now (new .entry)) used (now (new .exit)) r ⌝ }
 {
-    let size = words::word(old, new, used, a + 1);
+    let size = words::word(&*old, new, used, a + 1);
     if size == 64 {
         return Interned::At(a, used);
     }
     let f = type_float::float_of(128 - size, 0);
-    makers::float(old, new, used, f, 0, index)
+    makers::float(&*old, new, used, f, 0, &*index)
 }
 
 pub fn float_of(
@@ -189,7 +189,7 @@ pub fn float_of(
     ensures { λ r. ⌜ Runs (floatOf walk a) (now (old .entry)) (now (new .entry)) used (now (new .exit)) r ⌝ }
 {
     match walk {
-        Walk::Dual => dual_float(old, new, used, a, index),
+        Walk::Dual => dual_float(&*old, new, used, a, &*index),
         Walk::Glb => Interned::At(61, used),
         Walk::Lub => Interned::At(49, used),
     }
@@ -224,7 +224,7 @@ fn finals_of(walk: Walk, dst: &mut [u64], old: &[u64], new: &[u64], used: usize,
 {
     let mut i = 0;
     while i < n {
-        dst[i] = final_of(walk, words::word(old, new, used, p + 3 * i));
+        dst[i] = final_of(walk, words::word(&*old, &*new, used, p + 3 * i));
         i += 1;
     }
 }
@@ -247,8 +247,8 @@ fn fields_in(
     ensures { λ r. ⌜ Runs (fieldsOf walk a (now (types .entry))) (now (old .entry)) (now (new .entry)) used (now (new .exit)) r ⌝ }
 {
     let n = types.len();
-    finals_of(walk, finals, old, new, used, n, a + 4);
-    structs::made_again(old, new, used, a, types, &finals[..n], index)
+    finals_of(walk, finals, &*old, new, used, n, a + 4);
+    structs::made_again(&*old, new, used, a, &*types, &finals[..n], &*index)
 }
 
 // Makes the struct at a with these types and the walk's finals. Few fields are given few words, since all of them are cleared at each call.
@@ -268,8 +268,8 @@ pub fn fields_of(
 {
     if types.len() <= 8 {
         let mut few = [0u64; 8];
-        return fields_in(walk, old, new, used, a, types, &mut few, index);
+        return fields_in(walk, &*old, new, used, a, &*types, &mut few, &*index);
     }
     let mut many = [0u64; 255];
-    fields_in(walk, old, new, used, a, types, &mut many, index)
+    fields_in(walk, &*old, new, used, a, &*types, &mut many, &*index)
 }

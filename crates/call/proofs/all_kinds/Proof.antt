@@ -41,7 +41,7 @@ loop-less : tie.Need-loop-less Inv-loop μ-loop
 loop-less c = search needs
 
 loop-again : tie.Need-loop-again Inv-loop μ-loop
-loop-again c = (search needs, search kind-right)
+loop-again c = let s = c .before .before .before .before .before .before .before .before .before in (search needs, kind-right (take (s .args .used) (s .args .old .now ++ s .args .new .now)) (s .args .hs .now) _ _ _ (c .before .before .before .before .before .loop .inv .1) (c .before .before .before .before .loop-test .taken) _ (c .before .before .kind-on .ensures) (c .before .if1 .left) (c .if2 .left))
 
 returns-3 : tie.Need-returns-3 Inv-loop μ-loop
 returns-3 c = search all-end

@@ -34,8 +34,8 @@ part-write-end c = search needs
 write-requires : tie.Need-write-requires
 write-requires c κs = search needs
 
-add-t20 : tie.Need-add-t20
-add-t20 c = search needs
+add-t26 : tie.Need-add-t26
+add-t26 c = search needs
 
 same-length : tie.Need-same-length
 same-length c = search needs
@@ -69,7 +69,7 @@ intern-spec =
     part-write-start
     part-write-end
     write-requires
-    add-t20
+    add-t26
     same-length
     returns
     same-length-2

@@ -38,8 +38,8 @@ part-write-name-end c = search needs
 write-name-requires : tie.Need-write-name-requires
 write-name-requires c κs = search needs
 
-add-t19 : tie.Need-add-t19
-add-t19 c = search needs
+add-t27 : tie.Need-add-t27
+add-t27 c = search needs
 
 same-length : tie.Need-same-length
 same-length c = search needs
@@ -74,7 +74,7 @@ intern-name-spec =
     part-write-name-start
     part-write-name-end
     write-name-requires
-    add-t19
+    add-t27
     same-length
     returns
     same-length-2

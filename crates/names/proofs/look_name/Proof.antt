@@ -61,8 +61,8 @@ part-same-name-end c = omega (arith, here c)
 same-name-requires : tie.Need-same-name-requires Inv-loop μ-loop
 same-name-requires c κs = search needs
 
-add-t19 : tie.Need-add-t19 Inv-loop μ-loop
-add-t19 c = omega (arith, here (c .before .before .before))
+add-t21 : tie.Need-add-t21 Inv-loop μ-loop
+add-t21 c = omega (arith, here (c .before .before .before))
 
 returns : tie.Need-returns Inv-loop μ-loop
 returns c =
@@ -104,7 +104,7 @@ look-name-spec =
     part-same-name-start
     part-same-name-end
     same-name-requires
-    add-t19
+    add-t21
     returns
     add-at
     loop-less

@@ -4,7 +4,7 @@ use Rattle.call.proofs.Ways.{turned}
 use Rattle.making.specs.Making.{appended}
 use Rattle.making.proofs.As.{appended-is}
 use Rattle.opened.proofs.Index.{marks-long}
-use Rattle.opened.proofs.Store.{first-word, few-words, used-is, used-some, marked-rows, lent-covers, after-well, after-stale, after-right}
+use Rattle.opened.proofs.Store.{first-word, few-words, used-is, used-some, marked-rows, lent-covers, after-well, after-stale}
 use borrow.Author.Needs.{needs}
 use Rattle.opened.proofs.append.Statement.{statement}
 use Rattle.opened.proofs.append.Tie as tie
@@ -56,13 +56,10 @@ append-requires c κs =
     let q = sym (c .before .before .before .before .before .before .rows-of .ensures) ∙ c .before .before .before .before .before .if1 .left in
     ((used-is _ (s .pre .well), used-some _ (s .pre .well)), (q, (s .pre .right, lent-covers (s .pre) _ (c .before .before .before .before .before .before .before .before .before .marks-size .ensures .0))))
 
-forget-requires : tie.Need-forget-requires
-forget-requires c κs = search needs
-
 extend-requires : tie.Need-extend-requires
 extend-requires c κs =
-    let s = c .before .before .before .before .before .before .before .before .before .before .before .before .before .before .before .before .before .before .before .before .before .before .before .before .before .before .before .before in
-    let a = c .before .before .before .before .before .before .before .before .before .before .before .append in
+    let s = c .before .before .before .before .before .before .before .before .before .before .before .before .before .before .before .before .before .before .before .before .before .before .before .before in
+    let a = c .before .before .before .before .before .before .before .append in
     let k = appended (s .args .making) (s .args .list .now) (s .args .text .now) in
     (after-well _ _ k (a .ensures .1 .1) (s .pre .well) _ (a .ensures .0), after-stale _ _ k (a .ensures .1 .1) (s .pre .well) _ (a .ensures .0) _ (a .kept .0) (s .pre .whole))
 
@@ -77,12 +74,10 @@ same-length-5 c = search needs
 
 returns-2 : tie.Need-returns-2
 returns-2 c =
-    let s = c .before .before .before .before .before .before .before .before .before .before .before .before .before .before .before .before .before .before .before .before .before .before .before .before .before .before .before .before .before .before .before in
-    let a = c .before .before .before .before .before .before .before .before .before .before .before .before .before .before .append in
-    let k = appended (s .args .making) (s .args .list .now) (s .args .text .now) in (
-      a .ensures .0,
-      record { well = after-well _ _ k (a .ensures .1 .1) (s .pre .well) _ (a .ensures .0); whole = c .before .before .extend .ensures; right = after-right _ _ _ _ (a .ensures .1 .0) (c .before .before .before .before .before .before .before .forget .ensures) },
-    )
+    let s = c .before .before .before .before .before .before .before .before .before .before .before .before .before .before .before .before .before .before .before .before .before .before .before .before .before .before .before in
+    let a = c .before .before .before .before .before .before .before .before .before .before .append in
+    let k = appended (s .args .making) (s .args .list .now) (s .args .text .now) in
+    (a .ensures .0, record { well = after-well _ _ k (a .ensures .1 .1) (s .pre .well) _ (a .ensures .0); whole = c .before .before .extend .ensures; right = a .ensures .1 .0 })
 
 pub append-spec : {M : Type 1} → statement M
 append-spec =
@@ -102,7 +97,6 @@ append-spec =
     part-append-start
     part-append-end
     append-requires
-    forget-requires
     extend-requires
     same-length-3
     same-length-4

@@ -21,11 +21,11 @@ loop-holds c = (search needs, refl)
 slice-aggregate-all-kinds : tie.Need-slice-aggregate-all-kinds Inv-loop μ-loop
 slice-aggregate-all-kinds c = search needs
 
-mul-t15 : tie.Need-mul-t15 Inv-loop μ-loop
-mul-t15 c = search needs
+mul-t17 : tie.Need-mul-t17 Inv-loop μ-loop
+mul-t17 c = search needs
 
-shared-slice-read-t17 : tie.Need-shared-slice-read-t17 Inv-loop μ-loop
-shared-slice-read-t17 c = search needs
+shared-slice-read-t19 : tie.Need-shared-slice-read-t19 Inv-loop μ-loop
+shared-slice-read-t19 c = search needs
 
 slice-aggregate-all-kinds-2 : tie.Need-slice-aggregate-all-kinds-2 Inv-loop μ-loop
 slice-aggregate-all-kinds-2 c = search needs
@@ -59,8 +59,8 @@ fields-kind-spec =
     μ-loop
     loop-holds
     slice-aggregate-all-kinds
-    mul-t15
-    shared-slice-read-t17
+    mul-t17
+    shared-slice-read-t19
     slice-aggregate-all-kinds-2
     all-kinds-requires
     returns

@@ -51,17 +51,17 @@ part-write-start c = search needs
 part-write-end : tie.Need-part-write-end Inv-loop μ-loop
 part-write-end c = search needs
 
-mul-t23 : tie.Need-mul-t23 Inv-loop μ-loop
-mul-t23 c = search needs
+mul-t31 : tie.Need-mul-t31 Inv-loop μ-loop
+mul-t31 c = search needs
 
-shared-slice-read-t15 : tie.Need-shared-slice-read-t15 Inv-loop μ-loop
-shared-slice-read-t15 c = search needs
+shared-slice-read-t19 : tie.Need-shared-slice-read-t19 Inv-loop μ-loop
+shared-slice-read-t19 c = search needs
 
-mul-t25 : tie.Need-mul-t25 Inv-loop μ-loop
-mul-t25 c = search needs
+mul-t33 : tie.Need-mul-t33 Inv-loop μ-loop
+mul-t33 c = search needs
 
-shared-slice-read-t27 : tie.Need-shared-slice-read-t27 Inv-loop μ-loop
-shared-slice-read-t27 c = search needs
+shared-slice-read-t35 : tie.Need-shared-slice-read-t35 Inv-loop μ-loop
+shared-slice-read-t35 c = search needs
 
 slice-aggregate-write : tie.Need-slice-aggregate-write Inv-loop μ-loop
 slice-aggregate-write c = search needs
@@ -107,10 +107,10 @@ fields-with-spec =
     sub-write
     part-write-start
     part-write-end
-    mul-t23
-    shared-slice-read-t15
-    mul-t25
-    shared-slice-read-t27
+    mul-t31
+    shared-slice-read-t19
+    mul-t33
+    shared-slice-read-t35
     slice-aggregate-write
     write-requires
     add-i
