@@ -82,7 +82,7 @@ if [ -z "$crates" ]; then
     if fetch_crates; then
         crates=$out/crates/usr/share/cargo/registry
     else
-        echo "oracle/build.sh: no Debian package of hashbrown 0.12.3 to be had (see $out/fetch.log); trying crates.io" >&2
+        echo "oracle/build.sh: no Debian package of hashbrown 0.12.3 to be had (see $out/fetch.log; 'apt-get update' may be wanted first); trying crates.io" >&2
         offline=
     fi
 fi
