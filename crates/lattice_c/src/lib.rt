@@ -1,86 +1,15 @@
 // The calls for C and Rust: a static library. A slice is a pointer and a length there. The answer is one word: a handle, a number, 1 or 0 for yes or no, 0 for accepted, or
 // refusal n as 2 to the 63 + n.
 use asking::Asking;
-use call::Answer;
-use call::Done;
-use call::Made;
 use making::Making;
 use walk_rules::Walk;
 ghost use mathlib.Core.Path.{_≡_};
-ghost use mathlib.Core.List.{[]};
-ghost use Prim.Native.Nat.{_+_};
 ghost use lib.ListN.{length};
-ghost use Rattle.call.specs.Call.{made, told, done};
 ghost use Rattle.wellformed.specs.Form.{wellFormed};
 ghost use Rattle.makers.specs.Makers.{freshCall};
 ghost use Rattle.every_call.specs.Run.{run, kind, get_bool, get_int, make_int, get_float, make_float, get_tuple, get_str, get_struct, make_ary, make_struct_fref, get_mem_ptr, get_mem, meet, isa, dual, join, glb, lub, is_final, make_ro};
-ghost use Rattle.making.specs.Making.{appended};
-ghost use Rattle.asking.specs.Asking.{asked};
 ghost use Rattle.opened.specs.OpenStore.{OpenStore, openReply};
-ghost use Rattle.lattice_c.specs.Code.{code, Coded, CodedOpening};
-
-// ---- answers as words
-
-fn refusal(n: u8) -> u64
-    ensures { λ r. ⌜ r ≡ 9223372036854775808 + n ⌝ }
-{
-    0x8000_0000_0000_0000 + n as u64
-}
-
-fn of_made(m: Made) -> u64
-    ensures { λ r. ⌜ r ≡ code (made m) ⌝ }
-{
-    match m {
-        Made::Handle(h) => h,
-        Made::Refused(n) => refusal(n),
-    }
-}
-
-fn of_answer(m: Answer) -> u64
-    ensures { λ r. ⌜ r ≡ code (told m) ⌝ }
-{
-    match m {
-        Answer::Handle(h) => h,
-        Answer::Number(n) => n,
-        Answer::Flag(yes) => {
-            if yes {
-                return 1;
-            }
-            0
-        }
-        Answer::Refused(n) => refusal(n),
-    }
-}
-
-fn of_done(m: Done) -> u64
-    ensures { λ r. ⌜ r ≡ code (done m) ⌝ }
-{
-    match m {
-        Done::Accepted => 0,
-        Done::Refused(n) => refusal(n),
-    }
-}
-
-// ---- the calls
-
-fn append(words: &mut [u64], making: Making, list: &[u64], text: &[u8]) -> u64
-    ensures { λ r. ⌜ Coded (run (appended making (now (list .entry)) (now (text .entry))) (now (words .entry))) r (now (words .exit)) ⌝ }
-{
-    of_made(plain::append(words, making, &*list, &*text))
-}
-
-// A call that has neither a list nor a text.
-fn make(words: &mut [u64], making: Making) -> u64
-    ensures { λ r. ⌜ Coded (run (appended making [] []) (now (words .entry))) r (now (words .exit)) ⌝ }
-{
-    append(words, making, &[], b"")
-}
-
-fn ask(words: &[u64], asking: Asking) -> u64
-    ensures { λ r. ⌜ Coded (run (asked asking) (now (words .entry))) r (now (words .entry)) ⌝ }
-{
-    of_answer(plain::ask(&*words, asking))
-}
+ghost use Rattle.codes.specs.Code.{code, Coded, CodedOpening};
 
 #[no_mangle]
 pub extern "C" fn ferigulan_well_formed(words: &[u64]) -> bool
@@ -93,70 +22,70 @@ pub extern "C" fn ferigulan_well_formed(words: &[u64]) -> bool
 pub extern "C" fn ferigulan_fresh(words: &mut [u64]) -> u64
     ensures { λ r. ⌜ Coded (freshCall (now (words .entry))) r (now (words .exit)) ⌝ }
 {
-    of_done(types::fresh(words))
+    codes::fresh(words)
 }
 
 #[no_mangle]
 pub extern "C" fn ferigulan_kind(words: &[u64], h: u64) -> u64
     ensures { λ r. ⌜ Coded (run (kind h) (now (words .entry))) r (now (words .entry)) ⌝ }
 {
-    ask(&*words, Asking::Kind(h))
+    codes::ask(&*words, Asking::Kind(h))
 }
 
 #[no_mangle]
 pub extern "C" fn ferigulan_get_bool(words: &[u64], value: u64) -> u64
     ensures { λ r. ⌜ Coded (run (get_bool value) (now (words .entry))) r (now (words .entry)) ⌝ }
 {
-    ask(&*words, Asking::GetBool(value))
+    codes::ask(&*words, Asking::GetBool(value))
 }
 
 #[no_mangle]
 pub extern "C" fn ferigulan_get_int(words: &mut [u64], value: u64) -> u64
     ensures { λ r. ⌜ Coded (run (get_int value) (now (words .entry))) r (now (words .exit)) ⌝ }
 {
-    make(words, Making::MakeInt(value, value))
+    codes::make(words, Making::MakeInt(value, value))
 }
 
 #[no_mangle]
 pub extern "C" fn ferigulan_make_int(words: &mut [u64], min: u64, max: u64) -> u64
     ensures { λ r. ⌜ Coded (run (make_int min max) (now (words .entry))) r (now (words .exit)) ⌝ }
 {
-    make(words, Making::MakeInt(min, max))
+    codes::make(words, Making::MakeInt(min, max))
 }
 
 #[no_mangle]
 pub extern "C" fn ferigulan_get_float(words: &mut [u64], bits: u64) -> u64
     ensures { λ r. ⌜ Coded (run (get_float bits) (now (words .entry))) r (now (words .exit)) ⌝ }
 {
-    make(words, Making::MakeFloat(0, bits))
+    codes::make(words, Making::MakeFloat(0, bits))
 }
 
 #[no_mangle]
 pub extern "C" fn ferigulan_make_float(words: &mut [u64], sz: u64, bits: u64) -> u64
     ensures { λ r. ⌜ Coded (run (make_float sz bits) (now (words .entry))) r (now (words .exit)) ⌝ }
 {
-    make(words, Making::MakeFloat(sz, bits))
+    codes::make(words, Making::MakeFloat(sz, bits))
 }
 
 #[no_mangle]
 pub extern "C" fn ferigulan_get_tuple(words: &mut [u64], types: &[u64]) -> u64
     ensures { λ r. ⌜ Coded (run (get_tuple (now (types .entry))) (now (words .entry))) r (now (words .exit)) ⌝ }
 {
-    append(words, Making::GetTuple, &*types, b"")
+    codes::append(words, Making::GetTuple, &*types, b"")
 }
 
 #[no_mangle]
 pub extern "C" fn ferigulan_get_str(words: &mut [u64], name: &[u8]) -> u64
     ensures { λ r. ⌜ Coded (run (get_str (now (name .entry))) (now (words .entry))) r (now (words .exit)) ⌝ }
 {
-    append(words, Making::GetStr, &[], &*name)
+    codes::append(words, Making::GetStr, &[], &*name)
 }
 
 #[no_mangle]
 pub extern "C" fn ferigulan_get_struct(words: &mut [u64], name: u64, fields: &[u64]) -> u64
     ensures { λ r. ⌜ Coded (run (get_struct name (now (fields .entry))) (now (words .entry))) r (now (words .exit)) ⌝ }
 {
-    append(words, Making::GetStruct(name), &*fields, b"")
+    codes::append(words, Making::GetStruct(name), &*fields, b"")
 }
 
 #[no_mangle]
@@ -170,7 +99,7 @@ pub extern "C" fn ferigulan_make_ary(
 ) -> u64
     ensures { λ r. ⌜ Coded (run (make_ary len «len_alias» body «body_alias» (now (text .entry))) (now (words .entry))) r (now (words .exit)) ⌝ }
 {
-    append(
+    codes::append(
         words,
         Making::MakeAry(len, len_alias, body, body_alias),
         &[],
@@ -182,77 +111,77 @@ pub extern "C" fn ferigulan_make_ary(
 pub extern "C" fn ferigulan_make_struct_fref(words: &mut [u64], name: u64) -> u64
     ensures { λ r. ⌜ Coded (run (make_struct_fref name) (now (words .entry))) r (now (words .exit)) ⌝ }
 {
-    make(words, Making::MakeStructFref(name))
+    codes::make(words, Making::MakeStructFref(name))
 }
 
 #[no_mangle]
 pub extern "C" fn ferigulan_get_mem_ptr(words: &mut [u64], to: u64, nil: u64) -> u64
     ensures { λ r. ⌜ Coded (run (get_mem_ptr to nil) (now (words .entry))) r (now (words .exit)) ⌝ }
 {
-    make(words, Making::GetMemPtr(to, nil))
+    codes::make(words, Making::GetMemPtr(to, nil))
 }
 
 #[no_mangle]
 pub extern "C" fn ferigulan_get_mem(words: &mut [u64], alias: u64, t: u64) -> u64
     ensures { λ r. ⌜ Coded (run (get_mem alias t) (now (words .entry))) r (now (words .exit)) ⌝ }
 {
-    make(words, Making::GetMem(alias, t))
+    codes::make(words, Making::GetMem(alias, t))
 }
 
 #[no_mangle]
 pub extern "C" fn ferigulan_meet(words: &mut [u64], a: u64, b: u64) -> u64
     ensures { λ r. ⌜ Coded (run (meet a b) (now (words .entry))) r (now (words .exit)) ⌝ }
 {
-    make(words, Making::Meet(a, b))
+    codes::make(words, Making::Meet(a, b))
 }
 
 #[no_mangle]
 pub extern "C" fn ferigulan_isa(words: &[u64], a: u64, b: u64) -> u64
     ensures { λ r. ⌜ Coded (run (isa a b) (now (words .entry))) r (now (words .entry)) ⌝ }
 {
-    ask(&*words, Asking::Isa(a, b))
+    codes::ask(&*words, Asking::Isa(a, b))
 }
 
 #[no_mangle]
 pub extern "C" fn ferigulan_dual(words: &mut [u64], a: u64) -> u64
     ensures { λ r. ⌜ Coded (run (dual a) (now (words .entry))) r (now (words .exit)) ⌝ }
 {
-    make(words, Making::Walk(Walk::Dual, a))
+    codes::make(words, Making::Walk(Walk::Dual, a))
 }
 
 #[no_mangle]
 pub extern "C" fn ferigulan_join(words: &mut [u64], a: u64, b: u64) -> u64
     ensures { λ r. ⌜ Coded (run (join a b) (now (words .entry))) r (now (words .exit)) ⌝ }
 {
-    make(words, Making::Join(a, b))
+    codes::make(words, Making::Join(a, b))
 }
 
 #[no_mangle]
 pub extern "C" fn ferigulan_glb(words: &mut [u64], a: u64) -> u64
     ensures { λ r. ⌜ Coded (run (glb a) (now (words .entry))) r (now (words .exit)) ⌝ }
 {
-    make(words, Making::Walk(Walk::Glb, a))
+    codes::make(words, Making::Walk(Walk::Glb, a))
 }
 
 #[no_mangle]
 pub extern "C" fn ferigulan_lub(words: &mut [u64], a: u64) -> u64
     ensures { λ r. ⌜ Coded (run (lub a) (now (words .entry))) r (now (words .exit)) ⌝ }
 {
-    make(words, Making::Walk(Walk::Lub, a))
+    codes::make(words, Making::Walk(Walk::Lub, a))
 }
 
 #[no_mangle]
 pub extern "C" fn ferigulan_is_final(words: &[u64], a: u64) -> u64
     ensures { λ r. ⌜ Coded (run (is_final a) (now (words .entry))) r (now (words .entry)) ⌝ }
 {
-    ask(&*words, Asking::IsFinal(a))
+    codes::ask(&*words, Asking::IsFinal(a))
 }
 
 #[no_mangle]
 pub extern "C" fn ferigulan_make_ro(words: &mut [u64], a: u64) -> u64
     ensures { λ r. ⌜ Coded (run (make_ro a) (now (words .entry))) r (now (words .exit)) ⌝ }
 {
-    make(words, Making::MakeRo(a))
+    codes::make(words, Making::MakeRo(a))
 }
 
 // ---- the calls on an opened store
@@ -261,36 +190,13 @@ pub extern "C" fn ferigulan_make_ro(words: &mut [u64], a: u64) -> u64
 // them here is, of a caller in C or Rust, a promise that no call tests: `ferigulan_open` has accepted the three lists, and nobody but the calls below has written any of
 // them since. Where it is broken, nothing is proved.
 
-fn opened_append(
-    words: &mut [u64],
-    index: &mut [u64],
-    memory: &mut [u64],
-    making: Making,
-    list: &[u64],
-    text: &[u8],
-) -> u64
-    requires { ⌜ OpenStore (now words) (now index) (now memory) ⌝ }
-    ensures { λ r. ⌜ Coded (run (appended making (now (list .entry)) (now (text .entry))) (now (words .entry))) r (now (words .exit)) ⌝ }
-    ensures { λ _. ⌜ OpenStore (now (words .exit)) (now (index .exit)) (now (memory .exit)) ⌝ }
-{
-    of_made(opened::append(words, index, memory, making, &*list, &*text))
-}
-
-fn opened_ask(words: &[u64], index: &[u64], memory: &mut [u64], asking: Asking) -> u64
-    requires { ⌜ OpenStore (now words) (now index) (now memory) ⌝ }
-    ensures { λ r. ⌜ Coded (run (asked asking) (now (words .entry))) r (now (words .entry)) ⌝ }
-    ensures { λ _. ⌜ OpenStore (now (words .entry)) (now (index .entry)) (now (memory .exit)) ⌝ }
-{
-    of_answer(opened::ask(&*words, &*index, memory, asking))
-}
-
 // Tests row 1, and makes the index and a blank memory; any words may stand in the two lists before.
 #[no_mangle]
 pub extern "C" fn ferigulan_open(words: &[u64], index: &mut [u64], memory: &mut [u64]) -> u64
     ensures { λ r. ⌜ r ≡ code (openReply (now (words .entry)) (length (now (index .entry)))) ⌝ }
     ensures { λ r. ⌜ CodedOpening (now (words .entry)) (now (index .entry)) (now (memory .entry)) (now (index .exit)) (now (memory .exit)) r ⌝ }
 {
-    of_done(opened::open(&*words, index, memory))
+    codes::open(&*words, index, memory)
 }
 
 #[no_mangle]
@@ -304,7 +210,7 @@ pub extern "C" fn ferigulan_opened_kind(
     ensures { λ r. ⌜ Coded (run (kind h) (now (words .entry))) r (now (words .entry)) ⌝ }
     ensures { λ _. ⌜ OpenStore (now (words .entry)) (now (index .entry)) (now (memory .exit)) ⌝ }
 {
-    opened_ask(&*words, &*index, memory, Asking::Kind(h))
+    codes::opened_ask(&*words, &*index, memory, Asking::Kind(h))
 }
 
 #[no_mangle]
@@ -318,7 +224,7 @@ pub extern "C" fn ferigulan_opened_get_bool(
     ensures { λ r. ⌜ Coded (run (get_bool value) (now (words .entry))) r (now (words .entry)) ⌝ }
     ensures { λ _. ⌜ OpenStore (now (words .entry)) (now (index .entry)) (now (memory .exit)) ⌝ }
 {
-    opened_ask(&*words, &*index, memory, Asking::GetBool(value))
+    codes::opened_ask(&*words, &*index, memory, Asking::GetBool(value))
 }
 
 #[no_mangle]
@@ -332,14 +238,7 @@ pub extern "C" fn ferigulan_opened_get_int(
     ensures { λ r. ⌜ Coded (run (get_int value) (now (words .entry))) r (now (words .exit)) ⌝ }
     ensures { λ _. ⌜ OpenStore (now (words .exit)) (now (index .exit)) (now (memory .exit)) ⌝ }
 {
-    opened_append(
-        words,
-        index,
-        memory,
-        Making::MakeInt(value, value),
-        &[],
-        b"",
-    )
+    codes::opened_make(words, index, memory, Making::MakeInt(value, value))
 }
 
 #[no_mangle]
@@ -354,7 +253,7 @@ pub extern "C" fn ferigulan_opened_make_int(
     ensures { λ r. ⌜ Coded (run (make_int min max) (now (words .entry))) r (now (words .exit)) ⌝ }
     ensures { λ _. ⌜ OpenStore (now (words .exit)) (now (index .exit)) (now (memory .exit)) ⌝ }
 {
-    opened_append(words, index, memory, Making::MakeInt(min, max), &[], b"")
+    codes::opened_make(words, index, memory, Making::MakeInt(min, max))
 }
 
 #[no_mangle]
@@ -368,7 +267,7 @@ pub extern "C" fn ferigulan_opened_get_float(
     ensures { λ r. ⌜ Coded (run (get_float bits) (now (words .entry))) r (now (words .exit)) ⌝ }
     ensures { λ _. ⌜ OpenStore (now (words .exit)) (now (index .exit)) (now (memory .exit)) ⌝ }
 {
-    opened_append(words, index, memory, Making::MakeFloat(0, bits), &[], b"")
+    codes::opened_make(words, index, memory, Making::MakeFloat(0, bits))
 }
 
 #[no_mangle]
@@ -383,7 +282,7 @@ pub extern "C" fn ferigulan_opened_make_float(
     ensures { λ r. ⌜ Coded (run (make_float sz bits) (now (words .entry))) r (now (words .exit)) ⌝ }
     ensures { λ _. ⌜ OpenStore (now (words .exit)) (now (index .exit)) (now (memory .exit)) ⌝ }
 {
-    opened_append(words, index, memory, Making::MakeFloat(sz, bits), &[], b"")
+    codes::opened_make(words, index, memory, Making::MakeFloat(sz, bits))
 }
 
 #[no_mangle]
@@ -397,7 +296,7 @@ pub extern "C" fn ferigulan_opened_get_tuple(
     ensures { λ r. ⌜ Coded (run (get_tuple (now (types .entry))) (now (words .entry))) r (now (words .exit)) ⌝ }
     ensures { λ _. ⌜ OpenStore (now (words .exit)) (now (index .exit)) (now (memory .exit)) ⌝ }
 {
-    opened_append(words, index, memory, Making::GetTuple, &*types, b"")
+    codes::opened_append(words, index, memory, Making::GetTuple, &*types, b"")
 }
 
 #[no_mangle]
@@ -411,7 +310,7 @@ pub extern "C" fn ferigulan_opened_get_str(
     ensures { λ r. ⌜ Coded (run (get_str (now (name .entry))) (now (words .entry))) r (now (words .exit)) ⌝ }
     ensures { λ _. ⌜ OpenStore (now (words .exit)) (now (index .exit)) (now (memory .exit)) ⌝ }
 {
-    opened_append(words, index, memory, Making::GetStr, &[], &*name)
+    codes::opened_append(words, index, memory, Making::GetStr, &[], &*name)
 }
 
 #[no_mangle]
@@ -426,7 +325,7 @@ pub extern "C" fn ferigulan_opened_get_struct(
     ensures { λ r. ⌜ Coded (run (get_struct name (now (fields .entry))) (now (words .entry))) r (now (words .exit)) ⌝ }
     ensures { λ _. ⌜ OpenStore (now (words .exit)) (now (index .exit)) (now (memory .exit)) ⌝ }
 {
-    opened_append(words, index, memory, Making::GetStruct(name), &*fields, b"")
+    codes::opened_append(words, index, memory, Making::GetStruct(name), &*fields, b"")
 }
 
 #[no_mangle]
@@ -444,7 +343,7 @@ pub extern "C" fn ferigulan_opened_make_ary(
     ensures { λ r. ⌜ Coded (run (make_ary len «len_alias» body «body_alias» (now (text .entry))) (now (words .entry))) r (now (words .exit)) ⌝ }
     ensures { λ _. ⌜ OpenStore (now (words .exit)) (now (index .exit)) (now (memory .exit)) ⌝ }
 {
-    opened_append(
+    codes::opened_append(
         words,
         index,
         memory,
@@ -465,7 +364,7 @@ pub extern "C" fn ferigulan_opened_make_struct_fref(
     ensures { λ r. ⌜ Coded (run (make_struct_fref name) (now (words .entry))) r (now (words .exit)) ⌝ }
     ensures { λ _. ⌜ OpenStore (now (words .exit)) (now (index .exit)) (now (memory .exit)) ⌝ }
 {
-    opened_append(words, index, memory, Making::MakeStructFref(name), &[], b"")
+    codes::opened_make(words, index, memory, Making::MakeStructFref(name))
 }
 
 #[no_mangle]
@@ -480,7 +379,7 @@ pub extern "C" fn ferigulan_opened_get_mem_ptr(
     ensures { λ r. ⌜ Coded (run (get_mem_ptr to nil) (now (words .entry))) r (now (words .exit)) ⌝ }
     ensures { λ _. ⌜ OpenStore (now (words .exit)) (now (index .exit)) (now (memory .exit)) ⌝ }
 {
-    opened_append(words, index, memory, Making::GetMemPtr(to, nil), &[], b"")
+    codes::opened_make(words, index, memory, Making::GetMemPtr(to, nil))
 }
 
 #[no_mangle]
@@ -495,7 +394,7 @@ pub extern "C" fn ferigulan_opened_get_mem(
     ensures { λ r. ⌜ Coded (run (get_mem alias t) (now (words .entry))) r (now (words .exit)) ⌝ }
     ensures { λ _. ⌜ OpenStore (now (words .exit)) (now (index .exit)) (now (memory .exit)) ⌝ }
 {
-    opened_append(words, index, memory, Making::GetMem(alias, t), &[], b"")
+    codes::opened_make(words, index, memory, Making::GetMem(alias, t))
 }
 
 #[no_mangle]
@@ -510,7 +409,7 @@ pub extern "C" fn ferigulan_opened_meet(
     ensures { λ r. ⌜ Coded (run (meet a b) (now (words .entry))) r (now (words .exit)) ⌝ }
     ensures { λ _. ⌜ OpenStore (now (words .exit)) (now (index .exit)) (now (memory .exit)) ⌝ }
 {
-    opened_append(words, index, memory, Making::Meet(a, b), &[], b"")
+    codes::opened_make(words, index, memory, Making::Meet(a, b))
 }
 
 #[no_mangle]
@@ -525,7 +424,7 @@ pub extern "C" fn ferigulan_opened_isa(
     ensures { λ r. ⌜ Coded (run (isa a b) (now (words .entry))) r (now (words .entry)) ⌝ }
     ensures { λ _. ⌜ OpenStore (now (words .entry)) (now (index .entry)) (now (memory .exit)) ⌝ }
 {
-    opened_ask(&*words, &*index, memory, Asking::Isa(a, b))
+    codes::opened_ask(&*words, &*index, memory, Asking::Isa(a, b))
 }
 
 #[no_mangle]
@@ -539,7 +438,7 @@ pub extern "C" fn ferigulan_opened_dual(
     ensures { λ r. ⌜ Coded (run (dual a) (now (words .entry))) r (now (words .exit)) ⌝ }
     ensures { λ _. ⌜ OpenStore (now (words .exit)) (now (index .exit)) (now (memory .exit)) ⌝ }
 {
-    opened_append(words, index, memory, Making::Walk(Walk::Dual, a), &[], b"")
+    codes::opened_make(words, index, memory, Making::Walk(Walk::Dual, a))
 }
 
 #[no_mangle]
@@ -554,7 +453,7 @@ pub extern "C" fn ferigulan_opened_join(
     ensures { λ r. ⌜ Coded (run (join a b) (now (words .entry))) r (now (words .exit)) ⌝ }
     ensures { λ _. ⌜ OpenStore (now (words .exit)) (now (index .exit)) (now (memory .exit)) ⌝ }
 {
-    opened_append(words, index, memory, Making::Join(a, b), &[], b"")
+    codes::opened_make(words, index, memory, Making::Join(a, b))
 }
 
 #[no_mangle]
@@ -568,7 +467,7 @@ pub extern "C" fn ferigulan_opened_glb(
     ensures { λ r. ⌜ Coded (run (glb a) (now (words .entry))) r (now (words .exit)) ⌝ }
     ensures { λ _. ⌜ OpenStore (now (words .exit)) (now (index .exit)) (now (memory .exit)) ⌝ }
 {
-    opened_append(words, index, memory, Making::Walk(Walk::Glb, a), &[], b"")
+    codes::opened_make(words, index, memory, Making::Walk(Walk::Glb, a))
 }
 
 #[no_mangle]
@@ -582,7 +481,7 @@ pub extern "C" fn ferigulan_opened_lub(
     ensures { λ r. ⌜ Coded (run (lub a) (now (words .entry))) r (now (words .exit)) ⌝ }
     ensures { λ _. ⌜ OpenStore (now (words .exit)) (now (index .exit)) (now (memory .exit)) ⌝ }
 {
-    opened_append(words, index, memory, Making::Walk(Walk::Lub, a), &[], b"")
+    codes::opened_make(words, index, memory, Making::Walk(Walk::Lub, a))
 }
 
 #[no_mangle]
@@ -596,7 +495,7 @@ pub extern "C" fn ferigulan_opened_is_final(
     ensures { λ r. ⌜ Coded (run (is_final a) (now (words .entry))) r (now (words .entry)) ⌝ }
     ensures { λ _. ⌜ OpenStore (now (words .entry)) (now (index .entry)) (now (memory .exit)) ⌝ }
 {
-    opened_ask(&*words, &*index, memory, Asking::IsFinal(a))
+    codes::opened_ask(&*words, &*index, memory, Asking::IsFinal(a))
 }
 
 #[no_mangle]
@@ -610,5 +509,5 @@ pub extern "C" fn ferigulan_opened_make_ro(
     ensures { λ r. ⌜ Coded (run (make_ro a) (now (words .entry))) r (now (words .exit)) ⌝ }
     ensures { λ _. ⌜ OpenStore (now (words .exit)) (now (index .exit)) (now (memory .exit)) ⌝ }
 {
-    opened_append(words, index, memory, Making::MakeRo(a), &[], b"")
+    codes::opened_make(words, index, memory, Making::MakeRo(a))
 }

@@ -1,8 +1,8 @@
--- `lattice_c::append` meets its contract.
-use Rattle.lattice_c.proofs.Told.{coded}
+-- `codes::append` meets its contract.
+use Rattle.codes.proofs.Told.{coded}
 use borrow.Author.Needs.{needs}
-use Rattle.lattice_c.proofs.append.Statement.{statement}
-use Rattle.lattice_c.proofs.append.Tie as tie
+use Rattle.codes.proofs.append.Statement.{statement}
+use Rattle.codes.proofs.append.Tie as tie
 
 append-requires : tie.Need-append-requires
 append-requires c κs = search needs

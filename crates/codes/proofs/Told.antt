@@ -11,7 +11,7 @@ use Rattle.call.specs.declared.Answer.the-variants as Answer-variants
 use Rattle.call.specs.declared.Done.{Done}
 use Rattle.call.specs.declared.Done.the-variants as Done-variants
 use Rattle.opened.specs.OpenStore.{Opening}
-use Rattle.lattice_c.specs.Code.{code, Coded, CodedOpening}
+use Rattle.codes.specs.Code.{code, Coded, CodedOpening}
 
 pub coded : (o : Outcome) (p : Reply) (r : ℕ) (ws : List ℕ) → left p ws ≡ o → r ≡ code p → Coded o r ws
 coded o p r ws e c = record { reply = c ∙ ap (λ (x : Outcome). code (x .reply)) e; words = ap (λ (x : Outcome). x .words) e }

@@ -1,8 +1,8 @@
--- `lattice_c::ferigulan_open` meets its contract.
-use Rattle.lattice_c.proofs.Told.{coded-open, opening}
+-- `codes::open` meets its contract.
+use Rattle.codes.proofs.Told.{coded-open, opening}
 use borrow.Author.Needs.{needs}
-use Rattle.lattice_c.proofs.ferigulan_open.Statement.{statement}
-use Rattle.lattice_c.proofs.ferigulan_open.Tie as tie
+use Rattle.codes.proofs.open.Statement.{statement}
+use Rattle.codes.proofs.open.Tie as tie
 
 open-requires : tie.Need-open-requires
 open-requires c κs = search needs
@@ -19,6 +19,6 @@ same-length-2 c = search needs
 returns : tie.Need-returns
 returns c = (search coded-open, search opening)
 
-pub ferigulan-open-spec : {M : Type 1} → statement M
-ferigulan-open-spec =
+pub open-spec : {M : Type 1} → statement M
+open-spec =
     tie.close (tie.spec open-requires of-done-requires same-length same-length-2 returns)

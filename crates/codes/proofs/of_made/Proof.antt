@@ -1,8 +1,8 @@
--- `lattice_c::of_made` meets its contract.
-use Rattle.lattice_c.proofs.Told.{made-refused}
+-- `codes::of_made` meets its contract.
+use Rattle.codes.proofs.Told.{made-refused}
 use borrow.Author.Needs.{needs}
-use Rattle.lattice_c.proofs.of_made.Statement.{statement}
-use Rattle.lattice_c.proofs.of_made.Tie as tie
+use Rattle.codes.proofs.of_made.Statement.{statement}
+use Rattle.codes.proofs.of_made.Tie as tie
 
 enum-known-m : tie.Need-enum-known-m
 enum-known-m c = search needs

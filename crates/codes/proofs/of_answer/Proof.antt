@@ -1,8 +1,8 @@
--- `lattice_c::of_answer` meets its contract.
-use Rattle.lattice_c.proofs.Told.{told-refused}
+-- `codes::of_answer` meets its contract.
+use Rattle.codes.proofs.Told.{told-refused}
 use borrow.Author.Needs.{needs}
-use Rattle.lattice_c.proofs.of_answer.Statement.{statement}
-use Rattle.lattice_c.proofs.of_answer.Tie as tie
+use Rattle.codes.proofs.of_answer.Statement.{statement}
+use Rattle.codes.proofs.of_answer.Tie as tie
 
 enum-known-m : tie.Need-enum-known-m
 enum-known-m c = search needs

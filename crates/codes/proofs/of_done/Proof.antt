@@ -1,8 +1,8 @@
--- `lattice_c::of_done` meets its contract.
-use Rattle.lattice_c.proofs.Told.{done-refused}
+-- `codes::of_done` meets its contract.
+use Rattle.codes.proofs.Told.{done-refused}
 use borrow.Author.Needs.{needs}
-use Rattle.lattice_c.proofs.of_done.Statement.{statement}
-use Rattle.lattice_c.proofs.of_done.Tie as tie
+use Rattle.codes.proofs.of_done.Statement.{statement}
+use Rattle.codes.proofs.of_done.Tie as tie
 
 enum-told : tie.Need-enum-told
 enum-told c = search needs

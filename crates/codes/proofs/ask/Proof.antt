@@ -1,8 +1,8 @@
--- `lattice_c::ask` meets its contract.
-use Rattle.lattice_c.proofs.Told.{coded}
+-- `codes::ask` meets its contract.
+use Rattle.codes.proofs.Told.{coded}
 use borrow.Author.Needs.{needs}
-use Rattle.lattice_c.proofs.ask.Statement.{statement}
-use Rattle.lattice_c.proofs.ask.Tie as tie
+use Rattle.codes.proofs.ask.Statement.{statement}
+use Rattle.codes.proofs.ask.Tie as tie
 
 ask-requires : tie.Need-ask-requires
 ask-requires c κs = search needs

@@ -1,8 +1,8 @@
--- `lattice_c::opened_ask` meets its contract.
-use Rattle.lattice_c.proofs.Told.{coded}
+-- `codes::opened_ask` meets its contract.
+use Rattle.codes.proofs.Told.{coded}
 use borrow.Author.Needs.{needs}
-use Rattle.lattice_c.proofs.opened_ask.Statement.{statement}
-use Rattle.lattice_c.proofs.opened_ask.Tie as tie
+use Rattle.codes.proofs.opened_ask.Statement.{statement}
+use Rattle.codes.proofs.opened_ask.Tie as tie
 
 ask-requires : tie.Need-ask-requires
 ask-requires c κs = search needs
