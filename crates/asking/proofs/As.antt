@@ -8,7 +8,7 @@ use lib.Dec.{eqb}
 use Rattle.wellformed.specs.Entry.{isFlag}
 use Rattle.call.specs.Call.{Reply, _when_, ask}
 use Rattle.every_call.specs.Run.{run}
-use Rattle.making.specs.Making.{Cleared}
+use Rattle.every_call.specs.Cleared.{Cleared}
 use Rattle.asking.specs.declared.Asking.{Asking}
 use Rattle.asking.specs.declared.Asking.the-variants as Asking-variants
 use Rattle.asking.specs.Asking.{asked, rowsOf, answerOf}
@@ -31,12 +31,6 @@ module _ {m n : Asking} (is : m ≡ n) where
 
 -- get_bool
 module _ (v : ℕ) where
-  pub no-flag : 1 < v → 4 ≡ (4 when not (isFlag v))
-  no-flag h = rw (lt-leb _ _ h)
-
-  pub a-flag : v ≤ 1 → 0 ≡ (4 when not (isFlag v))
-  a-flag h = rw (le-leb _ _ h)
-
   pub flag-off : v ≡ 0 → _≡_ {A = ℕ} 9 (cond (eqb v 0) 9 12)
   flag-off e = rw e
 

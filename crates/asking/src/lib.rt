@@ -10,7 +10,7 @@ ghost use Rattle.wellformed.specs.Entry.{isFlag};
 ghost use Rattle.call.specs.Call.{told, _when_};
 ghost use Rattle.call.specs.Steps.{Open};
 ghost use Rattle.lent_memory.specs.Memory.{Right};
-ghost use Rattle.making.specs.Making.{Cleared};
+ghost use Rattle.every_call.specs.Cleared.{Cleared};
 ghost use Rattle.asking.specs.Asking.{rowsOf, answerOf};
 
 pub enum Asking {
@@ -22,15 +22,6 @@ pub enum Asking {
 
 // ---- rows
 
-fn bool_rows(value: u64) -> u8
-    ensures { λ r. ⌜ r ≡ (4 when not (isFlag value)) ⌝ }
-{
-    if value > 1 {
-        return 4;
-    }
-    0
-}
-
 // The number of the first row that applies, or 0.
 pub fn rows_of(words: &[u64], used: usize, bits: &[u64], asking: Asking) -> u8
     requires { ⌜ Open (now words) (now bits) used ⌝ }
@@ -38,7 +29,7 @@ pub fn rows_of(words: &[u64], used: usize, bits: &[u64], asking: Asking) -> u8
 {
     match asking {
         Asking::Kind(h) => rows::types_rows(&*words, used, &*bits, &[h]),
-        Asking::GetBool(value) => bool_rows(value),
+        Asking::GetBool(value) => value_rows::bool_rows(value),
         Asking::Isa(a, b) => rows::types_rows(&*words, used, &*bits, &[a, b]),
         Asking::IsFinal(a) => rows::types_rows(&*words, used, &*bits, &[a]),
     }

@@ -3,7 +3,6 @@ ghost use Prim.Native.Nat.{_+_, _≤_};
 ghost use mathlib.Core.Path.{_≡_};
 ghost use lib.ListN.{length};
 ghost use Rattle.calls.specs.Kept.{Kept};
-use crate::output;
 use libc::STDIN_FILENO;
 
 // What is kept from line to line.

@@ -1,6 +1,5 @@
 // Runs a script of calls of the store library, read from standard input: a call a line, and a line out for each.
 mod input;
-mod output;
 
 fn main() {
     let mut line = [0u8; 262144];

@@ -1,5 +1,4 @@
 // The lines of a script: each is read, and the call that it names is made.
-mod lists;
 mod run;
 
 pub use replies::Reply;

@@ -3,10 +3,9 @@
 ghost use Prim.Native.Nat.{_≤_};
 ghost use lib.ListN.{length};
 ghost use Rattle.dispatch.specs.Held.{Held};
-use crate::lists;
-use crate::lists::Order;
 use call::Done;
 use call_lines::Shape;
+use list_lines::Order;
 use replies::Reply;
 use script::Answer;
 use script::Count;
@@ -176,11 +175,11 @@ fn ordered(
     requires { ⌜ Held len opened (now words) (now index) (now memory) ⌝ }
     ensures { λ r. ⌜ Held (r .len) (r .opened) (now (words .exit)) (now (index .exit)) (now (memory .exit)) ⌝ }
 {
-    let order = lists::order_of(name, a);
+    let order = list_lines::order_of(name, a);
     match order {
         Order::Close(closing) => {
-            let now = lists::length(closing, len, words.len());
-            let reply = lists::change(closing, &mut words[0..now]);
+            let now = list_lines::length(closing, len, words.len());
+            let reply = list_lines::change(closing, &mut words[0..now]);
             Outcome {
                 len: now,
                 opened: false,
@@ -188,7 +187,7 @@ fn ordered(
             }
         }
         Order::Read(reading) => {
-            let reply = lists::read(reading, &words[0..len]);
+            let reply = list_lines::read(reading, &words[0..len]);
             Outcome {
                 len: len,
                 opened: opened,

@@ -1,2 +1,3 @@
 pub mod Ty
 pub mod Run
+pub mod Cleared

@@ -15,8 +15,8 @@ use Rattle.walk_rules.specs.declared.Walk.the-variants.{Dual}
 use Rattle.walk.specs.Remembered.{Remembers as RemembersWalks, Remembered as RememberedWalks}
 use Rattle.walk.proofs.Recall.{settled-stays}
 use Rattle.later.specs.Right.{RightAfter}
-use Rattle.meet.specs.Remembered.{Remembers as RemembersMeets, Settled as SettledMeet}
-use Rattle.meet.proofs.Recall.{settled-stays as meets-stay}
+use Rattle.meet_types.specs.Remembered.{Remembers as RemembersMeets, Settled as SettledMeet}
+use Rattle.meet_types.proofs.Recall.{settled-stays as meets-stay}
 use Rattle.join.specs.Memory.{Remembers, Remembered}
 
 -- k is half the length of the memory m

@@ -26,8 +26,8 @@ use Rattle.walk.proofs.Grows.{walk-grows}
 use Rattle.walk.proofs.Nice.{walk-nice}
 use Rattle.later.proofs.Later.{later-adds}
 use Rattle.later.proofs.Right.{right-made}
-use Rattle.meet.specs.Remembered.{Remembered as RememberedMeets}
-use Rattle.meet.proofs.Recall.{settled-stays as meets-stay}
+use Rattle.meet_types.specs.Remembered.{Remembered as RememberedMeets}
+use Rattle.meet_types.proofs.Recall.{settled-stays as meets-stay}
 use Rattle.walk.specs.Remembered.{Remembers as RemembersWalks, Remembered as RememberedWalks}
 use Rattle.join.specs.Join.{dualOfMeet, joinWith, joinOf}
 use Rattle.join.specs.Memory.{Remembers, Remembered}

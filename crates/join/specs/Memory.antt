@@ -7,7 +7,7 @@ use Rattle.words.specs.declared.Interned.{Interned}
 use Rattle.words.specs.declared.Interned.the-variants.{At}
 use Rattle.walk_rules.specs.declared.Walk.the-variants.{Dual}
 use Rattle.walk.specs.Remembered.{Remembers as RemembersWalks}
-use Rattle.meet.specs.Remembered.{Remembers as RemembersMeets}
+use Rattle.meet_types.specs.Remembered.{Remembers as RemembersMeets}
 
 -- each line of the first half is a handle and its settled dual, each line of the second half a pair and its settled meet
 pub record Remembers (u memory : List ℕ) : Type 0 where

@@ -25,7 +25,7 @@ fn dual_of_meet(
     ensures { λ r. ⌜ Remembered (now (old .entry)) (now (new .exit)) r (now (memory .exit)) ⌝ }
 {
     let k = memory.len() / 2;
-    let m = meet::meet_type(&*old, new, used, a, b, &mut memory[k..2 * k], &*index);
+    let m = meet_types::meet_type(&*old, new, used, a, b, &mut memory[k..2 * k], &*index);
     match m {
         Interned::At(h, v) => walk::walk_type(
             Walk::Dual,

@@ -19,24 +19,15 @@ use Rattle.index.specs.Covers.{Covers}
 use Rattle.parts.specs.Parts.{Ready}
 use Rattle.parts.proofs.Good.{part-below}
 use Rattle.meet.specs.Meet.{meetOf, isaOf, Met}
-use Rattle.meet.specs.Remembered.{Remembered}
+use Rattle.meet_types.specs.Remembered.{Remembered}
 use Rattle.meet.proofs.Grows.{meet-grows}
 use Rattle.meet.proofs.Nice.{meet-nice}
-use Rattle.meet.proofs.Recall.{still-old}
+use Rattle.meet_types.proofs.Recall.{still-old}
 use Rattle.lent_memory.specs.Memory.{Right}
-use Rattle.lent_memory.specs.Second.{second}
+use Rattle.memory_steps.specs.Steps.{second}
 use Rattle.lent_memory.proofs.Parts.{put}
 use Rattle.lent_memory.proofs.Laws.{right-meets}
 use Rattle.lent_memory.proofs.Ways.{met-lent}
-
-module _ (m : Interned) where
-  pub second-at : (h v b : ℕ) → m ≡ At h v → eqb h b ≡ second m b
-  unfolding second
-  second-at h v b e = rw e
-
-  pub second-full : (b : ℕ) → m ≡ Full → false ≡ second m b
-  unfolding second
-  second-full b e = rw e
 
 module _ {ws : List ℕ} {used a b : ℕ} (rd : Ready [] ws used 1 11 a b) where
   abbrev u : List ℕ

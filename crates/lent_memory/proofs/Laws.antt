@@ -18,8 +18,8 @@ use Rattle.memo.proofs.Lines.{lines-none}
 use Rattle.later.specs.Later.{Later}
 use Rattle.later.specs.Right.{RightAfter}
 use Rattle.later.proofs.Right.{lines-later, made-later}
-use Rattle.meet.specs.Remembered.{Remembers as RemembersMeets, Settled as SettledMeet}
-use Rattle.meet.proofs.Recall.{settled-stays as meets-stay}
+use Rattle.meet_types.specs.Remembered.{Remembers as RemembersMeets, Settled as SettledMeet}
+use Rattle.meet_types.proofs.Recall.{settled-stays as meets-stay}
 use Rattle.walk_rules.specs.declared.Walk.{Walk}
 use Rattle.walk_rules.specs.declared.Walk.the-variants.{Dual, Glb, Lub}
 use Rattle.walk.specs.Remembered.{Remembers as RemembersWalks, Settled as SettledWalk}
@@ -29,7 +29,8 @@ use Rattle.finals.proofs.Knows.{knows-later, knows-none}
 use Rattle.make_ro.specs.Remembered.{Settled as SettledRo}
 use Rattle.make_ro.proofs.Recall.{settled-stays as ros-stay}
 use Rattle.join.specs.Memory.{Remembers as RemembersJoin, Remembered as RememberedJoin}
-use Rattle.lent_memory.specs.Memory.{part, partOf, Right, RightThen}
+use Rattle.lent_memory.specs.Memory.{part, Right, RightThen}
+use Rattle.memory_steps.specs.Steps.{partOf}
 use Rattle.lent_memory.proofs.Parts.{Put, Front}
 
 -- for used words that came later

@@ -18,7 +18,7 @@ use Rattle.memo.specs.declared.Recalled.{Recalled}
 use Rattle.memo.specs.declared.Recalled.the-variants.{Is as Recalled·Is}
 use Rattle.later.specs.Right.{RightAfter}
 use Rattle.meet.specs.Meet.{meetOf, Met}
-use Rattle.meet.specs.Remembered.{Remembers as RemembersMeets, Settled as SettledMeet}
+use Rattle.meet_types.specs.Remembered.{Remembers as RemembersMeets, Settled as SettledMeet}
 use Rattle.meet.proofs.Grows.{meet-grows}
 use Rattle.walk_rules.specs.declared.Walk.{Walk}
 use Rattle.walk_rules.specs.declared.Walk.the-variants.{Dual, Glb, Lub}
@@ -34,7 +34,8 @@ use Rattle.make_ro.specs.ReadOnly.{makeRoOf, MadeRo}
 use Rattle.make_ro.specs.Remembered.{Settled as SettledRo, Remembered}
 use Rattle.make_ro.proofs.Grows.{make-ro-grows}
 use Rattle.make_ro.proofs.Recall.{made-known, made-noted}
-use Rattle.lent_memory.specs.Memory.{part, partOf, Right, RightThen}
+use Rattle.lent_memory.specs.Memory.{part, Right, RightThen}
+use Rattle.memory_steps.specs.Steps.{partOf}
 use Rattle.lent_memory.proofs.Parts.{Put, put-long, lent, put, lent-first, lent-second, put-front}
 use Rattle.lent_memory.proofs.Laws.{right-ros, right-finals, then-kept, then-walks, then-meets, then-ros, then-both}
 
@@ -51,19 +52,6 @@ pub walk-end : (memory : List ℕ) (walk : Walk) (p : ℕ) → p ≡ partOf walk
 walk-end memory walk p is =
     let m : suc p * (length memory / 6) ≤ 6 * (length memory / 6) = mul-le-mul-right (length memory / 6) (walk-part walk p is) in
     omega arith
-
-module _ (walk : Walk) where
-  pub dual-part : walk ≡ Dual → 0 ≡ partOf walk
-  unfolding partOf
-  dual-part e = rw e
-
-  pub glb-part : walk ≡ Glb → 2 ≡ partOf walk
-  unfolding partOf
-  glb-part e = rw e
-
-  pub lub-part : walk ≡ Lub → 3 ≡ partOf walk
-  unfolding partOf
-  lub-part e = rw e
 
 -- ---- the parts as they are lent
 

@@ -7,8 +7,7 @@ use lib.ListN.{length, take, drop}
 use Rattle.words.specs.declared.Interned.{Interned}
 use Rattle.words.specs.declared.Interned.the-variants.{At}
 use Rattle.memo.specs.Memo.{Lines}
-use Rattle.meet.specs.Remembered.{Remembers as RemembersMeets}
-use Rattle.walk_rules.specs.declared.Walk.{Walk}
+use Rattle.meet_types.specs.Remembered.{Remembers as RemembersMeets}
 use Rattle.walk_rules.specs.declared.Walk.the-variants.{Dual, Glb, Lub}
 use Rattle.walk.specs.Remembered.{Remembers as RemembersWalks}
 use Rattle.finals.specs.Known.{Knows}
@@ -17,12 +16,6 @@ use Rattle.make_ro.specs.Remembered.{Settled as SettledRo}
 -- the i-th of six equal parts
 unfoldable pub part : ℕ → List ℕ → List ℕ
 part i memory = take (length memory / 6) (drop (i * (length memory / 6)) memory)
-
--- which part has the answers of a walk
-unfoldable pub partOf : Walk → ℕ
-partOf Dual = 0
-partOf Glb = 2
-partOf Lub = 3
 
 -- each part is right for what it is kept for: the first five have settled answers, the last a set of types that are known to be final
 pub record Right (u memory : List ℕ) : Type 0 where

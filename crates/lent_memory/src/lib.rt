@@ -19,8 +19,7 @@ ghost use Rattle.join.specs.Join.{joinOf};
 ghost use Rattle.finals.specs.Final.{Finals};
 ghost use Rattle.make_ro.specs.ReadOnly.{makeRoOf, MadeRo};
 ghost use Rattle.make_ro.specs.Remembered.{Settled};
-ghost use Rattle.lent_memory.specs.Memory.{partOf, Right, RightThen};
-ghost use Rattle.lent_memory.specs.Second.{second};
+ghost use Rattle.lent_memory.specs.Memory.{Right, RightThen};
 
 pub fn meet(
     old: &[u64],
@@ -42,18 +41,7 @@ pub fn meet(
         let mut known = [0u64; 0];
         return own_memory::run(Operation::Meet(b), &*old, new, used, a, &mut known, &*index);
     }
-    meet::meet_type(&*old, new, used, a, b, &mut memory[n..2 * n], &*index)
-}
-
-// The part with the answers of a walk.
-fn part_of(op: Walk) -> usize
-    ensures { λ r. ⌜ r ≡ partOf op ⌝ }
-{
-    match op {
-        Walk::Dual => 0,
-        Walk::Glb => 2,
-        Walk::Lub => 3,
-    }
+    meet_types::meet_type(&*old, new, used, a, b, &mut memory[n..2 * n], &*index)
 }
 
 // dual, glb and lub.
@@ -85,7 +73,7 @@ pub fn walk(
             &*index,
         );
     }
-    let from = part_of(op) * n;
+    let from = memory_steps::part_of(op) * n;
     let end = from + n;
     walk::walk_type(op, &*old, new, used, a, &mut memory[from..end], &*index)
 }
@@ -212,16 +200,6 @@ pub fn is_final(
     finals::is_final(&*old, &*new, used, a, &mut memory[5 * n..6 * n])
 }
 
-// Whether an answer is b. One that did not fit is not: what would have to be appended is no old handle.
-fn is_second(m: Interned, b: u64) -> bool
-    ensures { λ r. ⌜ r ≡ second m b ⌝ }
-{
-    match m {
-        Interned::At(h, _) => h as u64 == b,
-        Interned::Full => false,
-    }
-}
-
 // Whether the meet of a and b would be b, by meeting them. The used words are lent to be read, with no word behind them, so that nothing is appended; and so the
 // memory stays right for them whatever the answer is.
 pub fn isa(words: &[u64], used: usize, a: u64, b: u64, memory: &mut [u64], index: &[u64]) -> bool
@@ -242,9 +220,9 @@ pub fn isa(words: &[u64], used: usize, a: u64, b: u64, memory: &mut [u64], index
             b as usize,
             &*index,
         );
-        return is_second(m, b);
+        return memory_steps::is_second(m, b);
     }
-    let m = meet::meet_type(
+    let m = meet_types::meet_type(
         &words[..used],
         &mut none,
         used,
@@ -253,5 +231,5 @@ pub fn isa(words: &[u64], used: usize, a: u64, b: u64, memory: &mut [u64], index
         &mut memory[n..2 * n],
         &*index,
     );
-    is_second(m, b)
+    memory_steps::is_second(m, b)
 }

@@ -9,8 +9,9 @@ use Rattle.words.specs.declared.Interned.{Interned}
 use Rattle.lent_memory.specs.Memory.{Right, RightThen}
 use Rattle.every_call.specs.Run.{typed}
 use Rattle.making.specs.declared.Making.{Making}
-use Rattle.making.specs.Making.{appended, rowsOf, opOf, Cleared}
-use Rattle.making.proofs.Cleared.{segments}
+use Rattle.making.specs.Making.{appended, rowsOf, opOf}
+use Rattle.every_call.specs.Cleared.{Cleared}
+use Rattle.every_call.proofs.Cleared.{segments}
 use Rattle.making.proofs.As.{as-ran, as-typed}
 use Rattle.making.proofs.Grows.{making-grows}
 use Rattle.making.proofs.Kept.{right-grown}

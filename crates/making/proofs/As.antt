@@ -14,7 +14,8 @@ use Rattle.wellformed.specs.Entry.{all}
 use Rattle.every_call.specs.Run.{run, isWord, areBytes, typed}
 use Rattle.making.specs.declared.Making.{Making}
 use Rattle.making.specs.declared.Making.the-variants as Making-variants
-use Rattle.making.specs.Making.{walked, appended, rowsOf, opOf, Cleared}
+use Rattle.making.specs.Making.{walked, appended, rowsOf, opOf}
+use Rattle.every_call.specs.Cleared.{Cleared}
 
 pub appended-is : (m : Making) (list text ws : List ℕ) → run (appended m list text) ws ≡ call (rowsOf m list text) (opOf m list text) ws
 appended-is (Making-variants.MakeInt min max) list text ws = refl

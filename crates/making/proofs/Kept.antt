@@ -23,7 +23,8 @@ use Rattle.later.proofs.Right.{made-later}
 use Rattle.later.proofs.Keeps.{later-set}
 use Rattle.lent_memory.specs.Memory.{Right, RightThen}
 use Rattle.lent_memory.proofs.Laws.{right-later, right-blank}
-use Rattle.making.specs.Making.{Cleared, Forgot}
+use Rattle.memory_steps.specs.Steps.{Forgot}
+use Rattle.every_call.specs.Cleared.{Cleared}
 
 -- ---- a store that row 1 has passed
 
@@ -48,17 +49,6 @@ module _ (rows : List ℕ → ℕ) (ws : List ℕ) (used : ℕ) (begun : Begun w
 pub right-grown : {old new memory : List ℕ} {used : ℕ} → Segments old new used → Right (take used (old ++ new)) memory → (g : Grown) → Extends (take used (old ++ new)) (g .words)
     → {new′ : List ℕ} {r : Interned} → Ran used g (old ++ new) (old ++ new′) r → RightThen old new′ r memory
 right-grown s m g x {new′} ran = record { is = λ h v e. right-later (made-later s g x new′ ran h v e) m }
-
--- a memory that is forgotten where the answer did not fit
-module _ (r : Interned) (memory : List ℕ) where
-  pub forgot-all : (memory′ : List ℕ) → r ≡ Full → memory′ ≡ replicate (length memory) 0 → Forgot r memory memory′
-  forgot-all memory′ is z = record { full = λ _. z; kept = λ ne. absurd (ne is) }
-
-  pub forgot-none : (h v : ℕ) → r ≡ At h v → Forgot r memory memory
-  forgot-none h v is = record { full = λ e. absurd (clash (sym is ∙ e)); kept = λ _. refl }
-    where
-      clash : At h v ≡ Full → ⊥
-      clash q = let z : _≡_ {A = ℕ} 0 1 = cc in omega arith
 
 -- the end of a call
 pub kept-call : (ws ws₁ ws₂ memory memory′ : List ℕ) (used : ℕ) (r : Interned) (g : Grown) (m : Made) → 0 < used → used ≤ length ws → 0 < length ws₁ → Extends (take used ws) (g .words) → Ran used g ws ws₁ r → RightThen [] ws₁ r memory → Forgot r memory memory′

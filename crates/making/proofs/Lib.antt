@@ -1,4 +1,4 @@
-pub mod Cleared
+pub mod Fine
 pub mod Values
 pub mod As
 pub mod Grows

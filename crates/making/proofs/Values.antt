@@ -16,24 +16,11 @@ use Rattle.call.specs.Call.{_when_}
 use Rattle.makers.specs.Entries.{floatEntry, storedSize}
 use Rattle.makers.proofs.FloatSize.{size-word}
 
-pub long-name : (n : ℕ) → 255 < n → 5 ≡ (5 when ltb 255 n)
-long-name n h = rw (lt-ltb _ _ h)
-
-pub short-name : (n : ℕ) → n ≤ 255 → 0 ≡ (5 when ltb 255 n)
-short-name n h = rw (le-ltb _ _ h)
-
 pub plain-name : (name u : List ℕ) {kept : ℕ} {ws ws′ : List ℕ} {r : Interned} → Ran kept (make u (nameEntry (wrapped false name))) ws ws′ r → Ran kept (make u (nameEntry name)) ws ws′ r
 unfolding wrapped
 plain-name name u ran = ran
 
 module _ (sz bits size : ℕ) (is : size ≡ (sz + 64) % 2 ^ 64) where
-  module _ (t : Bool) (it : t ≡ floatOk size bits) where
-    pub no-float : not t ≡ true → 4 ≡ (4 when not (floatOk (storedSize sz) bits))
-    no-float n = rw (← is, sym it ∙ not-true t n)
-
-    pub a-float : not t ≡ false → 0 ≡ (4 when not (floatOk (storedSize sz) bits))
-    a-float y = rw (← is, sym it ∙ not-false t y)
-
   module _ (ok : floatOk (storedSize sz) bits ≡ true) where
     pub size-known : isSizeWord size ≡ true
     size-known = size-word size bits (rw is ok)

@@ -1,23 +1,18 @@
 -- The calls that append, as the values that the functions take: which call each is, its rows and its operation on the used words `u`. A call's lists are lent
 -- beside it: `list` the types of a tuple or the fields of a struct, `text` the bytes of a name. That `run` of the call is the rows and then the operation is
 -- `appended-is` (proofs/As.antt), each line by computation.
-use mathlib.Core.Path.{_≡_}
-use mathlib.Core.Bool.{true, not}
-use mathlib.Core.List.{List, [], _∷_, _++_}
-use Prim.Native.Nat.{ℕ, _+_, _≤_}
-use lib.ListN.{length, take, drop, replicate}
+use mathlib.Core.Bool.{not}
+use mathlib.Core.List.{List, [], _∷_}
+use Prim.Native.Nat.{ℕ}
+use lib.ListN.{length}
 use lib.Dec.{ltb}
-use Rattle.words.specs.Words.{fills}
 use Rattle.words.specs.Made.{Grown, make}
-use Rattle.words.specs.declared.Interned.{Interned}
-use Rattle.words.specs.declared.Interned.the-variants.{Full}
 use Rattle.wellformed.specs.Entry.{mostCounted, isType, isStruct, isFlag, isAlias, floatOk}
 use Rattle.call.specs.Call.{_when_}
 use Rattle.call.specs.Handles.{typesRows}
 use Rattle.names.specs.Name.{nameEntry}
 use Rattle.makers.specs.Entries.{intEntry, storedSize, floatEntry, tupleEntry, frefEntry, pointerEntry, memoryEntry, structEntry}
 use Rattle.makers.specs.Makers.{tupleRows, frefRows, partRows, structRows, aryRows, makeAry}
-use Rattle.parts.specs.Parts.{Good}
 use Rattle.meet.specs.Meet.{meetOf}
 use Rattle.walk_rules.specs.declared.Walk.{Walk}
 use Rattle.walk_rules.specs.declared.Walk.the-variants.{Dual, Glb, Lub}
@@ -80,17 +75,3 @@ opOf (Making-variants.Meet a b) list text = λ u. meetOf u a b
 opOf (Making-variants.Join a b) list text = λ u. joinOf u a b
 opOf (Making-variants.Walk walk a) list text = λ u. walkOf walk u a
 opOf (Making-variants.MakeRo a) list text = λ u. makeRoOf u a
-
--- a store in two segments, of which `used` words are used, that row 1 has passed, and on which no row turns the call back
-pub record Cleared (rows : List ℕ → ℕ) (old new : List ℕ) (used : ℕ) : Type 0 where
-  pub over : length old ≤ used
-  pub within : used ≤ length old + length new
-  pub small : length old + length new ≤ 1048576
-  pub cut : fills 0 (drop 1 old) ≡ true
-  pub good : Good (take used (old ++ new))
-  pub passed : rows (take used (old ++ new)) ≡ 0
-
--- after an operation: a memory of blanks where its answer did not fit
-pub record Forgot (r : Interned) (memory memory′ : List ℕ) : Type 0 where
-  pub full : r ≡ Full → memory′ ≡ replicate (length memory) 0
-  pub kept : (r ≡ Full → ⊥) → memory′ ≡ memory

@@ -17,7 +17,8 @@ ghost use Rattle.call.specs.Steps.{usedOf, Open};
 ghost use Rattle.makers.specs.Entries.{storedSize, floatEntry};
 ghost use Rattle.lent_memory.specs.Memory.{Right, RightThen};
 ghost use Rattle.every_call.specs.Run.{run, typed};
-ghost use Rattle.making.specs.Making.{appended, rowsOf, opOf, Cleared, Forgot};
+ghost use Rattle.every_call.specs.Cleared.{Cleared};
+ghost use Rattle.making.specs.Making.{appended, rowsOf, opOf};
 
 // A call that appends. The types of a tuple, the fields of a struct and the bytes of a name are lent beside it. get_int is MakeInt, get_float is MakeFloat.
 pub enum Making {
@@ -38,25 +39,6 @@ pub enum Making {
 
 // ---- rows
 
-fn float_rows(sz: u64, bits: u64) -> u8
-    ensures { λ r. ⌜ r ≡ (4 when not (floatOk (storedSize sz) bits)) ⌝ }
-{
-    let size = std::num::wrapping_add_u64(sz, 64);
-    if !wellformed::float_ok(size, bits) {
-        return 4;
-    }
-    0
-}
-
-fn str_rows(text: &[u8]) -> u8
-    ensures { λ r. ⌜ r ≡ (5 when ltb mostCounted (length (now (text .entry)))) ⌝ }
-{
-    if text.len() > 255 {
-        return 5;
-    }
-    0
-}
-
 // The number of the first row that applies, or 0, on a store that row 1 has passed.
 pub fn rows_of(
     words: &[u64],
@@ -71,8 +53,8 @@ pub fn rows_of(
 {
     match making {
         Making::MakeInt(_, _) => 0,
-        Making::MakeFloat(sz, con) => float_rows(sz, con),
-        Making::GetStr => str_rows(&*text),
+        Making::MakeFloat(sz, con) => value_rows::float_rows(sz, con),
+        Making::GetStr => value_rows::str_rows(&*text),
         Making::GetTuple => rows::tuple_rows(&*words, used, &*bits, &*list),
         Making::GetStruct(name) => rows::struct_rows(&*words, used, &*bits, name, &*list),
         Making::MakeAry(len, la, body, ba) => {
@@ -149,15 +131,6 @@ pub fn operate(
     }
 }
 
-// Where the answer did not fit, the store is put back as it was, and lines that were noted on the way may speak of entries that are gone: all are forgotten.
-fn forget(r: Interned, memory: &mut [u64])
-    ensures { λ _. ⌜ Forgot r (now (memory .entry)) (now (memory .exit)) ⌝ }
-{
-    if let Interned::Full = r {
-        words::clear(memory);
-    }
-}
-
 // A call that no row turns back: its operation, and the end.
 pub fn append(
     words: &mut [u64],
@@ -189,6 +162,6 @@ pub fn append(
         memory,
         &*index,
     );
-    forget(r, memory);
+    memory_steps::forget(r, memory);
     call::finish(words, used, r)
 }

@@ -3,8 +3,3 @@ pub mod Examples
 pub mod Made
 pub mod Nice
 pub mod InTurn
-pub mod Loop
-pub mod Names
-pub mod Settled
-pub mod Recall
-pub mod Ways

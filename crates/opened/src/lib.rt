@@ -8,6 +8,7 @@ use call::Made;
 use making::Making;
 ghost use mathlib.Core.Path.{_≡_};
 ghost use mathlib.Core.Bool.{true};
+ghost use mathlib.Core.List.{[]};
 ghost use Prim.Native.Nat.{_*_, _≤_, _<_};
 ghost use lib.ListN.{length, take, drop};
 ghost use Rattle.words.specs.Words.{fills};
@@ -116,6 +117,15 @@ pub fn append(
     );
     extend(words, index);
     r
+}
+
+// A call that has neither a list nor a text.
+pub fn make(words: &mut [u64], index: &mut [u64], memory: &mut [u64], making: Making) -> Made
+    requires { ⌜ OpenStore (now words) (now index) (now memory) ⌝ }
+    ensures { λ r. ⌜ left (made r) (now (words .exit)) ≡ run (appended making [] []) (now (words .entry)) ⌝ }
+    ensures { λ _. ⌜ OpenStore (now (words .exit)) (now (index .exit)) (now (memory .exit)) ⌝ }
+{
+    append(words, index, memory, making, &[], b"")
 }
 
 // A call that only reads.

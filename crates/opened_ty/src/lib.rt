@@ -15,7 +15,7 @@ pub fn meet(words: &mut [u64], index: &mut [u64], memory: &mut [u64], a: u64, b:
     ensures { λ r. ⌜ left (made r) (now (words .exit)) ≡ run (meet a b) (now (words .entry)) ⌝ }
     ensures { λ _. ⌜ OpenStore (now (words .exit)) (now (index .exit)) (now (memory .exit)) ⌝ }
 {
-    opened::append(words, index, memory, Making::Meet(a, b), &[], b"")
+    opened::make(words, index, memory, Making::Meet(a, b))
 }
 
 // Whether b is above a: whether their meet would be b.
@@ -33,7 +33,7 @@ pub fn dual(words: &mut [u64], index: &mut [u64], memory: &mut [u64], a: u64) ->
     ensures { λ r. ⌜ left (made r) (now (words .exit)) ≡ run (dual a) (now (words .entry)) ⌝ }
     ensures { λ _. ⌜ OpenStore (now (words .exit)) (now (index .exit)) (now (memory .exit)) ⌝ }
 {
-    opened::append(words, index, memory, Making::Walk(Walk::Dual, a), &[], b"")
+    opened::make(words, index, memory, Making::Walk(Walk::Dual, a))
 }
 
 // A fixed lower type.
@@ -42,7 +42,7 @@ pub fn glb(words: &mut [u64], index: &mut [u64], memory: &mut [u64], a: u64) -> 
     ensures { λ r. ⌜ left (made r) (now (words .exit)) ≡ run (glb a) (now (words .entry)) ⌝ }
     ensures { λ _. ⌜ OpenStore (now (words .exit)) (now (index .exit)) (now (memory .exit)) ⌝ }
 {
-    opened::append(words, index, memory, Making::Walk(Walk::Glb, a), &[], b"")
+    opened::make(words, index, memory, Making::Walk(Walk::Glb, a))
 }
 
 // A fixed upper type.
@@ -51,7 +51,7 @@ pub fn lub(words: &mut [u64], index: &mut [u64], memory: &mut [u64], a: u64) -> 
     ensures { λ r. ⌜ left (made r) (now (words .exit)) ≡ run (lub a) (now (words .entry)) ⌝ }
     ensures { λ _. ⌜ OpenStore (now (words .exit)) (now (index .exit)) (now (memory .exit)) ⌝ }
 {
-    opened::append(words, index, memory, Making::Walk(Walk::Lub, a), &[], b"")
+    opened::make(words, index, memory, Making::Walk(Walk::Lub, a))
 }
 
 // The highest type below both.
@@ -60,7 +60,7 @@ pub fn join(words: &mut [u64], index: &mut [u64], memory: &mut [u64], a: u64, b:
     ensures { λ r. ⌜ left (made r) (now (words .exit)) ≡ run (join a b) (now (words .entry)) ⌝ }
     ensures { λ _. ⌜ OpenStore (now (words .exit)) (now (index .exit)) (now (memory .exit)) ⌝ }
 {
-    opened::append(words, index, memory, Making::Join(a, b), &[], b"")
+    opened::make(words, index, memory, Making::Join(a, b))
 }
 
 // Whether every field that pointers and fields lead to is final.
@@ -78,5 +78,5 @@ pub fn make_ro(words: &mut [u64], index: &mut [u64], memory: &mut [u64], a: u64)
     ensures { λ r. ⌜ left (made r) (now (words .exit)) ≡ run (make_ro a) (now (words .entry)) ⌝ }
     ensures { λ _. ⌜ OpenStore (now (words .exit)) (now (index .exit)) (now (memory .exit)) ⌝ }
 {
-    opened::append(words, index, memory, Making::MakeRo(a), &[], b"")
+    opened::make(words, index, memory, Making::MakeRo(a))
 }

@@ -33,14 +33,7 @@ pub fn get_int(words: &mut [u64], index: &mut [u64], memory: &mut [u64], value: 
     ensures { λ r. ⌜ left (made r) (now (words .exit)) ≡ run (get_int value) (now (words .entry)) ⌝ }
     ensures { λ _. ⌜ OpenStore (now (words .exit)) (now (index .exit)) (now (memory .exit)) ⌝ }
 {
-    opened::append(
-        words,
-        index,
-        memory,
-        Making::MakeInt(value, value),
-        &[],
-        b"",
-    )
+    opened::make(words, index, memory, Making::MakeInt(value, value))
 }
 
 // The Int of a range, high ones included.
@@ -55,7 +48,7 @@ pub fn make_int(
     ensures { λ r. ⌜ left (made r) (now (words .exit)) ≡ run (make_int min max) (now (words .entry)) ⌝ }
     ensures { λ _. ⌜ OpenStore (now (words .exit)) (now (index .exit)) (now (memory .exit)) ⌝ }
 {
-    opened::append(words, index, memory, Making::MakeInt(min, max), &[], b"")
+    opened::make(words, index, memory, Making::MakeInt(min, max))
 }
 
 // The Float of a constant, by its bits.
@@ -64,7 +57,7 @@ pub fn get_float(words: &mut [u64], index: &mut [u64], memory: &mut [u64], bits:
     ensures { λ r. ⌜ left (made r) (now (words .exit)) ≡ run (get_float bits) (now (words .entry)) ⌝ }
     ensures { λ _. ⌜ OpenStore (now (words .exit)) (now (index .exit)) (now (memory .exit)) ⌝ }
 {
-    opened::append(words, index, memory, Making::MakeFloat(0, bits), &[], b"")
+    opened::make(words, index, memory, Making::MakeFloat(0, bits))
 }
 
 // The Float of a size, or of a constant (size 0), by its bits.
@@ -79,7 +72,7 @@ pub fn make_float(
     ensures { λ r. ⌜ left (made r) (now (words .exit)) ≡ run (make_float sz bits) (now (words .entry)) ⌝ }
     ensures { λ _. ⌜ OpenStore (now (words .exit)) (now (index .exit)) (now (memory .exit)) ⌝ }
 {
-    opened::append(words, index, memory, Making::MakeFloat(sz, bits), &[], b"")
+    opened::make(words, index, memory, Making::MakeFloat(sz, bits))
 }
 
 // A tuple of the types whose handles are lent.
@@ -146,7 +139,7 @@ pub fn make_struct_fref(words: &mut [u64], index: &mut [u64], memory: &mut [u64]
     ensures { λ r. ⌜ left (made r) (now (words .exit)) ≡ run (make_struct_fref name) (now (words .entry)) ⌝ }
     ensures { λ _. ⌜ OpenStore (now (words .exit)) (now (index .exit)) (now (memory .exit)) ⌝ }
 {
-    opened::append(words, index, memory, Making::MakeStructFref(name), &[], b"")
+    opened::make(words, index, memory, Making::MakeStructFref(name))
 }
 
 // A pointer to a struct or a forward reference; `nil` is a flag.
@@ -161,7 +154,7 @@ pub fn get_mem_ptr(
     ensures { λ r. ⌜ left (made r) (now (words .exit)) ≡ run (get_mem_ptr to nil) (now (words .entry)) ⌝ }
     ensures { λ _. ⌜ OpenStore (now (words .exit)) (now (index .exit)) (now (memory .exit)) ⌝ }
 {
-    opened::append(words, index, memory, Making::GetMemPtr(to, nil), &[], b"")
+    opened::make(words, index, memory, Making::GetMemPtr(to, nil))
 }
 
 // A memory of an alias and a type.
@@ -170,5 +163,5 @@ pub fn get_mem(words: &mut [u64], index: &mut [u64], memory: &mut [u64], alias: 
     ensures { λ r. ⌜ left (made r) (now (words .exit)) ≡ run (get_mem alias t) (now (words .entry)) ⌝ }
     ensures { λ _. ⌜ OpenStore (now (words .exit)) (now (index .exit)) (now (memory .exit)) ⌝ }
 {
-    opened::append(words, index, memory, Making::GetMem(alias, t), &[], b"")
+    opened::make(words, index, memory, Making::GetMem(alias, t))
 }

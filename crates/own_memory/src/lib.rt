@@ -44,7 +44,7 @@ fn operate(
     ensures { λ r. ⌜ KnowsAfter op (now (old .entry)) (now (new .exit)) r (now (known .exit)) ⌝ }
 {
     match op {
-        Operation::Meet(b) => meet::meet_type(old, new, used, a, b, memo, index),
+        Operation::Meet(b) => meet_types::meet_type(old, new, used, a, b, memo, index),
         Operation::Walk(walk) => walk::walk_type(walk, old, new, used, a, memo, index),
         Operation::MakeRo => make_ro::make_ro(old, new, used, a, memo, known, index),
         Operation::Join(b) => join::join(old, new, used, a, b, memo, index),

@@ -5,6 +5,7 @@ use call::Answer;
 use call::Made;
 use making::Making;
 ghost use mathlib.Core.Path.{_≡_};
+ghost use mathlib.Core.List.{[]};
 ghost use Prim.Native.Nat.{_*_, _≤_, min};
 ghost use lib.ListN.{length};
 ghost use Rattle.call.specs.Call.{left, made, told};
@@ -31,7 +32,6 @@ fn append_in(words: &mut [u64], bits: &mut [u64], making: Making, list: &[u64], 
     making::append(words, used, making, list, text, bits, &mut memory, &index)
 }
 
-// The list of a call that has none is empty, and so is its text.
 pub fn append(words: &mut [u64], making: Making, list: &[u64], text: &[u8]) -> Made
     ensures { λ r. ⌜ left (made r) (now (words .exit)) ≡ run (appended making (now (list .entry)) (now (text .entry))) (now (words .entry)) ⌝ }
 {
@@ -45,6 +45,13 @@ pub fn append(words: &mut [u64], making: Making, list: &[u64], text: &[u8]) -> M
     }
     let mut bits = [0u64; 16384];
     append_in(words, &mut bits, making, list, text)
+}
+
+// A call that has neither a list nor a text.
+pub fn make(words: &mut [u64], making: Making) -> Made
+    ensures { λ r. ⌜ left (made r) (now (words .exit)) ≡ run (appended making [] []) (now (words .entry)) ⌝ }
+{
+    append(words, making, &[], b"")
 }
 
 // ---- calls that read

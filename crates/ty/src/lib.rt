@@ -13,7 +13,7 @@ ghost use Rattle.every_call.specs.Run.{run, meet, isa, dual, glb, lub, join, is
 pub fn meet(words: &mut [u64], a: u64, b: u64) -> Made
     ensures { λ r. ⌜ left (made r) (now (words .exit)) ≡ run (meet a b) (now (words .entry)) ⌝ }
 {
-    plain::append(words, Making::Meet(a, b), &[], b"")
+    plain::make(words, Making::Meet(a, b))
 }
 
 // Whether b is above a: whether their meet would be b.
@@ -27,28 +27,28 @@ pub fn isa(words: &[u64], a: u64, b: u64) -> Answer
 pub fn dual(words: &mut [u64], a: u64) -> Made
     ensures { λ r. ⌜ left (made r) (now (words .exit)) ≡ run (dual a) (now (words .entry)) ⌝ }
 {
-    plain::append(words, Making::Walk(Walk::Dual, a), &[], b"")
+    plain::make(words, Making::Walk(Walk::Dual, a))
 }
 
 // A fixed lower type.
 pub fn glb(words: &mut [u64], a: u64) -> Made
     ensures { λ r. ⌜ left (made r) (now (words .exit)) ≡ run (glb a) (now (words .entry)) ⌝ }
 {
-    plain::append(words, Making::Walk(Walk::Glb, a), &[], b"")
+    plain::make(words, Making::Walk(Walk::Glb, a))
 }
 
 // A fixed upper type.
 pub fn lub(words: &mut [u64], a: u64) -> Made
     ensures { λ r. ⌜ left (made r) (now (words .exit)) ≡ run (lub a) (now (words .entry)) ⌝ }
 {
-    plain::append(words, Making::Walk(Walk::Lub, a), &[], b"")
+    plain::make(words, Making::Walk(Walk::Lub, a))
 }
 
 // The highest type below both.
 pub fn join(words: &mut [u64], a: u64, b: u64) -> Made
     ensures { λ r. ⌜ left (made r) (now (words .exit)) ≡ run (join a b) (now (words .entry)) ⌝ }
 {
-    plain::append(words, Making::Join(a, b), &[], b"")
+    plain::make(words, Making::Join(a, b))
 }
 
 // Whether every field that pointers and fields lead to is final.
@@ -62,5 +62,5 @@ pub fn is_final(words: &[u64], a: u64) -> Answer
 pub fn make_ro(words: &mut [u64], a: u64) -> Made
     ensures { λ r. ⌜ left (made r) (now (words .exit)) ≡ run (make_ro a) (now (words .entry)) ⌝ }
 {
-    plain::append(words, Making::MakeRo(a), &[], b"")
+    plain::make(words, Making::MakeRo(a))
 }

@@ -36,28 +36,28 @@ pub fn get_bool(words: &[u64], value: u64) -> Answer
 pub fn get_int(words: &mut [u64], value: u64) -> Made
     ensures { λ r. ⌜ left (made r) (now (words .exit)) ≡ run (get_int value) (now (words .entry)) ⌝ }
 {
-    plain::append(words, Making::MakeInt(value, value), &[], b"")
+    plain::make(words, Making::MakeInt(value, value))
 }
 
 // The Int of a range, high ones included.
 pub fn make_int(words: &mut [u64], min: u64, max: u64) -> Made
     ensures { λ r. ⌜ left (made r) (now (words .exit)) ≡ run (make_int min max) (now (words .entry)) ⌝ }
 {
-    plain::append(words, Making::MakeInt(min, max), &[], b"")
+    plain::make(words, Making::MakeInt(min, max))
 }
 
 // The Float of a constant, by its bits.
 pub fn get_float(words: &mut [u64], bits: u64) -> Made
     ensures { λ r. ⌜ left (made r) (now (words .exit)) ≡ run (get_float bits) (now (words .entry)) ⌝ }
 {
-    plain::append(words, Making::MakeFloat(0, bits), &[], b"")
+    plain::make(words, Making::MakeFloat(0, bits))
 }
 
 // The Float of a size, or of a constant (size 0), by its bits.
 pub fn make_float(words: &mut [u64], sz: u64, bits: u64) -> Made
     ensures { λ r. ⌜ left (made r) (now (words .exit)) ≡ run (make_float sz bits) (now (words .entry)) ⌝ }
 {
-    plain::append(words, Making::MakeFloat(sz, bits), &[], b"")
+    plain::make(words, Making::MakeFloat(sz, bits))
 }
 
 // A tuple of the types whose handles are lent.
@@ -104,19 +104,19 @@ pub fn make_ary(
 pub fn make_struct_fref(words: &mut [u64], name: u64) -> Made
     ensures { λ r. ⌜ left (made r) (now (words .exit)) ≡ run (make_struct_fref name) (now (words .entry)) ⌝ }
 {
-    plain::append(words, Making::MakeStructFref(name), &[], b"")
+    plain::make(words, Making::MakeStructFref(name))
 }
 
 // A pointer to a struct or a forward reference; `nil` is a flag.
 pub fn get_mem_ptr(words: &mut [u64], to: u64, nil: u64) -> Made
     ensures { λ r. ⌜ left (made r) (now (words .exit)) ≡ run (get_mem_ptr to nil) (now (words .entry)) ⌝ }
 {
-    plain::append(words, Making::GetMemPtr(to, nil), &[], b"")
+    plain::make(words, Making::GetMemPtr(to, nil))
 }
 
 // A memory of an alias and a type.
 pub fn get_mem(words: &mut [u64], alias: u64, t: u64) -> Made
     ensures { λ r. ⌜ left (made r) (now (words .exit)) ≡ run (get_mem alias t) (now (words .entry)) ⌝ }
 {
-    plain::append(words, Making::GetMem(alias, t), &[], b"")
+    plain::make(words, Making::GetMem(alias, t))
 }

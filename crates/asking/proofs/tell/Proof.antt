@@ -3,7 +3,7 @@ use mathlib.Core.Path.{ap}
 use Prim.Native.Nat.{suc}
 use native.Mathlib.Omega.{arith}
 use Rattle.call.specs.Call.{handle, number, flag}
-use Rattle.making.proofs.Cleared.{ready-one, ready-two}
+use Rattle.every_call.proofs.Cleared.{ready-one, ready-two}
 use Rattle.asking.proofs.As.{as-cleared, as-answer}
 use borrow.Author.Needs.{needs}
 use Rattle.asking.proofs.tell.Statement.{statement}

@@ -1,6 +1,7 @@
 -- `making::operate` meets its contract: each arm is the operation of its call.
 use mathlib.Core.Path.{refl}
-use Rattle.making.proofs.Cleared.{segments, ready-one, ready-two, float-fine, str-fine, tuple-fine, struct-fine, array-fine}
+use Rattle.every_call.proofs.Cleared.{segments, ready-one, ready-two}
+use Rattle.making.proofs.Fine.{float-fine, str-fine, tuple-fine, struct-fine, array-fine}
 use Rattle.making.proofs.Values.{plain-name}
 use Rattle.making.proofs.As.{as-cleared, words-typed, bytes-typed, walk-typed}
 use Rattle.making.proofs.Arms.{made-arm, answered-arm}

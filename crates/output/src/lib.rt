@@ -1,0 +1,143 @@
+// What the program writes: gathered in a buffer, which is written out when it is full.
+ghost use Prim.Native.Nat.{_≤_};
+ghost use lib.ListN.{length};
+use libc::STDOUT_FILENO;
+use replies::Reply;
+
+// Puts a reply into the buffer, of which `used` bytes are in use, and answers how many are then.
+pub fn put(
+    out: &mut [u8],
+    used: usize,
+    reply: Reply,
+    line: &[u8],
+    words: &[u64],
+    output: &[u64],
+) -> usize
+    requires { ⌜ used ≤ length (now out) ⌝ }
+    ensures { λ r. ⌜ r ≤ length (now (out .exit)) ⌝ }
+{
+    match reply {
+        Reply::Nothing => used,
+        Reply::Short(answer) => put_answer(out, used, answer),
+        Reply::Used => put_words(out, used, &words[0..counted(words)]),
+        Reply::All => put_words(out, used, words),
+        Reply::Output(n, k) => put_output(out, used, n, &output[0..least(k, output.len())]),
+        Reply::Malformed => echo(out, used, &line[0..script::cut(line)]),
+    }
+}
+
+// Adds text to the buffer, which is written out first where the text does not fit behind it.
+fn add(out: &mut [u8], used: usize, text: &[u8]) -> usize
+    requires { ⌜ used ≤ length (now out) ⌝ }
+    ensures { λ r. ⌜ r ≤ length (now (out .exit)) ⌝ }
+{
+    if text.len() <= out.len() - used {
+        return used + bytes::copy(text, &mut out[used..]);
+    }
+    flush(out, used);
+    if text.len() <= out.len() {
+        return bytes::copy(text, out);
+    }
+    io::write_all(STDOUT_FILENO, text);
+    0
+}
+
+// Writes out the bytes of the buffer that are in use.
+pub fn flush(out: &[u8], used: usize)
+    requires { ⌜ used ≤ length (now out) ⌝ }
+{
+    io::write_all(STDOUT_FILENO, &out[0..used]);
+}
+
+// A line that is no call, after a question mark.
+pub fn echo(out: &mut [u8], used: usize, line: &[u8]) -> usize
+    requires { ⌜ used ≤ length (now out) ⌝ }
+    ensures { λ r. ⌜ r ≤ length (now (out .exit)) ⌝ }
+{
+    let mark = add(out, used, b"? ");
+    let end = add(out, mark, line);
+    end_line(out, end)
+}
+
+fn put_answer(out: &mut [u8], used: usize, answer: script::Answer) -> usize
+    requires { ⌜ used ≤ length (now out) ⌝ }
+    ensures { λ r. ⌜ r ≤ length (now (out .exit)) ⌝ }
+{
+    let mut text = [0u8; 32];
+    let n = script::spell(answer, &mut text);
+    add(out, used, &text[0..n])
+}
+
+// A count and the output behind it, each word after a space.
+fn put_output(out: &mut [u8], used: usize, n: u64, output: &[u64]) -> usize
+    requires { ⌜ used ≤ length (now out) ⌝ }
+    ensures { λ r. ⌜ r ≤ length (now (out .exit)) ⌝ }
+{
+    let count = put_number(out, used, n);
+    let mark = add(out, count, b" :");
+    if output.len() == 0 {
+        return end_line(out, mark);
+    }
+    let space = put_space(out, mark);
+    put_words(out, space, output)
+}
+
+// Words on a line, one space between two.
+fn put_words(out: &mut [u8], used: usize, words: &[u64]) -> usize
+    requires { ⌜ used ≤ length (now out) ⌝ }
+    ensures { λ r. ⌜ r ≤ length (now (out .exit)) ⌝ }
+{
+    if words.len() == 0 {
+        return end_line(out, used);
+    }
+    let mut end = put_number(out, used, words[0]);
+    let mut i: usize = 1;
+    while i < words.len() {
+        let space = put_space(out, end);
+        end = put_number(out, space, words[i]);
+        i += 1;
+    }
+    end_line(out, end)
+}
+
+fn put_space(out: &mut [u8], used: usize) -> usize
+    requires { ⌜ used ≤ length (now out) ⌝ }
+    ensures { λ r. ⌜ r ≤ length (now (out .exit)) ⌝ }
+{
+    add(out, used, b" ")
+}
+
+fn end_line(out: &mut [u8], used: usize) -> usize
+    requires { ⌜ used ≤ length (now out) ⌝ }
+    ensures { λ r. ⌜ r ≤ length (now (out .exit)) ⌝ }
+{
+    add(out, used, b"\n")
+}
+
+fn put_number(out: &mut [u8], used: usize, n: u64) -> usize
+    requires { ⌜ used ≤ length (now out) ⌝ }
+    ensures { λ r. ⌜ r ≤ length (now (out .exit)) ⌝ }
+{
+    let mut text = [0u8; 20];
+    let k = io::decimal(n, &mut text);
+    add(out, used, &text[0..k])
+}
+
+// How many words of a list are in use: what its first word says, and no more than it has.
+fn counted(words: &[u64]) -> usize
+    ensures { λ r. ⌜ r ≤ length (now (words .entry)) ⌝ }
+{
+    if words.len() == 0 {
+        return 0;
+    }
+    if words[0] < words.len() as u64 {
+        return words[0] as usize;
+    }
+    words.len()
+}
+
+fn least(a: usize, b: usize) -> usize
+    ensures { λ r. ⌜ r ≤ b ⌝ }
+{
+    if a < b { a } else { b }
+}
