@@ -110,15 +110,6 @@ pub fn opened_append(
     of_made(opened::append(words, index, memory, making, &*list, &*text))
 }
 
-// A call that has neither a list nor a text.
-pub fn opened_make(words: &mut [u64], index: &mut [u64], memory: &mut [u64], making: Making) -> u64
-    requires { ⌜ OpenStore (now words) (now index) (now memory) ⌝ }
-    ensures { λ r. ⌜ Coded (run (appended making [] []) (now (words .entry))) r (now (words .exit)) ⌝ }
-    ensures { λ _. ⌜ OpenStore (now (words .exit)) (now (index .exit)) (now (memory .exit)) ⌝ }
-{
-    opened_append(words, index, memory, making, &[], b"")
-}
-
 pub fn opened_ask(words: &[u64], index: &[u64], memory: &mut [u64], asking: Asking) -> u64
     requires { ⌜ OpenStore (now words) (now index) (now memory) ⌝ }
     ensures { λ r. ⌜ Coded (run (asked asking) (now (words .entry))) r (now (words .entry)) ⌝ }

@@ -238,7 +238,14 @@ pub extern "C" fn ferigulan_opened_get_int(
     ensures { λ r. ⌜ Coded (run (get_int value) (now (words .entry))) r (now (words .exit)) ⌝ }
     ensures { λ _. ⌜ OpenStore (now (words .exit)) (now (index .exit)) (now (memory .exit)) ⌝ }
 {
-    codes::opened_make(words, index, memory, Making::MakeInt(value, value))
+    codes::opened_append(
+        words,
+        index,
+        memory,
+        Making::MakeInt(value, value),
+        &[],
+        b"",
+    )
 }
 
 #[no_mangle]
@@ -253,7 +260,7 @@ pub extern "C" fn ferigulan_opened_make_int(
     ensures { λ r. ⌜ Coded (run (make_int min max) (now (words .entry))) r (now (words .exit)) ⌝ }
     ensures { λ _. ⌜ OpenStore (now (words .exit)) (now (index .exit)) (now (memory .exit)) ⌝ }
 {
-    codes::opened_make(words, index, memory, Making::MakeInt(min, max))
+    codes::opened_append(words, index, memory, Making::MakeInt(min, max), &[], b"")
 }
 
 #[no_mangle]
@@ -267,7 +274,7 @@ pub extern "C" fn ferigulan_opened_get_float(
     ensures { λ r. ⌜ Coded (run (get_float bits) (now (words .entry))) r (now (words .exit)) ⌝ }
     ensures { λ _. ⌜ OpenStore (now (words .exit)) (now (index .exit)) (now (memory .exit)) ⌝ }
 {
-    codes::opened_make(words, index, memory, Making::MakeFloat(0, bits))
+    codes::opened_append(words, index, memory, Making::MakeFloat(0, bits), &[], b"")
 }
 
 #[no_mangle]
@@ -282,7 +289,7 @@ pub extern "C" fn ferigulan_opened_make_float(
     ensures { λ r. ⌜ Coded (run (make_float sz bits) (now (words .entry))) r (now (words .exit)) ⌝ }
     ensures { λ _. ⌜ OpenStore (now (words .exit)) (now (index .exit)) (now (memory .exit)) ⌝ }
 {
-    codes::opened_make(words, index, memory, Making::MakeFloat(sz, bits))
+    codes::opened_append(words, index, memory, Making::MakeFloat(sz, bits), &[], b"")
 }
 
 #[no_mangle]
@@ -364,7 +371,7 @@ pub extern "C" fn ferigulan_opened_make_struct_fref(
     ensures { λ r. ⌜ Coded (run (make_struct_fref name) (now (words .entry))) r (now (words .exit)) ⌝ }
     ensures { λ _. ⌜ OpenStore (now (words .exit)) (now (index .exit)) (now (memory .exit)) ⌝ }
 {
-    codes::opened_make(words, index, memory, Making::MakeStructFref(name))
+    codes::opened_append(words, index, memory, Making::MakeStructFref(name), &[], b"")
 }
 
 #[no_mangle]
@@ -379,7 +386,7 @@ pub extern "C" fn ferigulan_opened_get_mem_ptr(
     ensures { λ r. ⌜ Coded (run (get_mem_ptr to nil) (now (words .entry))) r (now (words .exit)) ⌝ }
     ensures { λ _. ⌜ OpenStore (now (words .exit)) (now (index .exit)) (now (memory .exit)) ⌝ }
 {
-    codes::opened_make(words, index, memory, Making::GetMemPtr(to, nil))
+    codes::opened_append(words, index, memory, Making::GetMemPtr(to, nil), &[], b"")
 }
 
 #[no_mangle]
@@ -394,7 +401,7 @@ pub extern "C" fn ferigulan_opened_get_mem(
     ensures { λ r. ⌜ Coded (run (get_mem alias t) (now (words .entry))) r (now (words .exit)) ⌝ }
     ensures { λ _. ⌜ OpenStore (now (words .exit)) (now (index .exit)) (now (memory .exit)) ⌝ }
 {
-    codes::opened_make(words, index, memory, Making::GetMem(alias, t))
+    codes::opened_append(words, index, memory, Making::GetMem(alias, t), &[], b"")
 }
 
 #[no_mangle]
@@ -409,7 +416,7 @@ pub extern "C" fn ferigulan_opened_meet(
     ensures { λ r. ⌜ Coded (run (meet a b) (now (words .entry))) r (now (words .exit)) ⌝ }
     ensures { λ _. ⌜ OpenStore (now (words .exit)) (now (index .exit)) (now (memory .exit)) ⌝ }
 {
-    codes::opened_make(words, index, memory, Making::Meet(a, b))
+    codes::opened_append(words, index, memory, Making::Meet(a, b), &[], b"")
 }
 
 #[no_mangle]
@@ -438,7 +445,7 @@ pub extern "C" fn ferigulan_opened_dual(
     ensures { λ r. ⌜ Coded (run (dual a) (now (words .entry))) r (now (words .exit)) ⌝ }
     ensures { λ _. ⌜ OpenStore (now (words .exit)) (now (index .exit)) (now (memory .exit)) ⌝ }
 {
-    codes::opened_make(words, index, memory, Making::Walk(Walk::Dual, a))
+    codes::opened_append(words, index, memory, Making::Walk(Walk::Dual, a), &[], b"")
 }
 
 #[no_mangle]
@@ -453,7 +460,7 @@ pub extern "C" fn ferigulan_opened_join(
     ensures { λ r. ⌜ Coded (run (join a b) (now (words .entry))) r (now (words .exit)) ⌝ }
     ensures { λ _. ⌜ OpenStore (now (words .exit)) (now (index .exit)) (now (memory .exit)) ⌝ }
 {
-    codes::opened_make(words, index, memory, Making::Join(a, b))
+    codes::opened_append(words, index, memory, Making::Join(a, b), &[], b"")
 }
 
 #[no_mangle]
@@ -467,7 +474,7 @@ pub extern "C" fn ferigulan_opened_glb(
     ensures { λ r. ⌜ Coded (run (glb a) (now (words .entry))) r (now (words .exit)) ⌝ }
     ensures { λ _. ⌜ OpenStore (now (words .exit)) (now (index .exit)) (now (memory .exit)) ⌝ }
 {
-    codes::opened_make(words, index, memory, Making::Walk(Walk::Glb, a))
+    codes::opened_append(words, index, memory, Making::Walk(Walk::Glb, a), &[], b"")
 }
 
 #[no_mangle]
@@ -481,7 +488,7 @@ pub extern "C" fn ferigulan_opened_lub(
     ensures { λ r. ⌜ Coded (run (lub a) (now (words .entry))) r (now (words .exit)) ⌝ }
     ensures { λ _. ⌜ OpenStore (now (words .exit)) (now (index .exit)) (now (memory .exit)) ⌝ }
 {
-    codes::opened_make(words, index, memory, Making::Walk(Walk::Lub, a))
+    codes::opened_append(words, index, memory, Making::Walk(Walk::Lub, a), &[], b"")
 }
 
 #[no_mangle]
@@ -509,5 +516,5 @@ pub extern "C" fn ferigulan_opened_make_ro(
     ensures { λ r. ⌜ Coded (run (make_ro a) (now (words .entry))) r (now (words .exit)) ⌝ }
     ensures { λ _. ⌜ OpenStore (now (words .exit)) (now (index .exit)) (now (memory .exit)) ⌝ }
 {
-    codes::opened_make(words, index, memory, Making::MakeRo(a))
+    codes::opened_append(words, index, memory, Making::MakeRo(a), &[], b"")
 }
