@@ -28,6 +28,29 @@ wider w b k h small =
     let q : 2 ^ (8 * suc k) ≡ 256 * 2 ^ (8 * k) = ap (λ (m : ℕ). 2 ^ m) n ∙ pow-add 2 8 (8 * k) in
     omega arith
 
+-- the first four bytes and the others
+lead : (t : List ℕ) (k i : ℕ) → number (take (suc (suc (suc (suc k)))) (drop i t)) ≡ getD t i 0 + 256 * getD t (suc i) 0 + 65536 * getD t (suc (suc i)) 0 + 16777216 * getD t (suc (suc (suc i))) 0 + 4294967296 * number (take k (drop (suc (suc (suc (suc i)))) t))
+lead t k i = omega (arith, step t (suc (suc (suc k))) i, step t (suc (suc k)) (suc i), step t (suc k) (suc (suc i)), step t k (suc (suc (suc i))))
+
+module _ (t : List ℕ) (at : ℕ) where
+  pub four-bytes : (a b c d : ℕ) → a ≡ getD t at 0 → b ≡ getD t (at + 1) 0 → c ≡ getD t (at + 2) 0 → d ≡ getD t (at + 3) 0 → a + 256 * b + 65536 * (c + 256 * d) ≡ number (take 4 (drop at t))
+  unfolding number
+  four-bytes a b c d pa pb pc pd =
+      let same : (m n : ℕ) → m ≡ n → getD t m 0 ≡ getD t n 0 = λ m n e. ap (λ (i : ℕ). getD t i 0) e in
+      let qb : getD t (at + 1) 0 ≡ getD t (suc at) 0 = same _ _ (omega arith) in
+      let qc : getD t (at + 2) 0 ≡ getD t (suc (suc at)) 0 = same _ _ (omega arith) in
+      let qd : getD t (at + 3) 0 ≡ getD t (suc (suc (suc at))) 0 = same _ _ (omega arith) in
+      let z : number (take 0 (drop (suc (suc (suc (suc at)))) t)) ≡ 0 = refl in
+      omega (arith, lead t 0 at)
+
+  pub eight-bytes : (x y : ℕ) → x ≡ number (take 4 (drop at t)) → y ≡ number (take 4 (drop (at + 4) t)) → x + 4294967296 * y ≡ number (take 8 (drop at t))
+  unfolding number
+  eight-bytes x y px py =
+      let z : number (take 0 (drop (suc (suc (suc (suc at)))) t)) ≡ 0 = refl in
+      let e : at + 4 ≡ suc (suc (suc (suc at))) = omega arith in
+      let q : number (take 4 (drop (at + 4) t)) ≡ number (take 4 (drop (suc (suc (suc (suc at)))) t)) = ap (λ (i : ℕ). number (take 4 (drop i t))) e in
+      omega (arith, lead t 0 at, lead t 4 at)
+
 -- the bytes of a list are below 256, so its number is below the power for its length
 pub number-below : (bs : List ℕ) → ((i : ℕ) → getD bs i 0 < 256) → number bs < 2 ^ (8 * length bs)
 unfolding number

@@ -58,11 +58,34 @@ fn byte_at(text: &[u8], wrap: bool, i: usize) -> u64
     text_at(&*text, i - 1)
 }
 
+// Four bytes of a text that has them, from a position on, as a number.
+fn four(text: &[u8], at: usize) -> u64
+    requires { ⌜ at + 4 ≤ length (now text) ⌝ }
+    ensures { λ r. ⌜ (r ≡ number (take 4 (drop at (now (text .entry))))) × (r < 4294967296) ⌝ }
+{
+    let low = wide(text[at]) + 256 * wide(text[at + 1]);
+    let high = wide(text[at + 2]) + 256 * wide(text[at + 3]);
+    low + 65536 * high
+}
+
+// The same for eight bytes. They are written out and not counted, so that a processor reads them as one word.
+fn eight(text: &[u8], at: usize) -> u64
+    requires { ⌜ at + 8 ≤ length (now text) ⌝ }
+    ensures { λ r. ⌜ r ≡ number (take 8 (drop at (now (text .entry)))) ⌝ }
+{
+    four(&*text, at) + 4294967296 * four(&*text, at + 4)
+}
+
 // Eight bytes of a name, from a position on, as a word.
 fn name_word(text: &[u8], wrap: bool, at: usize) -> u64
     requires { ⌜ at ≤ 65536 ⌝ }
     ensures { λ r. ⌜ r ≡ number (take 8 (drop at (wrapped wrap (now (text .entry))))) ⌝ }
 {
+    if !wrap {
+        if at + 8 <= text.len() {
+            return eight(&*text, at);
+        }
+    }
     let mut w: u64 = 0;
     let mut j = 8;
     while 0 < j {

@@ -6,6 +6,7 @@ use native.Mathlib.Omega.{arith}
 use lib.ListN.{take, drop}
 use Rattle.names.specs.Name.{number, wrapped}
 use Rattle.names.proofs.Number.{room, wider-by-one, one-more, all-eight}
+use Rattle.names.proofs.Bytes.{plain-word}
 use Rattle.names.proofs.name_word.Statement.{statement}
 use Rattle.names.proofs.name_word.Tie as tie
 
@@ -14,6 +15,15 @@ Inv-loop text wrap at w₀ j₀ w j = (j ≤ 8) × (w < 2 ^ (8 * (8 - j))) × (w
 
 abbrev μ-loop : tie.MeasureT-loop
 μ-loop text wrap at w₀ j₀ w j = j
+
+add-if2 : tie.Need-add-if2 Inv-loop μ-loop
+add-if2 c = search needs
+
+eight-requires : tie.Need-eight-requires Inv-loop μ-loop
+eight-requires c κs = search needs
+
+returns : tie.Need-returns Inv-loop μ-loop
+returns c = search plain-word
 
 loop-holds : tie.Need-loop-holds Inv-loop μ-loop
 unfolding number
@@ -44,8 +54,8 @@ loop-less c = search needs
 loop-again : tie.Need-loop-again Inv-loop μ-loop
 loop-again c = (search needs, search wider-by-one, search one-more)
 
-returns : tie.Need-returns Inv-loop μ-loop
-returns c = search all-eight
+returns-2 : tie.Need-returns-2 Inv-loop μ-loop
+returns-2 c = search all-eight
 
 pub name-word-spec : {M : Type 1} → statement M
 name-word-spec =
@@ -53,6 +63,9 @@ name-word-spec =
     (tie.spec
     Inv-loop
     μ-loop
+    add-if2
+    eight-requires
+    returns
     loop-holds
     sub-j
     add-byte-at
@@ -61,4 +74,4 @@ name-word-spec =
     add-w
     loop-less
     loop-again
-    returns)
+    returns-2)
