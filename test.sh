@@ -4,6 +4,6 @@
 cd "$(dirname "$0")" || exit 2
 rt fmt --check || { echo "test.sh: run 'rt fmt'" >&2; exit 1; }
 sh tests/join.sh --check || exit 1
-# Six checks at a time, also where there are two processors: rt waits for a whole batch, and one that takes longer than the others would leave processors idle. Each takes
+# Four checks at a time, also where there are two processors: rt waits for a whole batch, and one that takes longer than the others would leave processors idle. Each takes
 # up to 2.4 GB of memory: RT_JOBS=2 sh test.sh where there is less.
-RT_JOBS=${RT_JOBS:-6} exec rt ci
+RT_JOBS=${RT_JOBS:-4} exec rt ci
