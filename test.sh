@@ -4,6 +4,17 @@
 cd "$(dirname "$0")" || exit 2
 rt fmt --check || { echo "test.sh: run 'rt fmt'" >&2; exit 1; }
 sh tests/join.sh --check || exit 1
+# The prover writes thousands of small files in each check, some 500 MB, and removes them: three seconds on a disk, half a second in memory. So they go to
+# memory where there is room for them and programs can be run from it (rt runs `calls` from such a folder).
+in_memory() {
+    [ -z "${TMPDIR:-}" ] && [ -d /dev/shm ] && [ "$(df -Pk /dev/shm | awk 'NR == 2 { print $4 }')" -ge 4000000 ] || return 1
+    probe=$(mktemp /dev/shm/probe.XXXXXX) || return 1
+    cp "$(command -v env)" "$probe" && chmod 755 "$probe" && "$probe" true
+    runs=$?
+    rm -f "$probe"
+    return "$runs"
+}
+if in_memory 2>/dev/null; then TMPDIR=/dev/shm && export TMPDIR; fi
 # Four checks at a time, also where there are two processors: rt waits for a whole batch, and one that takes longer than the others would leave processors idle. Each takes
 # up to 2.4 GB of memory: RT_JOBS=2 sh test.sh where there is less.
 RT_JOBS=${RT_JOBS:-4} exec rt ci
