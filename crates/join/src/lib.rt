@@ -24,7 +24,7 @@ fn dual_of_meet(
     ensures { λ r. ⌜ Runs (λ u. dualOfMeet u a b) (now (old .entry)) (now (new .entry)) used (now (new .exit)) r ⌝ }
     ensures { λ r. ⌜ Remembered (now (old .entry)) (now (new .exit)) r (now (memory .exit)) ⌝ }
 {
-    let k = memory.len() / 2;
+    let k = memory.len() / 2; // the first half is the duals', the second the meets'
     let m = meet_types::meet_type(&*old, new, used, a, b, &mut memory[k..2 * k], &*index);
     match m {
         Interned::At(h, v) => walk::walk_type(
