@@ -5,8 +5,8 @@ use Prim.Native.Nat.{ℕ, _≤_}
 use native.Mathlib.Omega.{arith}
 use lib.ListN.{length, take, length-append, take-append-drop}
 use lib.Seq.{length-take-le}
-use Rattle.words.specs.Table.{Sized}
-use Rattle.words.specs.Made.{Grown, make, Segments, Ran, Runs}
+use Rattle.words.specs.Ran.{HasSize, Segments, Ran, Runs}
+use Rattle.words.specs.Made.{Grown, make}
 use Rattle.words.specs.declared.Interned.{Interned}
 use Rattle.words.specs.declared.Interned.the-variants.{At, Full}
 use Rattle.words.proofs.Extend.{ext-length}
@@ -53,7 +53,7 @@ module _ {old new : List ℕ} {used : ℕ} {g : Grown} {now : List ℕ} {h v : �
       then g (old ++ new) (old ++ now) h v (so .fits) used (so .keeps .ext) low g₂ (old ++ now₂) r (make-extends (g .words) (e (g .words))) two
 
   -- where it fitted, the next may begin
-  pub next : (e now₂ : List ℕ) {r : Interned} {h₂ v₂ : ℕ} → Sized e → Runs (λ u. make u e) old now v now₂ r → r ≡ At h₂ v₂ → Reached old new used (make (g .words) e) now₂ h₂ v₂
+  pub next : (e now₂ : List ℕ) {r : Interned} {h₂ v₂ : ℕ} → HasSize e → Runs (λ u. make u e) old now v now₂ r → r ≡ At h₂ v₂ → Reached old new used (make (g .words) e) now₂ h₂ v₂
   next e now₂ {r} {h₂} {v₂} sized ran is =
       let u = take used (old ++ new) in
       let g₂ = make (g .words) e in

@@ -5,13 +5,16 @@ use mathlib.Core.List.{List, [], _∷_, _++_}
 use Prim.Native.Nat.{ℕ, _≤_}
 use borrow.Author.Tests.{le-leb}
 use lib.ListN.{take}
-use Rattle.words.specs.Made.{Grown, make, Segments, Ran, Runs}
+use Rattle.words.specs.Made.{Grown, make}
+use Rattle.words.specs.Ran.{Segments, Ran, Runs}
 use Rattle.words.specs.declared.Interned.{Interned}
 use Rattle.words.specs.declared.Interned.the-variants.{At, Full}
-use Rattle.wellformed.specs.Entry.{every, all}
+use Rattle.wellformed.specs.Entry.{all}
+use Rattle.words.specs.Columns.{every}
 use Rattle.names.specs.Name.{nameEntry, wrapped}
 use Rattle.names.proofs.NameEntry.{name-sized}
-use Rattle.makers.specs.Entries.{ValuesFit, structEntry}
+use Rattle.makers.specs.Entries.{structEntry}
+use Rattle.makers.specs.Fit.{ValuesFit}
 use Rattle.makers.specs.Makers.{lengthName, bodyName, makeAry}
 use Rattle.arrays.proofs.Chain.{Reached, start, more, next, still}
 

@@ -1,11 +1,12 @@
 // The maker of array types, on a store that row 1 has passed. It makes four entries in a row, and leaves word 0 to the call.
 use words::Interned;
-ghost use Prim.Native.Nat.{_≤_};
+ghost use Prim.Native.Nat.{_+_, _≤_};
 ghost use mathlib.Core.List.{_++_};
 ghost use lib.ListN.{length, take};
 ghost use Rattle.index.specs.Covers.{Covers};
-ghost use Rattle.words.specs.Made.{Segments, Runs};
+ghost use Rattle.words.specs.Ran.{Segments, Runs};
 ghost use Rattle.makers.specs.Makers.{makeAry};
+ghost use Rattle.wellformed.specs.Entry.{mostCounted, largestAlias};
 
 // "wraps the lent text in brackets (255 bytes in all); fields "#" (final) and "[]" (not final)". Where a name finds no room there is no
 // next, and all four together do not fit either.
@@ -21,7 +22,7 @@ pub fn array(
     index: &[u64],
 ) -> Interned
     requires { ⌜ Segments (now old) (now new) used ⌝ }
-    requires { ⌜ (length (now text) ≤ 253) × («len_alias» ≤ 4294967295) × («body_alias» ≤ 4294967295) ⌝ }
+    requires { ⌜ (2 + length (now text) ≤ mostCounted) × («len_alias» ≤ largestAlias) × («body_alias» ≤ largestAlias) ⌝ }
     requires { ⌜ Covers (take used (now old ++ now new)) (now index) ⌝ }
     ensures { λ r. ⌜ Runs (makeAry len «len_alias» body «body_alias» (now (text .entry))) (now (old .entry)) (now (new .entry)) used (now (new .exit)) r ⌝ }
 {

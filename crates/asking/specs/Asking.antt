@@ -6,12 +6,14 @@ use Prim.Native.Nat.{ℕ}
 use lib.Dec.{eqb}
 use Rattle.wellformed.specs.Entry.{isFlag}
 use Rattle.call.specs.Call.{Reply, handle, number, flag, _when_}
-use Rattle.call.specs.Handles.{kindOn, typesRows}
+use Rattle.call.specs.Handles.{typesRows}
+use Rattle.words.specs.Columns.{kindOn}
 use Rattle.meet.specs.Meet.{isaOf}
 use Rattle.finals.specs.Final.{isFinalOf}
 use Rattle.every_call.specs.Run as Run
 use Rattle.asking.specs.declared.Asking.{Asking}
 use Rattle.asking.specs.declared.Asking.the-variants as Asking-variants
+use Rattle.wellformed.specs.FreshHandles.{intZero, intOne}
 
 -- the call that a value is
 abbrev pub asked : Asking → Run.Call
@@ -30,6 +32,6 @@ rowsOf (Asking-variants.IsFinal a) = typesRows (a ∷ [])
 -- its answer
 abbrev pub answerOf : Asking → List ℕ → Reply
 answerOf (Asking-variants.Kind h) = λ u. number (kindOn u h)
-answerOf (Asking-variants.GetBool value) = λ u. handle (cond (eqb value 0) 9 12)
+answerOf (Asking-variants.GetBool value) = λ u. handle (cond (eqb value 0) intZero intOne)
 answerOf (Asking-variants.Isa a b) = λ u. flag (isaOf u a b)
 answerOf (Asking-variants.IsFinal a) = λ u. flag (isFinalOf u a)

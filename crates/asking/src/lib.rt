@@ -8,10 +8,11 @@ ghost use lib.ListN.{take};
 ghost use Rattle.index.specs.Covers.{Covers};
 ghost use Rattle.wellformed.specs.Entry.{isFlag};
 ghost use Rattle.call.specs.Call.{told, _when_};
-ghost use Rattle.call.specs.Steps.{Open};
+ghost use Rattle.call.specs.Steps.{Marked};
 ghost use Rattle.lent_memory.specs.Memory.{Right};
 ghost use Rattle.every_call.specs.Cleared.{Cleared};
 ghost use Rattle.asking.specs.Asking.{rowsOf, answerOf};
+ghost use Rattle.wellformed.specs.FreshHandles.{intZero, intOne};
 
 pub enum Asking {
     Kind(u64),
@@ -24,7 +25,7 @@ pub enum Asking {
 
 // The number of the first row that applies, or 0.
 pub fn rows_of(words: &[u64], used: usize, bits: &[u64], asking: Asking) -> u8
-    requires { ⌜ Open (now words) (now bits) used ⌝ }
+    requires { ⌜ Marked (now words) (now bits) used ⌝ }
     ensures { λ r. ⌜ r ≡ rowsOf asking (take used (now (words .entry))) ⌝ }
 {
     match asking {
@@ -38,12 +39,12 @@ pub fn rows_of(words: &[u64], used: usize, bits: &[u64], asking: Asking) -> u8
 // ---- answers
 
 fn bool_at(value: u64) -> u64
-    ensures { λ r. ⌜ r ≡ cond (eqb value 0) 9 12 ⌝ }
+    ensures { λ r. ⌜ r ≡ cond (eqb value 0) intZero intOne ⌝ }
 {
     if value == 0 {
-        return 9;
+        return words::fresh::INT_ZERO as u64;
     }
-    12
+    words::fresh::INT_ONE as u64
 }
 
 // The answer of a call that no row turns back. `scratch` may hold anything; `memory` and `index` may have no words.

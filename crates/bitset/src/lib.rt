@@ -2,14 +2,17 @@
 ghost use mathlib.Core.Path.{_≡_};
 ghost use Prim.Native.Nat.{_+_, _<_, _/_};
 ghost use lib.ListN.{length};
-ghost use Rattle.bitset.specs.Bitset.{bitAt, also, nowhere};
+ghost use Rattle.bitset.specs.Bitset.{wordBits, bitAt, also, nowhere};
+
+// A word has 64 bits.
+pub const WORD_BITS: usize = 64;
 
 pub fn marked(bits: &[u64], h: usize) -> bool
-    requires { ⌜ h / 64 < length (now bits) ⌝ }
+    requires { ⌜ h / wordBits < length (now bits) ⌝ }
     ensures { λ r. ⌜ r ≡ bitAt (now (bits .entry)) h ⌝ }
 {
-    let i = h / 64;
-    let k = h % 64;
+    let i = h / WORD_BITS;
+    let k = h % WORD_BITS;
     (bits[i] >> k) % 2 == 1
 }
 
@@ -18,18 +21,18 @@ pub fn contains(bits: &[u64], h: u64) -> bool
     ensures { λ r. ⌜ r ≡ bitAt (now (bits .entry)) h ⌝ }
 {
     let at = h as usize;
-    if at / 64 >= bits.len() {
+    if at / WORD_BITS >= bits.len() {
         return false;
     }
     marked(bits, at)
 }
 
 pub fn mark(bits: &mut [u64], h: usize)
-    requires { ⌜ h / 64 < length (now bits) ⌝ }
+    requires { ⌜ h / wordBits < length (now bits) ⌝ }
     ensures { λ _. ⌜ bitAt (now (bits .exit)) ≡ also h (bitAt (now (bits .entry))) ⌝ }
 {
-    let i = h / 64;
-    let k = h % 64;
+    let i = h / WORD_BITS;
+    let k = h % WORD_BITS;
     bits[i] = bits[i] | (1 << k);
 }
 

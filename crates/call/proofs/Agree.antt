@@ -6,7 +6,7 @@ use Prim.Native.Nat.{ℕ, _+_}
 use borrow.Author.Tests.{eqb-true}
 use lib.ListN.{getD}
 use lib.Dec.{eqb}
-use Rattle.words.specs.Table.{Row, isAt, In}
+use Rattle.words.specs.Table.{Row, isAt, RowIn}
 use Rattle.bitset.specs.Bitset.{nowhere, also}
 use Rattle.wellformed.specs.Entry.{noHead, okEntry}
 use Rattle.wellformed.specs.Form.{headsAt, okRows}
@@ -34,7 +34,7 @@ module _ (ws vs : List ℕ) where
       go true e q = rw (← eqb-true at h e) here
       go false e q = same h q
 
-  pub rows-same : (rs : List Row) (start : ℕ → Bool) → ((h : ℕ) → start h ≡ true → Same h) → ((r : Row) → In r rs → Same (r .at)) → okRows ws start rs ≡ okRows vs start rs
+  pub rows-same : (rs : List Row) (start : ℕ → Bool) → ((h : ℕ) → start h ≡ true → Same h) → ((r : Row) → RowIn r rs → Same (r .at)) → okRows ws start rs ≡ okRows vs start rs
   unfolding okRows
   rows-same [] start same all = refl
   rows-same (r ∷ rs) start same all =

@@ -15,8 +15,9 @@ use Rattle.words.proofs.Walk.{take-slice}
 use Rattle.bitset.specs.Bitset.{nowhere}
 use Rattle.wellformed.specs.Form.{allZero, okRows, wellFormed, usedWords}
 use Rattle.wellformed.proofs.Before.{Tests, tests, passes}
-use Rattle.call.specs.Call.{Reply, handle, refused, _when_, _∣_, stored, settle, call}
-use Rattle.call.specs.Keep.{Sound, Adds, Keeps}
+use Rattle.call.specs.Call.{Reply, handle, refused, _when_, _otherwise_, stored, settle, call}
+use Rattle.call.specs.Keep.{Keeps}
+use Rattle.call.specs.Adds.{Sound, Adds}
 use Rattle.call.proofs.Agree.{rows-same}
 use Rattle.call.proofs.Sound.{in-used}
 
@@ -158,6 +159,6 @@ module _ (rows : List ℕ → ℕ) (op : List ℕ → Grown) (ws : List ℕ) (ok
       fits true e q = same-keeps ws (refused 12) ok
       fits false e q = stored-keeps ws g ok (adds (well-sound ws ok) q) (ltb-false (length ws) (length (g .words)) e)
 
-      go : (k : ℕ) → rows (usedWords ws) ≡ k → Keeps ws (settle (k ∣ 12 when ltb (length ws) (length (g .words))) g ws)
+      go : (k : ℕ) → rows (usedWords ws) ≡ k → Keeps ws (settle (k otherwise 12 when ltb (length ws) (length (g .words))) g ws)
       go zero q = fits (ltb (length ws) (length (g .words))) refl q
       go (suc k) q = same-keeps ws (refused (suc k)) ok

@@ -10,7 +10,7 @@ use lib.ListN.{length, drop, getD, drop-of-length-le}
 use lib.Seq.{drop-cons}
 use Rattle.words.specs.Words.{depthOf}
 use Rattle.wellformed.specs.Entry.{kindIn, kindAt, all, deepest}
-use Rattle.call.specs.Handles.{word, kindOn}
+use Rattle.words.specs.Columns.{word, kindOn}
 
 -- a loop that tests each
 module _ (p : ℕ → Bool) (hs : List ℕ) (i : ℕ) (left : all p hs ≡ all p (drop i hs)) where

@@ -6,7 +6,7 @@ use mathlib.Core.List.{List, [], _∷_, _++_, append-nil, append-assoc, List·Me
 use Prim.Native.Nat.{ℕ, _+_, _-_, _≤_, _<_}
 use native.Mathlib.Omega.{arith}
 use lib.ListN.{length, drop, getD, length-drop, List·getD-append}
-use Rattle.words.specs.Table.{Row, rows, entries, starts, In, findIn}
+use Rattle.words.specs.Table.{Row, rows, entries, starts, RowIn, findIn}
 use Rattle.words.specs.Made.{Grown, make}
 use Rattle.words.specs.declared.Found.{Found}
 use Rattle.words.specs.declared.Found.the-variants.{At, Nothing}
@@ -16,12 +16,13 @@ use Rattle.words.proofs.Extend.{ext-length}
 use Rattle.bitset.specs.Bitset.{nowhere}
 use Rattle.wellformed.specs.Entry.{okEntry}
 use Rattle.wellformed.specs.Form.{headsAt, okRows}
-use Rattle.call.specs.Keep.{Sound, Ends, Fitting, Adds}
+use Rattle.call.specs.Keep.{Ends}
+use Rattle.call.specs.Adds.{Sound, Fitting, Adds}
 use Rattle.words.proofs.Handles.{rows-bound, at-row}
 use Rattle.call.proofs.Agree.{heads-same, rows-same, rows-behind, starts-only}
 
 -- a row of the used words stands in them, past word 0
-pub in-used : (u : List ℕ) → 1 ≤ length u → (r : Row) → In r (entries u) → (1 ≤ r .at) × (r .at < length u)
+pub in-used : (u : List ℕ) → 1 ≤ length u → (r : Row) → RowIn r (entries u) → (1 ≤ r .at) × (r .at < length u)
 unfolding entries
 in-used u low r m = let b = rows-bound 1 0 (drop 1 u) r m in (b .0, omega (arith, b .1, length-drop 1 u))
 
@@ -48,8 +49,8 @@ module _ (u e : List ℕ) (s : Sound u) (f : Fitting u e) where
   ends-behind : Ends (entries u) → Ends (entries (u ++ e))
   ends-behind n r m =
       let new : Row = record { at = length u; words = e } in
-      let i : In r (entries u ++ (new ∷ [])) = rw (entries-append u e (s .low) (s .full) (f .sized)) at m in
-      ⊎-elim (λ (old : In r (entries u)). n r old) (λ (j : In r (new ∷ [])). rw (List·Memᴰ·eq-of-singleton j) (f .ends n)) (List·Memᴰ·append-cases (entries u) i)
+      let i : RowIn r (entries u ++ (new ∷ [])) = rw (entries-append u e (s .low) (s .full) (f .sized)) at m in
+      ⊎-elim (λ (old : RowIn r (entries u)). n r old) (λ (j : RowIn r (new ∷ [])). rw (List·Memᴰ·eq-of-singleton j) (f .ends n)) (List·Memᴰ·append-cases (entries u) i)
 
   pub make-adds : Adds u (make u e)
   make-adds =

@@ -9,17 +9,18 @@ use lib.Dec.{ltb}
 use lib.ListN.{length, take, drop, getD, set, replicate, length-drop, take-append-drop, drop-of-length-le}
 use lib.Seq.{take-all, length-take-le}
 use borrow.Rule.Slice.PartMut.{putMid}
-use Rattle.words.specs.Made.{Grown, Segments, Ran}
+use Rattle.words.specs.Made.{Grown}
+use Rattle.words.specs.Ran.{Segments, Ran}
 use Rattle.words.specs.declared.Interned.{Interned}
 use Rattle.words.specs.declared.Interned.the-variants.{At, Full}
 use Rattle.words.proofs.Room.{fitted, overflowed}
 use Rattle.index.specs.Covers.{Covers}
 use Rattle.index.proofs.Keep.{covers-none}
 use Rattle.wellformed.specs.Form.{wellFormed, usedWords}
-use Rattle.wellformed.specs.Scan.{Opened}
+use Rattle.wellformed.specs.Scan.{Verified}
 use Rattle.wellformed.proofs.Before.{tests, well-segments}
 use Rattle.call.specs.Call.{Reply, handle, refused, Outcome, left, made, _when_, settle, call, ask}
-use Rattle.call.specs.Steps.{usedOf, Opening, finishIn}
+use Rattle.call.specs.Steps.{usedOf, Beginning, finishIn}
 use Rattle.call.specs.declared.Made.the-variants.{Handle, Refused}
 use Rattle.call.proofs.Zeros.{all-zero}
 
@@ -57,10 +58,10 @@ module _ (ws : List ℕ) where
   pub first-word : (t : Bool) → t ≡ wellFormed ws → not t ≡ false → 0 < length ws
   first-word t is y = omega (arith, tests ws (sym is ∙ not-false t y) .least)
 
-  pub no-opening : (bits : List ℕ) (t : Bool) → Opened ws bits t → not t ≡ true → Opening ws bits 0
+  pub no-opening : (bits : List ℕ) (t : Bool) → Verified ws bits t → not t ≡ true → Beginning ws bits 0
   no-opening bits t o n = record { is = none-used t (o .is) n; ready = λ z. absurd (z refl) }
 
-  pub an-opening : (bits : List ℕ) (t : Bool) → Opened ws bits t → not t ≡ false → Opening ws bits (getD ws 0 0)
+  pub an-opening : (bits : List ℕ) (t : Bool) → Verified ws bits t → not t ≡ false → Beginning ws bits (getD ws 0 0)
   an-opening bits t o y = record {
     is = some-used t (o .is) y;
     ready = λ z. record { within = tests ws (sym (o .is) ∙ not-false t y) .within; marks = o .marks (not-false t y) };

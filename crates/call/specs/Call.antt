@@ -1,7 +1,7 @@
 -- Document 01, "Calls turned back": the shape that every call on a store has.
 use mathlib.Core.Bool.{Bool, true, false, not}
 use mathlib.Core.List.{List, _++_}
-use Prim.Native.Nat.{ℕ, zero, suc, _-_}
+use Prim.Native.Nat.{ℕ, zero, suc}
 use lib.ListN.{length, drop, set}
 use lib.Dec.{ltb}
 use Rattle.words.specs.Made.{Grown}
@@ -53,10 +53,10 @@ n when true = n
 n when false = 0
 
 -- the first row that applies
-infixr 20 _∣_
-abbrev pub _∣_ : ℕ → ℕ → ℕ
-zero ∣ rest = rest
-suc n ∣ rest = suc n
+infixr 20 _otherwise_
+abbrev pub _otherwise_ : ℕ → ℕ → ℕ
+zero otherwise rest = rest
+suc n otherwise rest = suc n
 
 -- ---- a call that makes entries
 
@@ -74,8 +74,8 @@ unfoldable pub call : (List ℕ → ℕ) → (List ℕ → Grown) → List ℕ �
 call rows op ws =
     settle
     (1 when not (wellFormed ws)
-    ∣ rows (usedWords ws)
-    ∣ 12 when ltb (length ws) (length (op (usedWords ws) .words)))
+    otherwise rows (usedWords ws)
+    otherwise 12 when ltb (length ws) (length (op (usedWords ws) .words)))
     (op (usedWords ws)) ws
 
 -- ---- a call that only reads
@@ -86,4 +86,4 @@ replyAfter (suc n) r = refused (suc n)
 
 -- row 1, and the call's own rows
 unfoldable pub ask : (List ℕ → ℕ) → (List ℕ → Reply) → List ℕ → Outcome
-ask rows answer ws = left (replyAfter (1 when not (wellFormed ws) ∣ rows (usedWords ws)) (answer (usedWords ws))) ws
+ask rows answer ws = left (replyAfter (1 when not (wellFormed ws) otherwise rows (usedWords ws)) (answer (usedWords ws))) ws

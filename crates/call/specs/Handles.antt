@@ -1,26 +1,13 @@
--- The entry at a handle of the used words u, and the tests that calls make on handles.
+-- The tests that calls make on handles. `u` is the used words.
 use mathlib.Core.Bool.{Bool, not}
 use mathlib.Core.List.{List}
 use Prim.Native.Nat.{ℕ, _+_}
-use lib.ListN.{getD}
 use lib.Dec.{ltb}
-use Rattle.words.specs.Words.{headOf, kindOf, depthOf, countOf}
+use Rattle.words.specs.Words.{headOf}
+use Rattle.words.specs.Columns.{word}
 use Rattle.words.specs.Table.{starts}
 use Rattle.wellformed.specs.Entry.{isType, kindAt, all, deepest, deepestAllowed}
-use Rattle.call.specs.Call.{_when_, _∣_}
-
-abbrev pub word : List ℕ → ℕ → ℕ
-word u p = getD u p 0
-
--- the kind, the depth and the n of the entry at h
-abbrev pub kindOn : List ℕ → ℕ → ℕ
-kindOn u h = kindOf (word u h)
-
-abbrev pub depthOn : List ℕ → ℕ → ℕ
-depthOn u h = depthOf (word u h)
-
-abbrev pub countOn : List ℕ → ℕ → ℕ
-countOn u h = countOf (word u h)
+use Rattle.call.specs.Call.{_when_, _otherwise_}
 
 -- row 2: "handle starts no entry"
 abbrev pub noEntry : List ℕ → List ℕ → Bool
@@ -34,7 +21,7 @@ wrongKind u p hs = not (all (kindAt (word u) p) hs)
 unfoldable pub typesRows : List ℕ → List ℕ → ℕ
 typesRows types u =
     2 when noEntry u types
-    ∣ 3 when wrongKind u isType types
+    otherwise 3 when wrongKind u isType types
 
 -- row 6: "depth over 32", of an entry around these types
 abbrev pub tooDeep : List ℕ → List ℕ → Bool

@@ -1,15 +1,17 @@
 // What every call begins and ends with, and the tests that calls make on handles.
 use words::Interned;
+use words::kinds;
 ghost use mathlib.Core.Path.{_≡_};
 ghost use mathlib.Core.List.{_++_};
 ghost use Prim.Native.Nat.{_+_, _*_, _≤_, _<_, min};
 ghost use lib.ListN.{length, take};
 ghost use Rattle.words.specs.Words.{depthOf};
-ghost use Rattle.bitset.specs.Bitset.{bitAt};
+ghost use Rattle.bitset.specs.Bitset.{bitAt, wordBits};
 ghost use Rattle.wellformed.specs.Entry.{kindIn, kindAt, all, deepest};
 ghost use Rattle.call.specs.Call.{made, left};
-ghost use Rattle.call.specs.Steps.{Opening, finishIn};
-ghost use Rattle.call.specs.Handles.{word, kindOn};
+ghost use Rattle.call.specs.Steps.{Beginning, finishIn};
+ghost use Rattle.words.specs.Columns.{word, kindOn};
+ghost use Rattle.wellformed.specs.Form.{longestAllowed};
 
 // The answer of a call that hands back a handle.
 pub enum Made {
@@ -35,8 +37,8 @@ pub enum Done {
 
 // Row 1: the number of used words, or 0 where the words are not well formed. If they are, the bits mark where the entries start.
 pub fn begin(words: &[u64], bits: &mut [u64]) -> usize
-    requires { ⌜ min (length (now words)) 1048576 ≤ 64 * length (now bits) ⌝ }
-    ensures { λ r. ⌜ Opening (now (words .entry)) (now (bits .exit)) r ⌝ }
+    requires { ⌜ min (length (now words)) longestAllowed ≤ wordBits * length (now bits) ⌝ }
+    ensures { λ r. ⌜ Beginning (now (words .entry)) (now (bits .exit)) r ⌝ }
 {
     if !wellformed::verify(&*words, bits) {
         return 0;
@@ -85,7 +87,7 @@ pub fn kind_on(old: &[u64], new: &[u64], used: usize, h: u64) -> u64
     requires { ⌜ (length (now old) ≤ used) × (used ≤ length (now old) + length (now new)) ⌝ }
     ensures { λ r. ⌜ r ≡ kindOn (take used (now (old .entry) ++ now (new .entry))) h ⌝ }
 {
-    words::word(&*old, &*new, used, h as usize) % 256
+    words::word(&*old, &*new, used, h as usize) % kinds::DEPTH
 }
 
 // Whether the kinds of all entries are from low to high: row 3.
@@ -112,7 +114,7 @@ pub fn depth_on(old: &[u64], new: &[u64], used: usize, h: u64) -> u64
     requires { ⌜ (length (now old) ≤ used) × (used ≤ length (now old) + length (now new)) ⌝ }
     ensures { λ r. ⌜ (r ≡ depthOf (word (take used (now (old .entry) ++ now (new .entry))) h)) × (r < 256) ⌝ }
 {
-    words::word(&*old, &*new, used, h as usize) / 256 % 256
+    words::word(&*old, &*new, used, h as usize) / kinds::DEPTH % kinds::DEPTH
 }
 
 // The depth of the deepest of the entries at the handles.

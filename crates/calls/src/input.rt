@@ -5,6 +5,21 @@ ghost use lib.ListN.{length};
 ghost use Rattle.calls.specs.Kept.{Kept};
 use libc::STDIN_FILENO;
 
+// The room that the program has: bytes of a line, and of answers that are not written yet; words of a list, and of its index (opened/specs/OpenStore.antt) and memory where it is open; numbers of a line, and bytes of a text.
+pub const LINE: usize = 262144;
+
+pub const OUT: usize = 65536;
+
+pub const WORDS: usize = 65536;
+
+pub const INDEX: usize = 2 * WORDS + WORDS / 64 + 1;
+
+pub const MEMORY: usize = 98304;
+
+pub const NUMBERS: usize = 131072;
+
+pub const TEXT: usize = 131072;
+
 // What is kept from line to line.
 pub struct State {
     // the length of the list that is lent to calls
@@ -29,8 +44,8 @@ pub fn script(
     words: &mut [u64],
     index: &mut [u64],
     memory: &mut [u64],
-    numbers: &mut [u64; 131072],
-    text: &mut [u8; 131072],
+    numbers: &mut [u64; NUMBERS],
+    text: &mut [u8; TEXT],
 ) {
     let mut state = State {
         len: 0,
@@ -57,8 +72,8 @@ fn turn(
     words: &mut [u64],
     index: &mut [u64],
     memory: &mut [u64],
-    numbers: &mut [u64; 131072],
-    text: &mut [u8; 131072],
+    numbers: &mut [u64; NUMBERS],
+    text: &mut [u8; TEXT],
     state: State,
 ) -> State
     requires { ⌜ Kept state (now words) (now index) (now memory) (length (now out)) × (state .at ≤ length (now input)) ⌝ }
@@ -108,8 +123,8 @@ fn lines(
     words: &mut [u64],
     index: &mut [u64],
     memory: &mut [u64],
-    numbers: &mut [u64; 131072],
-    text: &mut [u8; 131072],
+    numbers: &mut [u64; NUMBERS],
+    text: &mut [u8; TEXT],
     state: State,
 ) -> State
     requires { ⌜ Kept state (now words) (now index) (now memory) (length (now out)) ⌝ }
@@ -173,8 +188,8 @@ fn one(
     words: &mut [u64],
     index: &mut [u64],
     memory: &mut [u64],
-    numbers: &mut [u64; 131072],
-    text: &mut [u8; 131072],
+    numbers: &mut [u64; NUMBERS],
+    text: &mut [u8; TEXT],
     state: State,
 ) -> State
     requires { ⌜ Kept state (now words) (now index) (now memory) (length (now out)) ⌝ }
@@ -211,8 +226,8 @@ fn last(
     words: &mut [u64],
     index: &mut [u64],
     memory: &mut [u64],
-    numbers: &mut [u64; 131072],
-    text: &mut [u8; 131072],
+    numbers: &mut [u64; NUMBERS],
+    text: &mut [u8; TEXT],
     state: State,
 ) -> State
     requires { ⌜ Kept state (now words) (now index) (now memory) (length (now out)) ⌝ }

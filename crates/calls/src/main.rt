@@ -2,13 +2,13 @@
 mod input;
 
 fn main() {
-    let mut line = [0u8; 262144];
-    let mut out = [0u8; 65536];
-    let mut words = [0u64; 65536];
-    let mut index = [0u64; 132097];
-    let mut memory = [0u64; 98304];
-    let mut numbers = [0u64; 131072];
-    let mut text = [0u8; 131072];
+    let mut line = [0u8; input::LINE];
+    let mut out = [0u8; input::OUT];
+    let mut words = [0u64; input::WORDS];
+    let mut index = [0u64; input::INDEX];
+    let mut memory = [0u64; input::MEMORY];
+    let mut numbers = [0u64; input::NUMBERS];
+    let mut text = [0u8; input::TEXT];
     whole(
         &mut line,
         &mut out,
@@ -22,13 +22,13 @@ fn main() {
 
 // The arrays as slices. A function of its own, so that no proof has to compute an array.
 fn whole(
-    line: &mut [u8; 262144],
-    out: &mut [u8; 65536],
-    words: &mut [u64; 65536],
-    index: &mut [u64; 132097],
-    memory: &mut [u64; 98304],
-    numbers: &mut [u64; 131072],
-    text: &mut [u8; 131072],
+    line: &mut [u8; input::LINE],
+    out: &mut [u8; input::OUT],
+    words: &mut [u64; input::WORDS],
+    index: &mut [u64; input::INDEX],
+    memory: &mut [u64; input::MEMORY],
+    numbers: &mut [u64; input::NUMBERS],
+    text: &mut [u8; input::TEXT],
 ) {
     input::script(line, out, words, index, memory, numbers, text);
 }

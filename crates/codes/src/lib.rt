@@ -7,7 +7,7 @@ use call::Made;
 use making::Making;
 ghost use mathlib.Core.Path.{_≡_};
 ghost use mathlib.Core.List.{[]};
-ghost use Prim.Native.Nat.{_+_};
+ghost use Prim.Native.Nat.{_+_, _^_};
 ghost use lib.ListN.{length};
 ghost use Rattle.call.specs.Call.{made, told, done};
 ghost use Rattle.makers.specs.Makers.{freshCall};
@@ -17,12 +17,15 @@ ghost use Rattle.asking.specs.Asking.{asked};
 ghost use Rattle.opened.specs.OpenStore.{OpenStore, openReply};
 ghost use Rattle.codes.specs.Code.{code, Coded, CodedOpening};
 
+// What a refusal's number is told above: 2 to the 63.
+const REFUSAL: u64 = 0x8000_0000_0000_0000;
+
 // ---- answers as words
 
 fn refusal(n: u8) -> u64
-    ensures { λ r. ⌜ r ≡ 9223372036854775808 + n ⌝ }
+    ensures { λ r. ⌜ r ≡ 2 ^ 63 + n ⌝ }
 {
-    0x8000_0000_0000_0000 + n as u64
+    REFUSAL + n as u64
 }
 
 fn of_made(m: Made) -> u64

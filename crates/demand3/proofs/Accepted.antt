@@ -11,11 +11,11 @@ use lib.Seq.{drop-set-lt}
 use Rattle.words.specs.Table.{rows as rowsFrom, entries}
 use Rattle.words.specs.Made.{Grown}
 use Rattle.wellformed.specs.Form.{wellFormed, usedWords}
-use Rattle.call.specs.Call.{handle, left, _when_, _∣_, stored, settle, call}
-use Rattle.call.specs.Keep.{Sound, Adds}
+use Rattle.call.specs.Call.{handle, left, _when_, _otherwise_, stored, settle, call}
+use Rattle.call.specs.Adds.{Sound, Adds}
 use Rattle.call.proofs.Keep.{well-sound, used-grown}
 
-settled : (k : ℕ) (b : Bool) (g : Grown) (ws : List ℕ) (h : ℕ) → settle (k ∣ 12 when b) g ws .reply ≡ handle h → (k ≡ 0) × (b ≡ false) × (h ≡ g .handle)
+settled : (k : ℕ) (b : Bool) (g : Grown) (ws : List ℕ) (h : ℕ) → settle (k otherwise 12 when b) g ws .reply ≡ handle h → (k ≡ 0) × (b ≡ false) × (h ≡ g .handle)
 settled zero true g ws h q = let z : _≡_ {A = ℕ} 0 1 = cc in absurd (omega arith)
 settled zero false g ws h q = (refl, refl, cc)
 settled (suc k) b g ws h q = let z : _≡_ {A = ℕ} 0 1 = cc in absurd (omega arith)
@@ -48,5 +48,5 @@ module _ (rows : List ℕ → ℕ) (op : List ℕ → Grown) (ws : List ℕ) (h 
         table = rw used (ap (rowsFrom 1 0) (drop-set-lt 1 (g .words) 0 n (omega arith)));
       }
     where
-      past : call rows op ws ≡ settle (rows (usedWords ws) ∣ 12 when ltb (length ws) (length (g .words))) g ws
+      past : call rows op ws ≡ settle (rows (usedWords ws) otherwise 12 when ltb (length ws) (length (g .words))) g ws
       past = rw ok

@@ -12,8 +12,9 @@ use Rattle.words.specs.Made.{Grown}
 use Rattle.wellformed.specs.Form.{wellFormed, usedWords}
 use Rattle.call.specs.Call.{handle, flag, replyAfter, call, ask}
 use Rattle.wellformed.specs.Entry.{all}
-use Rattle.call.specs.Handles.{kindOn, typesRows}
-use Rattle.call.specs.Keep.{Adds}
+use Rattle.call.specs.Handles.{typesRows}
+use Rattle.words.specs.Columns.{kindOn}
+use Rattle.call.specs.Adds.{Adds}
 use Rattle.makers.specs.Makers.{freshCall}
 use Rattle.parts.specs.Parts.{Good}
 use Rattle.parts.proofs.Good.{well-good, good-adds, part-below, Answers}
@@ -21,7 +22,7 @@ use Rattle.meet.specs.Meet.{meetOf, isaOf}
 use Rattle.meet.proofs.Nice.{meet-nice}
 use Rattle.walk_rules.specs.declared.Walk.{Walk}
 use Rattle.walk_rules.specs.declared.Walk.the-variants.{Dual, Glb, Lub}
-use Rattle.walk.specs.Walked.{walkOf}
+use Rattle.walk.specs.Walk.{walkOf}
 use Rattle.walk.proofs.Nice.{walk-nice}
 use Rattle.join.specs.Join.{joinOf}
 use Rattle.join.proofs.Adds.{Given, answered, join-given}
@@ -40,7 +41,7 @@ use Rattle.meaning.proofs.Walks.{Rel, walk-right}
 use Rattle.meaning.proofs.ReadOnly.{ro-above}
 use Rattle.meaning.proofs.Joins.{join-right}
 use Rattle.every_call.specs.Run.{Call, meet, isa, join, dual, glb, lub, make_ro, run, allTyped}
-use Rattle.demand3.specs.Demand3.{reaches, leaves, Gave, finalWords, Isa, Plain, Bracketing, single, pair, In, AllPlain, SameSet, Laws, Demand3}
+use Rattle.demand3.specs.Demand3.{reaches, leaves, Gave, finalWords, Isa, Plain, Bracketing, single, pair, Member, AllPlain, SameSet, Laws, Demand3}
 use Rattle.demand3.proofs.Runs.{Store, Later, fresh-store, leaves-store, gave-at}
 use Rattle.demand3.proofs.Accepted.{accepted}
 use Rattle.demand3.proofs.Reaching.{no-mem, no-fre}
@@ -242,12 +243,12 @@ module _ (cs : List Call) (typed : allTyped cs ≡ true) (ws : List ℕ) (s : St
     whole (single h) f = fine (f h refl)
     whole (pair {a} {b} {c} p q g) f = step a b c g (whole p λ x i. f x (inl i)) (whole q λ x i. f x (inr i)) .0
 
-    bound : {c : ℕ} (p : Bracketing run cs ws op c) → AllPlain run cs ws p → (x : ℕ) → In run cs ws p x → R (T x) (T c)
+    bound : {c : ℕ} (p : Bracketing run cs ws op c) → AllPlain run cs ws p → (x : ℕ) → Member run cs ws p x → R (T x) (T c)
     bound (single h) f x i = rw i (O .rfl (T h))
     bound (pair {a} {b} {c} p q g) f x (inl i) = O .trn (bound p (λ y j. f y (inl j)) x i) (step a b c g (whole p λ y j. f y (inl j)) (whole q λ y j. f y (inr j)) .1)
     bound (pair {a} {b} {c} p q g) f x (inr i) = O .trn (bound q (λ y j. f y (inr j)) x i) (step a b c g (whole p λ y j. f y (inl j)) (whole q λ y j. f y (inr j)) .2)
 
-    least : {c : ℕ} (p : Bracketing run cs ws op c) → AllPlain run cs ws p → (t : Ty) → P t → ((x : ℕ) → In run cs ws p x → R (T x) t) → R (T c) t
+    least : {c : ℕ} (p : Bracketing run cs ws op c) → AllPlain run cs ws p → (t : Ty) → P t → ((x : ℕ) → Member run cs ws p x → R (T x) t) → R (T c) t
     least (single h) f t o k = k h refl
     least (pair {a} {b} {c} p q g) f t o k =
         step a b c g (whole p λ y j. f y (inl j)) (whole q λ y j. f y (inr j)) .3 t o (least p (λ y j. f y (inl j)) t o λ x i. k x (inl i)) (least q (λ y j. f y (inr j)) t o λ x i. k x (inr i))
@@ -286,18 +287,18 @@ module _ (cs : List Call) (typed : allTyped cs ≡ true) (ws : List ℕ) (s : St
   joins-whole = whole (λ a b. b ⊑ a) (turn ⊑-order) NoFre (λ h f. f .forward) join join-step
 
   -- a bracketing has a member
-  member : {op : ℕ → ℕ → Call} {c : ℕ} (p : Bracketing run cs ws op c) → (x : ℕ) × In run cs ws p x
+  member : {op : ℕ → ℕ → Call} {c : ℕ} (p : Bracketing run cs ws op c) → (x : ℕ) × Member run cs ws p x
   member (single h) = (h, refl)
   member (pair p q g) = (member p .0, inl (member p .1))
 
-  meets-under : {c : ℕ} (p : Meets c) → AllPlain run cs ws p → (t : ℕ) → ((x : ℕ) → In run cs ws p x → Isa run cs ws x t) → Isa run cs ws c t
+  meets-under : {c : ℕ} (p : Meets c) → AllPlain run cs ws p → (t : ℕ) → ((x : ℕ) → Member run cs ws p x → Isa run cs ws x t) → Isa run cs ws c t
   meets-under {c} p f t k =
       let w = meets-whole p f in
       let some = member p in
       let vt = of-isa (some .0) t (k (some .0) (some .1)) .1 in
       isa-of c t (w .type) vt (inl (w .memory)) (least _⊑_ ⊑-order (λ t. Unit {0}) (λ h f. tt) meet meet-step p f (T t) tt λ x i. of-isa x t (k x i) .2 (inl (fine (f x i) .memory)))
 
-  joins-over : {c : ℕ} (p : Joins c) → AllPlain run cs ws p → (t : ℕ) → reaches u Fref t ≡ false → ((x : ℕ) → In run cs ws p x → Isa run cs ws t x) → Isa run cs ws t c
+  joins-over : {c : ℕ} (p : Joins c) → AllPlain run cs ws p → (t : ℕ) → reaches u Fref t ≡ false → ((x : ℕ) → Member run cs ws p x → Isa run cs ws t x) → Isa run cs ws t c
   joins-over {c} p f t o k =
       let w = joins-whole p f in
       let some = member p in

@@ -12,19 +12,20 @@ use Rattle.words.specs.Table.{rows, entries, firstOf, findIn, isAt}
 use Rattle.words.specs.Made.{make}
 use Rattle.bitset.specs.Bitset.{nowhere, also}
 use Rattle.wellformed.specs.Fresh.{freshWords}
-use Rattle.wellformed.specs.Entry.{mostOf, every, namesIn, typesIn, all, deepest, floatOk, zeroFilled, valuesOk, okEntry}
+use Rattle.wellformed.specs.Entry.{mostOf, namesIn, typesIn, all, deepest, floatOk, zeroFilled, valuesOk, okEntry}
+use Rattle.words.specs.Columns.{every}
 use Rattle.wellformed.specs.Form.{allZero, headsAt, okRows, okEntries, wellFormed}
 use Rattle.call.specs.Call.{Outcome, call, ask}
 use Rattle.call.specs.Handles.{typesRows}
-use Rattle.names.specs.Name.{number, packed, nameEntry}
+use Rattle.names.specs.Name.{ofBytes, packed, nameEntry}
 use Rattle.makers.specs.Entries.{intEntry, fieldWords}
 use Rattle.makers.specs.Makers.{freshCall, frefRows, structRows, partRows}
 use Rattle.meet_rules.specs.Names.{sameWords}
 use Rattle.meet_rules.specs.Rules.{pairRule, ruleFor, namedRule, structRule}
-use Rattle.meet.specs.Meet.{followStruct, meetStruct, follow, meet as meetWithin}
+use Rattle.meet.specs.Meet.{followStruct, meetStruct, follow, meetWithin}
 use Rattle.structs.specs.Remade.{fieldsWith, remake}
-use Rattle.walk_rules.specs.Tables.{formFor, finalsOf, fieldsOf}
-use Rattle.walk.specs.Walked.{walkEach, followForm, walkWithin}
+use Rattle.walk_rules.specs.Tables.{formFor, finalsOf, walkFields}
+use Rattle.walk.specs.Walk.{walkEach, followForm, walkWithin}
 use Rattle.finals.specs.Final.{allFinal, isFinalWithin}
 use Rattle.make_ro.specs.ReadOnly.{readOnlyEach, makeRoWithin}
 use Rattle.every_call.specs.Ty.{meetCall}
@@ -90,7 +91,7 @@ unfolding allTyped all
 others-typed = refl
 
 pub others-gave : Gave run others start (join 94 97) 109 × Gave run others start (join 97 94) 109 × Gave run others start (dual 88) 91 × Gave run others start (dual 91) 88 × Gave run others start (lub 88) 85 × Gave run others start (glb 85) 88
-unfolding call wellFormed okEntries okRows okEntry allZero headsAt nowhere also mostOf every namesIn typesIn all deepest floatOk zeroFilled valuesOk fills eqs rows entries sizeOf wordsAfter freshWords freshCall make findIn firstOf isAt typesRows meetWithin follow ruleFor pairRule walkWithin followForm walkEach formFor fieldsOf finalsOf remake fieldsWith fieldWords
+unfolding call wellFormed okEntries okRows okEntry allZero headsAt nowhere also mostOf every namesIn typesIn all deepest floatOk zeroFilled valuesOk fills eqs rows entries sizeOf wordsAfter freshWords freshCall make findIn firstOf isAt typesRows meetWithin follow ruleFor pairRule walkWithin followForm walkEach formFor walkFields finalsOf remake fieldsWith fieldWords
 others-gave = (
   inr (inr (inl (refl, refl))),
   inr (inr (inr (inl (refl, refl)))),
@@ -101,7 +102,7 @@ others-gave = (
 )
 
 others-plain : Plain run others start 94 × Plain run others start 97 × Plain run others start 88 × Plain run others start 85
-unfolding leaves call wellFormed okEntries okRows okEntry allZero headsAt nowhere also mostOf every namesIn typesIn all deepest floatOk zeroFilled valuesOk fills eqs rows entries sizeOf wordsAfter freshWords freshCall make findIn firstOf isAt typesRows meetWithin follow ruleFor pairRule some reachesWithin walkWithin followForm walkEach formFor fieldsOf finalsOf remake fieldsWith fieldWords
+unfolding leaves call wellFormed okEntries okRows okEntry allZero headsAt nowhere also mostOf every namesIn typesIn all deepest floatOk zeroFilled valuesOk fills eqs rows entries sizeOf wordsAfter freshWords freshCall make findIn firstOf isAt typesRows meetWithin follow ruleFor pairRule some reachesWithin walkWithin followForm walkEach formFor walkFields finalsOf remake fieldsWith fieldWords
 others-plain = (
   record { type = refl; memory = refl; forward = refl },
   record { type = refl; memory = refl; forward = refl },
@@ -134,7 +135,7 @@ unfolding allTyped all
 finals-typed = refl
 
 pub finals-gave : Gave run finals start (make_ro 96) 101 × Plain run finals start 96
-unfolding leaves call wellFormed okEntries okRows okEntry allZero headsAt nowhere also mostOf every namesIn typesIn all deepest floatOk zeroFilled valuesOk fills eqs rows entries sizeOf wordsAfter freshWords freshCall make findIn firstOf isAt typesRows structRows number packed nameEntry fieldWords makeRoWithin readOnlyEach isFinalWithin allFinal remake fieldsWith some reachesWithin
+unfolding leaves call wellFormed okEntries okRows okEntry allZero headsAt nowhere also mostOf every namesIn typesIn all deepest floatOk zeroFilled valuesOk fills eqs rows entries sizeOf wordsAfter freshWords freshCall make findIn firstOf isAt typesRows structRows ofBytes packed nameEntry fieldWords makeRoWithin readOnlyEach isFinalWithin allFinal remake fieldsWith some reachesWithin
 finals-gave = (inr (inr (inl (refl, refl))), record { type = refl; memory = refl; forward = refl })
 
 pub finals-hold : Isa run finals start 96 101
@@ -173,7 +174,7 @@ abbrev forwards : List Call
 forwards = get_str name ∷ make_struct_fref 94 ∷ get_struct 94 [] ∷ dual 96 ∷ dual 98 ∷ []
 
 pub forward-outside : Gave run forwards start (dual 96) 96 × Gave run forwards start (dual 98) 98 × Isa run forwards start 96 98 × (Isa run forwards start 98 96 → ⊥)
-unfolding leaves call ask wellFormed okEntries okRows okEntry allZero headsAt nowhere also mostOf every namesIn typesIn all deepest floatOk zeroFilled valuesOk fills eqs rows entries sizeOf wordsAfter freshWords freshCall make findIn firstOf isAt typesRows frefRows structRows number packed nameEntry fieldWords meetWithin follow ruleFor pairRule meetStruct followStruct structRule namedRule sameWords walkWithin followForm walkEach formFor fieldsOf finalsOf remake fieldsWith
+unfolding leaves call ask wellFormed okEntries okRows okEntry allZero headsAt nowhere also mostOf every namesIn typesIn all deepest floatOk zeroFilled valuesOk fills eqs rows entries sizeOf wordsAfter freshWords freshCall make findIn firstOf isAt typesRows frefRows structRows ofBytes packed nameEntry fieldWords meetWithin follow ruleFor pairRule meetStruct followStruct structRule namedRule sameWords walkWithin followForm walkEach formFor walkFields finalsOf remake fieldsWith
 forward-outside = (inr (inr (inr (inl (refl, refl)))), inr (inr (inr (inr (inl (refl, refl))))), refl, λ e. let z : _≡_ {A = ℕ} 0 1 = cc in omega arith)
 
 -- ---- the third type of a join: the forward reference X, 96, isa the structs X without fields, 98, and with one, 100, and is not isa their join, $TOP
@@ -182,5 +183,5 @@ abbrev thirds : List Call
 thirds = get_str name ∷ make_struct_fref 94 ∷ get_struct 94 [] ∷ get_struct 94 (94 ∷ 25 ∷ 0 ∷ 0 ∷ []) ∷ join 98 100 ∷ []
 
 pub third-outside : Gave run thirds start (join 98 100) 18 × Isa run thirds start 96 98 × Isa run thirds start 96 100 × (Isa run thirds start 96 18 → ⊥)
-unfolding leaves call ask wellFormed okEntries okRows okEntry allZero headsAt nowhere also mostOf every namesIn typesIn all deepest floatOk zeroFilled valuesOk fills eqs rows entries sizeOf wordsAfter freshWords freshCall make findIn firstOf isAt typesRows frefRows structRows number packed nameEntry fieldWords meetWithin follow ruleFor pairRule meetStruct followStruct structRule namedRule sameWords walkWithin followForm walkEach formFor fieldsOf finalsOf remake fieldsWith
+unfolding leaves call ask wellFormed okEntries okRows okEntry allZero headsAt nowhere also mostOf every namesIn typesIn all deepest floatOk zeroFilled valuesOk fills eqs rows entries sizeOf wordsAfter freshWords freshCall make findIn firstOf isAt typesRows frefRows structRows ofBytes packed nameEntry fieldWords meetWithin follow ruleFor pairRule meetStruct followStruct structRule namedRule sameWords walkWithin followForm walkEach formFor walkFields finalsOf remake fieldsWith
 third-outside = (inr (inr (inr (inr (inl (refl, refl))))), refl, refl, λ e. let z : _≡_ {A = ℕ} 0 1 = cc in omega arith)

@@ -3,3 +3,5 @@ pub mod Accepted
 pub mod Reaching
 pub mod Demand3
 pub mod Examples
+pub mod Shown
+pub mod Any

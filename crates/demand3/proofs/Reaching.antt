@@ -8,8 +8,8 @@ use lib.Dec.{eqb}
 use lib.ListN.{length, take, drop, getD}
 use lib.Seq.{drop-cons}
 use Rattle.words.specs.Words.{sizeOf}
-use Rattle.wellformed.specs.Entry.{kind, count, every, typesIn}
-use Rattle.call.specs.Handles.{word, kindOn}
+use Rattle.wellformed.specs.Entry.{kind, count, typesIn}
+use Rattle.words.specs.Columns.{every, word, kindOn}
 use Rattle.meet_fields.proofs.Finals.{every-length}
 use Rattle.parts.specs.Parts.{Good, All}
 use Rattle.parts.proofs.Spot.{row-inside}
@@ -35,7 +35,7 @@ module _ {u : List ℕ} (g : Good u) {h : ℕ} (p : Typed u h) where
   abbrev e : List ℕ
   e = rowOf g p .words
 
-  entry-words : entryOn u h ≡ e
+  pub entry-words : entryOn u h ≡ e
   entry-words =
       let w = row-words g (rowOf g p) (row-in g p) h (row-at g p) in
       let n = sizeOf (word u h) in

@@ -14,7 +14,8 @@ use Rattle.words.specs.Words.{sizeOf}
 use Rattle.wellformed.specs.Entry.{typesIn, all}
 use Rattle.wellformed.specs.Form.{rightLength, usedWords}
 use Rattle.call.specs.Call.{Outcome, handle, flag}
-use Rattle.call.specs.Handles.{word, kindOn, typesRows}
+use Rattle.call.specs.Handles.{typesRows}
+use Rattle.words.specs.Columns.{word, kindOn}
 use Rattle.makers.specs.Makers.{freshCall}
 use Rattle.every_call.specs.Run.{Call, meet, isa, join, dual, glb, lub, make_ro, run, allTyped}
 
@@ -29,7 +30,7 @@ unfoldable pub some : (ℕ → Bool) → List ℕ → Bool
 some p [] = false
 some p (x ∷ xs) = p x || some p xs
 
--- the parts of an entry stand before it: n is above the handle, and falls; 0 is not come to
+-- The parts of an entry stand before it: n is above the handle, and falls with it; 0 is not come to. Every n above the handle gives the same (`reaches-any`, proofs/Any.antt).
 unfoldable pub reachesWithin : ℕ → List ℕ → ℕ → ℕ → Bool
 reachesWithin zero u k h = false
 reachesWithin (suc n) u k h = eqb (kindOn u h) k || some (reachesWithin n u k) (typesIn (entryOn u h))
@@ -75,31 +76,31 @@ module _ (does : Call → List ℕ → Outcome) where
 
     module _ {op : ℕ → ℕ → Call} where
       -- "the types it is built from are its set": x is in it
-      abbrev pub In : {c : ℕ} → Bracketing op c → ℕ → Type 0
-      In (single h) x = x ≡ h
-      In (pair p q g) x = In p x ⊎ In q x
+      abbrev pub Member : {c : ℕ} → Bracketing op c → ℕ → Type 0
+      Member (single h) x = x ≡ h
+      Member (pair p q g) x = Member p x ⊎ Member q x
 
       abbrev pub AllPlain : {c : ℕ} → Bracketing op c → Type 0
-      AllPlain p = (x : ℕ) → In p x → Plain x
+      AllPlain p = (x : ℕ) → Member p x → Plain x
 
       -- any order, any repeats
       abbrev pub SameSet : {c d : ℕ} → Bracketing op c → Bracketing op d → Type 0
-      SameSet p q = (x : ℕ) → In p x ↔ In q x
+      SameSet p q = (x : ℕ) → Member p x ↔ Member q x
 
     pub record Laws : Type 0 where
       -- bracketings of meets over one set have one handle
       pub meets-agree : {c d : ℕ} (p : Bracketing meet c) (q : Bracketing meet d) → AllPlain p → SameSet p q → c ≡ d
       -- each member isa it
-      pub meets-above : {c : ℕ} (p : Bracketing meet c) → AllPlain p → (x : ℕ) → In p x → Isa x c
+      pub meets-above : {c : ℕ} (p : Bracketing meet c) → AllPlain p → (x : ℕ) → Member p x → Isa x c
       -- and it isa every type, of whatever kinds, that all members are isa
-      pub meets-least : {c : ℕ} (p : Bracketing meet c) → AllPlain p → (t : ℕ) → ((x : ℕ) → In p x → Isa x t) → Isa c t
+      pub meets-least : {c : ℕ} (p : Bracketing meet c) → AllPlain p → (t : ℕ) → ((x : ℕ) → Member p x → Isa x t) → Isa c t
       -- bracketings of joins over one set have one handle
       pub joins-agree : {c d : ℕ} (p : Bracketing join c) (q : Bracketing join d) → AllPlain p → SameSet p q → c ≡ d
       -- it isa each member
-      pub joins-below : {c : ℕ} (p : Bracketing join c) → AllPlain p → (x : ℕ) → In p x → Isa c x
+      pub joins-below : {c : ℕ} (p : Bracketing join c) → AllPlain p → (x : ℕ) → Member p x → Isa c x
       -- and every type that isa all members, and reaches no forward reference, isa it (the forward reference X isa the structs X without fields and X with one, and is not isa their
       -- join, $TOP: `third-outside` of proofs/Examples.antt)
-      pub joins-greatest : {c : ℕ} (p : Bracketing join c) → AllPlain p → (t : ℕ) → reaches finalWords Fref t ≡ false → ((x : ℕ) → In p x → Isa t x) → Isa t c
+      pub joins-greatest : {c : ℕ} (p : Bracketing join c) → AllPlain p → (t : ℕ) → reaches finalWords Fref t ≡ false → ((x : ℕ) → Member p x → Isa t x) → Isa t c
       -- the dual of a type's dual is the type itself
       pub dual-back : (a b c : ℕ) → Plain a → Gave cs ws (dual a) b → Gave cs ws (dual b) c → c ≡ a
       -- a isa b exactly where b's dual isa a's

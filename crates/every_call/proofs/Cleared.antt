@@ -5,7 +5,7 @@ use mathlib.Core.Path.{_≡_}
 use native.Mathlib.Omega.{arith}
 use lib.ListN.{length, take, length-append}
 use lib.Seq.{length-take-le}
-use Rattle.words.specs.Made.{Segments}
+use Rattle.words.specs.Ran.{Segments}
 use Rattle.call.specs.Handles.{typesRows}
 use Rattle.parts.specs.Parts.{Part, Ready, ReadyOne}
 use Rattle.parts.proofs.Good.{good-long, part-weak}

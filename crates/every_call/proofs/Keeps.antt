@@ -23,7 +23,7 @@ use Rattle.meet.specs.Meet.{meetOf, isaOf}
 use Rattle.meet.proofs.Nice.{meet-nice}
 use Rattle.walk_rules.specs.declared.Walk.{Walk}
 use Rattle.walk_rules.specs.declared.Walk.the-variants.{Dual, Glb, Lub}
-use Rattle.walk.specs.Walked.{walkOf}
+use Rattle.walk.specs.Walk.{walkOf}
 use Rattle.walk.proofs.Nice.{walk-nice}
 use Rattle.join.specs.Join.{joinOf}
 use Rattle.join.proofs.Adds.{join-adds}

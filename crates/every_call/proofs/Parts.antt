@@ -9,7 +9,8 @@ use lib.ListN.{length}
 use Rattle.words.specs.Table.{starts}
 use Rattle.wellformed.specs.Entry.{isType, kindAt, all}
 use Rattle.wellformed.proofs.Bools.{and-left, and-right}
-use Rattle.call.specs.Handles.{word, kindOn, noEntry, wrongKind, typesRows}
+use Rattle.call.specs.Handles.{noEntry, wrongKind, typesRows}
+use Rattle.words.specs.Columns.{word, kindOn}
 use Rattle.kept.proofs.Fits.{Right}
 use Rattle.kept.proofs.Rows.{two-off, right-of}
 use Rattle.parts.specs.Parts.{Good, Part}

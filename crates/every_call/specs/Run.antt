@@ -1,4 +1,4 @@
--- Every call of document 01 that takes a store, as a value, and what it answers and leaves: the definitions that its sentences are, one line a call. The contracts of
+-- Every call that is here and takes a store, as a value, and what it answers and leaves: the definitions that its sentences are, one line a call. The contracts of
 -- the functions cite `run`, and demand 3 speaks of lists of these calls.
 use mathlib.Core.Bool.{Bool, true, _&&_}
 use mathlib.Core.List.{List, [], _∷_}

@@ -6,7 +6,7 @@ use Rattle.call.specs.Handles.{typesRows}
 use Rattle.meet.specs.Meet.{meetOf, isaOf}
 use Rattle.walk_rules.specs.declared.Walk.{Walk}
 use Rattle.walk_rules.specs.declared.Walk.the-variants.{Dual, Glb, Lub}
-use Rattle.walk.specs.Walked.{walkOf}
+use Rattle.walk.specs.Walk.{walkOf}
 use Rattle.join.specs.Join.{joinOf}
 use Rattle.finals.specs.Final.{isFinalOf}
 use Rattle.make_ro.specs.ReadOnly.{makeRoOf}

@@ -6,7 +6,7 @@ use Prim.Native.Nat.{ℕ}
 use Rattle.words.specs.Kinds.{Tuple, Struct, Fref, MemPtr, Mem}
 use Rattle.words.specs.Words.{headOf}
 use Rattle.wellformed.specs.Fresh.{freshWords}
-use Rattle.wellformed.specs.Entry.{every}
+use Rattle.words.specs.Columns.{every}
 use Rattle.finals.specs.Final.{allFinal, isFinalWithin, isFinalOf}
 
 abbrev fresh : List ℕ

@@ -15,8 +15,8 @@ use Rattle.parts.specs.Parts.{Good, Part}
 use Rattle.parts.proofs.Good.{part-below}
 use Rattle.later.specs.Later.{Later}
 use Rattle.later.proofs.Later.{later-same, later-then}
-use Rattle.finals.specs.Final.{isFinalWithin, Finals}
-use Rattle.finals.specs.Known.{Knows, Kept}
+use Rattle.finals.specs.Final.{isFinalWithin}
+use Rattle.finals.specs.Known.{Knows, Kept, Finals}
 use Rattle.finals.proofs.Stays.{final-later}
 
 -- in a store that came later

@@ -11,8 +11,7 @@ use Rattle.words.specs.Kinds.{Struct, MemPtr}
 use Rattle.words.specs.Words.{wordsAfter, sizeOf}
 use Rattle.words.proofs.Walk.{size-pos}
 use Rattle.words.proofs.Sizes.{struct-size}
-use Rattle.wellformed.specs.Entry.{every}
-use Rattle.call.specs.Handles.{word, kindOn, depthOn, countOn}
+use Rattle.words.specs.Columns.{every, word, kindOn, depthOn, countOn}
 use Rattle.parts.specs.Parts.{Good, Part, All}
 use Rattle.parts.proofs.Parts.{of-struct, of-pointer, all-map}
 use Rattle.parts.proofs.Good.{part-weak}

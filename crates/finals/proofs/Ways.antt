@@ -7,13 +7,13 @@ use native.Mathlib.Omega.{arith}
 use borrow.Author.Tests.{eq-eqb, ne-eqb, not-true, not-false}
 use lib.Dec.{eqb}
 use lib.ListN.{getD}
-use Rattle.wellformed.specs.Entry.{every}
-use Rattle.call.specs.Handles.{word, kindOn, countOn}
+use Rattle.words.specs.Columns.{every, word, kindOn, countOn}
 use Rattle.parts.specs.Parts.{Good, Part, All}
 use Rattle.parts.proofs.Parts.{few, flat, of-struct, of-pointer, all-map}
 use Rattle.parts.proofs.Good.{part-weak}
 use Rattle.parts.proofs.Left.{every-zero, every-next}
-use Rattle.finals.specs.Final.{allFinal, isFinalWithin, Finals}
+use Rattle.finals.specs.Final.{allFinal, isFinalWithin}
+use Rattle.finals.specs.Known.{Finals}
 
 -- the definition's step, for every number from the handle on
 by-step : {u : List ℕ} {a : ℕ} (r : Bool) → ((k : ℕ) → a ≤ k → r ≡ isFinalWithin (suc k) u a) → Finals u a r

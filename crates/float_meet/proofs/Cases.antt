@@ -13,7 +13,7 @@ use Rattle.type_float.specs.declared.Reading.the-variants.{Constant, Sized}
 use Rattle.float_meet.specs.declared.FloatMeet.{FloatMeet}
 use Rattle.float_meet.specs.declared.FloatMeet.the-variants.{First, Second, Single, Double}
 use Rattle.type_float.specs.Single.{holdsSingle}
-use Rattle.float_meet.specs.FloatRule.{plus, minus, floatRule}
+use Rattle.float_meet.specs.FloatRule.{is64, is32, isMinus32, isMinus64, floatRule}
 use Rattle.float_meet.proofs.SizeTest.{tests}
 
 -- ---- two sizes, with the bits a and b
@@ -50,7 +50,7 @@ unfolding floatRule twoSizes
 of-sizes z t f g =
     let i = tests z f in
     let j = tests t g in
-    sizes-order (plus 64 (Sized z)) (plus 64 (Sized t)) (minus 64 (Sized t)) (minus 64 (Sized z)) (plus 32 (Sized z)) (plus 32 (Sized t)) (minus 32 (Sized z)) (minus 32 (Sized t))
+    sizes-order (is64 (Sized z)) (is64 (Sized t)) (isMinus64 (Sized t)) (isMinus64 (Sized z)) (is32 (Sized z)) (is32 (Sized t)) (isMinus32 (Sized z)) (isMinus32 (Sized t))
     ∙ rw (i .p64, j .p64, j .m64, i .m64, i .p32, j .p32, i .m32, j .m32)
 
 module _ (a b : ℕ) where
@@ -137,7 +137,7 @@ constant-first-order false false false false false = refl
 module _ (z : ℤ) (f : SFits w8 z) (y : F64) where
   -- the code's tests are of the bits
   by-bits : (own : FloatMeet)
-      → (plus 64 (Sized z) ⇒ Double ∣ minus 64 (Sized z) ⇒ own ∣ not (holdsSingle y) ⇒ Double ∣ plus 32 (Sized z) ⇒ Single ∣ minus 32 (Sized z) ⇒ own ∣ Double)
+      → (is64 (Sized z) ⇒ Double ∣ isMinus64 (Sized z) ⇒ own ∣ not (holdsSingle y) ⇒ Double ∣ is32 (Sized z) ⇒ Single ∣ isMinus32 (Sized z) ⇒ own ∣ Double)
       ≡ sizeAndConstant own (ofZ w8 z) (holdsSingle y)
   unfolding sizeAndConstant
   by-bits own =
@@ -146,11 +146,11 @@ module _ (z : ℤ) (f : SFits w8 z) (y : F64) where
 
   pub of-size-first : floatRule (Sized z) (Constant y) ≡ sizeAndConstant Second (ofZ w8 z) (holdsSingle y)
   unfolding floatRule
-  of-size-first = size-first-order (plus 64 (Sized z)) (minus 64 (Sized z)) (plus 32 (Sized z)) (minus 32 (Sized z)) (holdsSingle y) ∙ by-bits Second
+  of-size-first = size-first-order (is64 (Sized z)) (isMinus64 (Sized z)) (is32 (Sized z)) (isMinus32 (Sized z)) (holdsSingle y) ∙ by-bits Second
 
   pub of-constant-first : floatRule (Constant y) (Sized z) ≡ sizeAndConstant First (ofZ w8 z) (holdsSingle y)
   unfolding floatRule
-  of-constant-first = constant-first-order (plus 64 (Sized z)) (minus 64 (Sized z)) (plus 32 (Sized z)) (minus 32 (Sized z)) (holdsSingle y) ∙ by-bits First
+  of-constant-first = constant-first-order (is64 (Sized z)) (isMinus64 (Sized z)) (is32 (Sized z)) (isMinus32 (Sized z)) (holdsSingle y) ∙ by-bits First
 
 module _ (own : FloatMeet) (a : ℕ) (single : Bool) where
   pub sized-64 : a ≡ 64 → Double ≡ sizeAndConstant own a single

@@ -3,3 +3,4 @@ pub mod SizeTest
 pub mod Cases
 pub mod ReadBoth
 pub mod Examples
+pub mod Table

@@ -9,7 +9,7 @@ use borrow.Author.Tests.{eqb-true, eqb-false, eq-eqb, ne-eqb}
 use mir.Syntax.{w8}
 use mir.Val.{SFits, ofZ}
 use Rattle.type_float.specs.declared.Reading.the-variants.{Sized}
-use Rattle.float_meet.specs.FloatRule.{plus, minus}
+use Rattle.float_meet.specs.FloatRule.{isPlus, isMinus, is64, is32, isMinus32, isMinus64}
 
 -- one test for another, where they hold together
 same-test : (a b c d : ℕ) → (a ≡ b → c ≡ d) → (c ≡ d → a ≡ b) → eqb a b ≡ eqb c d
@@ -20,20 +20,20 @@ same-test a b c d to back = go (eqb a b) refl
     go false e = e ∙ sym (ne-eqb c d (λ q. eqb-false a b e (back q)))
 
 module _ (n : ℕ) (low : 0 < n) (high : n < 128) where
-  plus-is : (z : ℤ) → SFits w8 z → plus n (Sized z) ≡ eqb (ofZ w8 z) n
+  plus-is : (z : ℤ) → SFits w8 z → isPlus n z ≡ eqb (ofZ w8 z) n
   plus-is (pos m) f = refl
   plus-is (negsuc m) f = sym (ne-eqb _ n (λ e. omega arith))
 
-  minus-is : (z : ℤ) → SFits w8 z → minus n (Sized z) ≡ eqb (ofZ w8 z) (256 - n)
+  minus-is : (z : ℤ) → SFits w8 z → isMinus n z ≡ eqb (ofZ w8 z) (256 - n)
   minus-is (pos m) f = sym (ne-eqb m _ (λ e. omega arith))
   minus-is (negsuc m) f = same-test (suc m) n (256 - suc m) (256 - n) (λ e. omega arith) (λ e. omega arith)
 
 -- the four tests of a size, on its bits a
 pub record Tests (z : ℤ) (a : ℕ) : Type 0 where
-  pub p64 : plus 64 (Sized z) ≡ eqb a 64
-  pub m64 : minus 64 (Sized z) ≡ eqb a 192
-  pub p32 : plus 32 (Sized z) ≡ eqb a 32
-  pub m32 : minus 32 (Sized z) ≡ eqb a 224
+  pub p64 : is64 (Sized z) ≡ eqb a 64
+  pub m64 : isMinus64 (Sized z) ≡ eqb a 192
+  pub p32 : is32 (Sized z) ≡ eqb a 32
+  pub m32 : isMinus32 (Sized z) ≡ eqb a 224
 
 pub tests : (z : ℤ) → SFits w8 z → Tests z (ofZ w8 z)
 tests z f = record {

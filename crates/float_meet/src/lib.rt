@@ -1,4 +1,5 @@
 // The meet of two floats, as far as it depends on their sizes and constants alone.
+// A size stands as its number, -64, -32, 32 or 64, which is the document's name for it: a name in its place would only repeat it.
 use type_float::Float;
 use type_float::Reading;
 ghost use mathlib.Core.Path.{_≡_};

@@ -8,7 +8,7 @@ use native.Mathlib.Nat.{add-zero, add-sub-cancel-left}
 use lib.ListN.{length, take, drop, getD, length-drop}
 use lib.Seq.{slice, take-add, length-take-le, getD-take, getD-drop}
 use Rattle.words.specs.Words.{sizeOf, fills}
-use Rattle.words.specs.Table.{Sized}
+use Rattle.words.specs.Ran.{HasSize}
 use Rattle.words.proofs.Walk.{size-pos, next, inside}
 use Rattle.words.proofs.Kept.{fills-more}
 use Rattle.index.specs.Chains.{Indexed, added}
@@ -42,7 +42,7 @@ module _ (ws : List ℕ) (used : ℕ) (index : List ℕ) (at : ℕ) (high : used
     e-long : length e ≡ sizeOf (getD ws at 0)
     e-long = length-take-le (sizeOf (getD ws at 0)) (drop at ws) (omega (arith, built-inside, length-drop at ws))
 
-    e-sized : Sized e
+    e-sized : HasSize e
     e-sized = e-long ∙ ap sizeOf (sym (getD-take (sizeOf (getD ws at 0)) (drop at ws) 0 0 (size-pos (getD ws at 0)) ∙ getD-drop at ws 0 0 ∙ ap (λ (k : ℕ). getD ws k 0) (add-zero at)))
 
     pub built-more : (n : ℕ) (index′ : List ℕ) → n ≡ sizeOf (getD ws at 0) → index′ ≡ added index at (take ((at + n) - at) (drop at ws)) → Built ws used index′ (at + n)

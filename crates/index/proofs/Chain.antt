@@ -9,7 +9,7 @@ use lib.ListN.{length, take, drop, getD, length-take, drop-of-length-le}
 use lib.Seq.{length-take-le, take-append-le, take-take}
 use Rattle.words.specs.Words.{sizeOf, eqs, fills}
 use Rattle.words.specs.Table.{rows, entries, firstOf, findIn, starts}
-use Rattle.words.specs.Made.{Segments}
+use Rattle.words.specs.Ran.{Segments}
 use Rattle.words.specs.declared.Found.{Found}
 use Rattle.words.specs.declared.Found.the-variants.{At, Nothing}
 use Rattle.words.proofs.Grow.{orElse}

@@ -9,7 +9,8 @@ use borrow.Author.Tests.{eq-eqb, ne-eqb}
 use lib.ListN.{length, drop, getD, set, length-set, length-append}
 use lib.Seq.{getD-set-same, getD-set-other, lt-length-set}
 use Rattle.words.specs.Words.{fills}
-use Rattle.words.specs.Table.{Row, entries, Sized}
+use Rattle.words.specs.Table.{Row, entries}
+use Rattle.words.specs.Ran.{HasSize}
 use Rattle.words.proofs.Kept.{entries-append}
 use Rattle.index.specs.Digest.{hashFrom, bucketOf}
 use Rattle.index.specs.Chains.{newestFirst, newest, link, Holds, Indexed, added}
@@ -73,7 +74,7 @@ module _ (u index : List ℕ) (low : 1 ≤ length u) (x : Indexed u index) where
   pub bucket-low : (b : ℕ) → b < length index / 2 → getD index b 0 ≤ length u
   bucket-low b l = omega (arith, x .holds .buckets b l, newest-low (length index / 2) b (newestFirst [] (entries u)) (entries-fall u low) (omega arith))
 
-  pub indexed-more : (e : List ℕ) → fills 0 (drop 1 u) ≡ true → Sized e → length u < length index / 2 → length u + length e ≤ length index / 2 → Indexed (u ++ e) (added index (length u) e)
+  pub indexed-more : (e : List ℕ) → fills 0 (drop 1 u) ≡ true → HasSize e → length u < length index / 2 → length u + length e ≤ length index / 2 → Indexed (u ++ e) (added index (length u) e)
   indexed-more e full sized more room =
       let n : length (added index (length u) e) / 2 ≡ length index / 2 = ap (λ (k : ℕ). k / 2) (length-added index (length u) e) in
       let rs : newestFirst [] (entries (u ++ e)) ≡ record { at = length u; words = e } ∷ newestFirst [] (entries u) =

@@ -7,7 +7,7 @@ use Prim.Native.Nat.{ℕ, zero, suc, pred, _+_, _≤_, _<_}
 use native.Mathlib.Omega.{arith}
 use lib.ListN.{length, take, drop, length-drop}
 use Rattle.words.specs.Words.{sizeOf, eqs}
-use Rattle.words.specs.Table.{Row, rows, entries, firstOf, In}
+use Rattle.words.specs.Table.{Row, rows, entries, firstOf, RowIn}
 use Rattle.words.specs.declared.Found.{Found}
 use Rattle.words.specs.declared.Found.the-variants.{At, Nothing}
 use Rattle.words.proofs.Grow.{orElse}
@@ -42,17 +42,17 @@ unfolding newestFirst
 first-snoc past [] r = refl
 first-snoc past (q ∷ rs) r = first-snoc (q ∷ past) rs r
 
-pub in-either : (past rs : List Row) (r : Row) → In r (newestFirst past rs) → In r past ⊎ In r rs
+pub in-either : (past rs : List Row) (r : Row) → RowIn r (newestFirst past rs) → RowIn r past ⊎ RowIn r rs
 unfolding newestFirst
 in-either past [] r m = inl m
 in-either past (q ∷ rs) r m =
     ⊎-elim
-    (λ (a : In r (q ∷ past)). ⊎-elim (λ (e : r ≡ q). inr (List·Memᴰ·head e)) (λ (b : In r past). inl b) (List·Memᴰ·cases-cons a))
-    (λ (b : In r rs). inr (List·Memᴰ·tail b))
+    (λ (a : RowIn r (q ∷ past)). ⊎-elim (λ (e : r ≡ q). inr (List·Memᴰ·head e)) (λ (b : RowIn r past). inl b) (List·Memᴰ·cases-cons a))
+    (λ (b : RowIn r rs). inr (List·Memᴰ·tail b))
     (in-either (q ∷ past) rs r m)
 
-pub in-rows : (rs : List Row) (r : Row) → In r (newestFirst [] rs) → In r rs
-in-rows rs r m = ⊎-elim (λ (a : In r []). absurd (List·Memᴰ·not-nil a)) (λ (b : In r rs). b) (in-either [] rs r m)
+pub in-rows : (rs : List Row) (r : Row) → RowIn r (newestFirst [] rs) → RowIn r rs
+in-rows rs r m = ⊎-elim (λ (a : RowIn r []). absurd (List·Memᴰ·not-nil a)) (λ (b : RowIn r rs). b) (in-either [] rs r m)
 
 -- ---- the search
 

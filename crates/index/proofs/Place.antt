@@ -9,8 +9,8 @@ use native.Mathlib.Nat.{add-zero, add-sub-cancel-left}
 use lib.ListN.{length, take, drop, getD, length-take, length-drop}
 use lib.Seq.{drop-drop, getD-drop, take-append-le, drop-append-le}
 use Rattle.words.specs.Words.{sizeOf, eqs, fills}
-use Rattle.words.specs.Table.{Row, rows, entries, starts, In}
-use Rattle.words.specs.Made.{Segments}
+use Rattle.words.specs.Table.{Row, rows, entries, starts, RowIn}
+use Rattle.words.specs.Ran.{Segments}
 use Rattle.words.proofs.Walk.{size-pos, long, take-slice}
 use Rattle.words.proofs.Handles.{rows-bound, at-row}
 use Rattle.words.proofs.Join.{in-first, in-second, take-past, drop-past}
@@ -23,7 +23,7 @@ record Spot (p : ℕ) (l : List ℕ) (r : Row) : Type 0 where
   pub words : r .words ≡ take (sizeOf (getD l off 0)) (drop off l)
   pub inside : off + sizeOf (getD l off 0) ≤ length l
 
-spot : (p k : ℕ) (l : List ℕ) (r : Row) → fills k l ≡ true → In r (rows p k l) → Spot p l r
+spot : (p k : ℕ) (l : List ℕ) (r : Row) → fills k l ≡ true → RowIn r (rows p k l) → Spot p l r
 unfolding fills rows
 spot p zero [] r f i = absurd (List·Memᴰ·not-nil i)
 spot p (suc k) [] r f i = absurd (List·Memᴰ·not-nil i)
@@ -49,7 +49,7 @@ pub record Place (u : List ℕ) (r : Row) : Type 0 where
   pub words : r .words ≡ take (sizeOf (getD u (r .at) 0)) (drop (r .at) u)
   pub inside : r .at + sizeOf (getD u (r .at) 0) ≤ length u
 
-pub place : (u : List ℕ) → fills 0 (drop 1 u) ≡ true → (r : Row) → In r (entries u) → Place u r
+pub place : (u : List ℕ) → fills 0 (drop 1 u) ≡ true → (r : Row) → RowIn r (entries u) → Place u r
 unfolding entries
 place u full r m =
     let s = spot 1 0 (drop 1 u) r full m in
@@ -91,10 +91,10 @@ module _ (old new : List ℕ) (used at : ℕ) (s : Segments old new used) (start
         ∙ ap (rows 1 0) (drop-append-le 1 old (take (used - length old) new) (omega arith))
         ∙ rows-append 1 0 (drop 1 old) (take (used - length old) new) (s .cut)
         ∙ ap (λ (k : ℕ). rows 1 0 (drop 1 old) ++ rows k 0 (take (used - length old) new)) q in
-        let m : In (r .0) (entries old ++ rows (length old) 0 (take (used - length old) new)) = subst (λ (l : List Row). In (r .0) l) e (r .1) in
+        let m : RowIn (r .0) (entries old ++ rows (length old) 0 (take (used - length old) new)) = subst (λ (l : List Row). RowIn (r .0) l) e (r .1) in
         ⊎-elim
-        (λ (i : In (r .0) (entries old)). omega (arith, place old (s .cut) (r .0) i .inside, r .2, ap (λ (k : ℕ). sizeOf (getD old k 0)) (r .2)))
-        (λ (i : In (r .0) (rows (length old) 0 (take (used - length old) new))). absurd (omega (arith, rows-bound (length old) 0 (take (used - length old) new) (r .0) i .0, r .2)))
+        (λ (i : RowIn (r .0) (entries old)). omega (arith, place old (s .cut) (r .0) i .inside, r .2, ap (λ (k : ℕ). sizeOf (getD old k 0)) (r .2)))
+        (λ (i : RowIn (r .0) (rows (length old) 0 (take (used - length old) new))). absurd (omega (arith, rows-bound (length old) 0 (take (used - length old) new) (r .0) i .0, r .2)))
         (List·Memᴰ·append-cases (entries old) m)
 
     pub in-old : (e : List ℕ) (n : ℕ) (t : Bool) → n ≡ sizeOf (getD old at 0) → t ≡ eqs (take ((at + n) - at) (drop at old)) e → t ≡ eqs (take (sizeOf (getD (take used (old ++ new)) at 0)) (drop at (take used (old ++ new)))) e

@@ -6,7 +6,7 @@ use Prim.Native.Nat.{ℕ, zero, suc, _+_, _-_, _/_, _≤_, _<_}
 use native.Mathlib.Omega.{arith}
 use lib.ListN.{length, take, drop, getD}
 use Rattle.words.specs.Words.{sizeOf, eqs, fills}
-use Rattle.words.specs.Table.{Row, entries, starts, findIn, In}
+use Rattle.words.specs.Table.{Row, entries, starts, findIn, RowIn}
 use Rattle.words.specs.declared.Found.{Found}
 use Rattle.words.specs.declared.Found.the-variants.{At, Nothing}
 use Rattle.words.proofs.Grow.{orElse}
@@ -26,7 +26,7 @@ named (suc h) = At (suc h)
 pub record Seek (u index e : List ℕ) (at low : ℕ) : Type 0 where
   pub older : List Row
   pub falling : Falling (length u) older
-  pub within : (r : Row) → In r older → In r (entries u)
+  pub within : (r : Row) → RowIn r older → RowIn r (entries u)
   pub is : newest (length index / 2) (bucketOf (length index / 2) e) older ≡ at
   pub links : (h : ℕ) → 0 < h → h ≤ at → getD index (length index / 2 + h) 0 ≡ link (length index / 2) h older
   pub found : findIn u e ≡ orElse (lowest older e) (named low)

@@ -7,7 +7,7 @@ use native.Mathlib.Omega.{arith}
 use borrow.Author.Tests.{eq-eqb, ne-eqb, eqb-true, eqb-false}
 use lib.Dec.{eqb}
 use Rattle.words.specs.Words.{eqs}
-use Rattle.words.specs.Table.{Row, In}
+use Rattle.words.specs.Table.{Row, RowIn}
 use Rattle.words.specs.declared.Found.the-variants.{Nothing}
 use Rattle.words.proofs.Alike.{eqs-eq}
 use Rattle.words.proofs.Grow.{orElse}
@@ -47,8 +47,8 @@ module _ (n b : ℕ) where
     pub words : List ℕ
     pub older : List Row
     pub falling : Falling at older
-    pub row : In (record { at = at; words = words }) rs
-    pub within : (r : Row) → In r older → In r rs
+    pub row : RowIn (record { at = at; words = words }) rs
+    pub within : (r : Row) → RowIn r older → RowIn r rs
     pub here : link n at rs ≡ 1 + newest n b older
     pub links : (h : ℕ) → h < at → link n h rs ≡ link n h older
     pub search : (e : List ℕ) → bucketOf n e ≡ b → lowest rs e ≡ orElse (lowest older e) (one (eqs words e) at)

@@ -8,7 +8,7 @@ use lib.ListN.{length, take, drop, length-drop}
 use lib.Seq.{slice, take-length, drop-append-le}
 use Rattle.words.specs.Words.{fills}
 use Rattle.words.specs.Table.{rows, firstOf}
-use Rattle.words.specs.Made.{Segments}
+use Rattle.words.specs.Ran.{Segments}
 use Rattle.words.specs.declared.Found.{Found}
 use Rattle.words.specs.declared.Found.the-variants.{At, Nothing}
 use Rattle.words.proofs.Join.{take-past, drop-past}

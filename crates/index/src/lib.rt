@@ -10,10 +10,18 @@ ghost use Prim.Native.Nat.{ℕ, _+_, _-_, _*_, _/_, _<_, _≤_, _^_};
 ghost use lib.ListN.{length, take, drop, getD};
 ghost use Rattle.words.specs.Words.{sizeOf, eqs, fills};
 ghost use Rattle.words.specs.Table.{rows, firstOf, findIn, starts as startsIn};
-ghost use Rattle.words.specs.Made.{make, Segments, Runs};
+ghost use Rattle.words.specs.Made.{make};
+ghost use Rattle.words.specs.Ran.{Segments, Runs};
 ghost use Rattle.index.specs.Digest.{stirred, hashFrom, slotOf, bucketOf};
 ghost use Rattle.index.specs.Chains.{added};
 ghost use Rattle.index.specs.Covers.{indexedTo, Covers, Blank, Opened, Tail};
+
+// The numbers of the hash (specs/Digest.antt).
+const HALF: u64 = 4294967296;
+
+const LOWER_FACTOR: u64 = 2654435769;
+
+const UPPER_FACTOR: u64 = 2246822519;
 
 // ---- where an entry is looked for
 
@@ -21,8 +29,8 @@ ghost use Rattle.index.specs.Covers.{indexedTo, Covers, Blank, Opened, T
 pub fn stir(x: u64) -> u64
     ensures { λ r. ⌜ r ≡ stirred x ⌝ }
 {
-    let y = ((x % 4294967296) * 2654435769) ^ ((x / 4294967296) * 2246822519);
-    y ^ (y / 4294967296)
+    let y = ((x % HALF) * LOWER_FACTOR) ^ ((x / HALF) * UPPER_FACTOR);
+    y ^ (y / HALF)
 }
 
 fn hash(entry: &[u64]) -> u64
@@ -42,8 +50,8 @@ pub fn slot(n: usize, h: u64) -> usize
     requires { ⌜ 0 < n ⌝ }
     ensures { λ r. ⌜ (r ≡ slotOf n h) × (r < n) ⌝ }
 {
-    if n < 4294967296 {
-        return ((h % 4294967296) * (n as u64) / 4294967296) as usize;
+    if n < HALF as usize {
+        return ((h % HALF) * (n as u64) / HALF) as usize;
     }
     (h % (n as u64)) as usize
 }

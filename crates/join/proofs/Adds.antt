@@ -6,14 +6,14 @@ use native.Mathlib.Omega.{arith}
 use lib.Dec.{eqb}
 use lib.ListN.{length}
 use Rattle.words.specs.Made.{Grown, there}
-use Rattle.call.specs.Keep.{Adds}
+use Rattle.call.specs.Adds.{Adds}
 use Rattle.call.proofs.Sound.{adds-none, adds-then}
 use Rattle.parts.specs.Parts.{Good, Part}
 use Rattle.parts.proofs.Good.{part-weak, part-below, adds-long, good-adds, part-adds, Answers}
 use Rattle.meet.specs.Meet.{meetOf}
 use Rattle.meet.proofs.Nice.{meet-nice}
 use Rattle.walk_rules.specs.declared.Walk.the-variants.{Dual}
-use Rattle.walk.specs.Walked.{dualOf}
+use Rattle.walk.specs.Walk.{dualOf}
 use Rattle.walk.proofs.Nice.{walk-nice}
 use Rattle.join.specs.Join.{dualOfMeet, joinWith, joinOf}
 

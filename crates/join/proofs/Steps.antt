@@ -9,19 +9,22 @@ use lib.ListN.{length, take, drop, length-append}
 use lib.Seq.{length-take-le}
 use borrow.Rule.Slice.PartMut.{putMid}
 use Rattle.words.specs.Words.{fills}
-use Rattle.words.specs.Made.{Grown, Ran, Runs}
+use Rattle.words.specs.Made.{Grown}
+use Rattle.words.specs.Ran.{Ran, Runs}
 use Rattle.words.specs.declared.Interned.{Interned}
 use Rattle.words.specs.declared.Interned.the-variants.{At, Full}
 use Rattle.words.proofs.Extend.{Extends, ext-then}
 use Rattle.index.specs.Covers.{Covers}
 use Rattle.parts.specs.Parts.{Good, Part, Ready, ReadyOne}
 use Rattle.parts.proofs.Good.{part-weak, part-below, good-adds, part-adds, one-segments, Answers}
-use Rattle.meet.specs.Meet.{meetOf, Met}
+use Rattle.meet.specs.Meet.{meetOf}
+use Rattle.meet.specs.Met.{Met}
 use Rattle.meet.proofs.Grows.{meet-grows}
 use Rattle.meet.proofs.Nice.{meet-nice}
 use Rattle.parts.proofs.Grew.{Grew, grew-none, grew-there, grew-long, grew-up, grew-high, grew-words, grew-more, grew-stop, then-made, grew-covers}
 use Rattle.walk_rules.specs.declared.Walk.the-variants.{Dual}
-use Rattle.walk.specs.Walked.{dualOf, Walked}
+use Rattle.walk.specs.Walked.{Walked}
+use Rattle.walk.specs.Walk.{dualOf}
 use Rattle.walk.proofs.Grows.{walk-grows}
 use Rattle.walk.proofs.Nice.{walk-nice}
 use Rattle.later.proofs.Later.{later-adds}

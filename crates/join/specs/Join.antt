@@ -3,7 +3,7 @@ use mathlib.Core.Bool.{cond}
 use lib.Dec.{eqb}
 use Rattle.words.specs.Made.{there}
 use Rattle.meet.specs.Meet.{Op, meetOf}
-use Rattle.walk.specs.Walked.{dualOf}
+use Rattle.walk.specs.Walk.{dualOf}
 
 -- meet, then dual
 abbrev pub dualOfMeet : Op

@@ -4,10 +4,11 @@ use words::Interned;
 ghost use mathlib.Core.List.{_++_};
 ghost use lib.ListN.{take};
 ghost use Rattle.index.specs.Covers.{Covers};
-ghost use Rattle.words.specs.Made.{Runs};
+ghost use Rattle.words.specs.Ran.{Runs};
 ghost use Rattle.parts.specs.Parts.{Ready};
 ghost use Rattle.join.specs.Join.{dualOfMeet, joinWith, joinOf};
 ghost use Rattle.join.specs.Memory.{Remembers, Remembered};
+ghost use Rattle.words.specs.Kinds.{Bot, lastKind};
 
 fn dual_of_meet(
     old: &[u64],
@@ -18,7 +19,7 @@ fn dual_of_meet(
     memory: &mut [u64],
     index: &[u64],
 ) -> Interned
-    requires { ⌜ Ready (now old) (now new) used 1 11 a b ⌝ }
+    requires { ⌜ Ready (now old) (now new) used Bot lastKind a b ⌝ }
     requires { ⌜ Remembers (take used (now old ++ now new)) (now memory) ⌝ }
     requires { ⌜ Covers (take used (now old ++ now new)) (now index) ⌝ }
     ensures { λ r. ⌜ Runs (λ u. dualOfMeet u a b) (now (old .entry)) (now (new .entry)) used (now (new .exit)) r ⌝ }
@@ -49,7 +50,7 @@ fn join_with(
     memory: &mut [u64],
     index: &[u64],
 ) -> Interned
-    requires { ⌜ Ready (now old) (now new) used 1 11 a b ⌝ }
+    requires { ⌜ Ready (now old) (now new) used Bot lastKind a b ⌝ }
     requires { ⌜ Remembers (take used (now old ++ now new)) (now memory) ⌝ }
     requires { ⌜ Covers (take used (now old ++ now new)) (now index) ⌝ }
     ensures { λ r. ⌜ Runs (λ u. joinWith u a b) (now (old .entry)) (now (new .entry)) used (now (new .exit)) r ⌝ }
@@ -72,7 +73,7 @@ pub fn join(
     memory: &mut [u64],
     index: &[u64],
 ) -> Interned
-    requires { ⌜ Ready (now old) (now new) used 1 11 a b ⌝ }
+    requires { ⌜ Ready (now old) (now new) used Bot lastKind a b ⌝ }
     requires { ⌜ Remembers (take used (now old ++ now new)) (now memory) ⌝ }
     requires { ⌜ Covers (take used (now old ++ now new)) (now index) ⌝ }
     ensures { λ r. ⌜ Runs (λ u. joinOf u a b) (now (old .entry)) (now (new .entry)) used (now (new .exit)) r ⌝ }

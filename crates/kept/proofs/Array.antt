@@ -10,16 +10,19 @@ use lib.ListN.{length, getD}
 use Rattle.words.specs.Kinds.{Int}
 use Rattle.words.specs.Words.{kindOf}
 use Rattle.words.specs.Made.{Grown, make}
-use Rattle.wellformed.specs.Entry.{kindIn, kindAt, isName, isType, isAlias, mostOf, every, all, deepest, deepestAllowed}
+use Rattle.wellformed.specs.Entry.{kindIn, kindAt, isName, isType, isAlias, mostOf, all, deepest, deepestAllowed}
+use Rattle.words.specs.Columns.{every, word}
 use Rattle.wellformed.specs.Form.{wellFormed, usedWords}
 use Rattle.wellformed.proofs.Bools.{and-left, and-right, and-both}
-use Rattle.call.specs.Call.{_when_, _∣_}
-use Rattle.call.specs.Handles.{word, noEntry, wrongKind, tooDeep}
-use Rattle.call.specs.Keep.{Sound, Adds, Keeps}
+use Rattle.call.specs.Call.{_when_, _otherwise_}
+use Rattle.call.specs.Handles.{noEntry, wrongKind, tooDeep}
+use Rattle.call.specs.Keep.{Keeps}
+use Rattle.call.specs.Adds.{Sound, Adds}
 use Rattle.call.proofs.Sound.{make-adds, adds-then}
 use Rattle.call.proofs.Keep.{call-keeps}
 use Rattle.names.specs.Name.{nameEntry, wrapped}
-use Rattle.makers.specs.Entries.{structEntry, ValuesFit}
+use Rattle.makers.specs.Entries.{structEntry}
+use Rattle.makers.specs.Fit.{ValuesFit}
 use Rattle.makers.specs.Makers.{aryRows, neverNil, lengthName, bodyName, makeAry, makeAryCall}
 use Rattle.kept.proofs.Fits.{Right, right-cons, StructParts, struct-fits}
 use Rattle.kept.proofs.NameFits.{name-fitting}
@@ -77,8 +80,8 @@ module _ (len lenAlias body bodyAlias : ℕ) (text u : List ℕ) where
       let e₅ = ltb 255 (length (wrapped true text)) in
       let e₆ = tooDeep u (len ∷ body ∷ []) in
       let e₁₀ = neverNil u body in
-      let x = then-off 1 e₂ (3 when (w || v) ∣ 4 when (a || b) ∣ 5 when e₅ ∣ 6 when e₆ ∣ 10 when e₁₀) q in
-      let y = then-off 2 (w || v) (4 when (a || b) ∣ 5 when e₅ ∣ 6 when e₆ ∣ 10 when e₁₀) (x .1) in
+      let x = then-off 1 e₂ (3 when (w || v) otherwise 4 when (a || b) otherwise 5 when e₅ otherwise 6 when e₆ otherwise 10 when e₁₀) q in
+      let y = then-off 2 (w || v) (4 when (a || b) otherwise 5 when e₅ otherwise 6 when e₆ otherwise 10 when e₁₀) (x .1) in
       let f = four-off 3 4 5 9 (a || b) e₅ e₆ e₁₀ (y .1) in
       let k = either-off w v (y .0) in
       let n = either-off a b (f .0) in

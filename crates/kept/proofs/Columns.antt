@@ -6,7 +6,8 @@ use Prim.Native.Nat.{ℕ, zero, suc, _+_, _*_, _≤_}
 use native.Mathlib.Omega.{arith}
 use borrow.Author.Tests.{le-leb, leb-true}
 use lib.ListN.{length, getD}
-use Rattle.wellformed.specs.Entry.{every, all, isFlag, isAlias, isAliasFinal}
+use Rattle.wellformed.specs.Entry.{all, isFlag, isAlias, isAliasFinal}
+use Rattle.words.specs.Columns.{every}
 use Rattle.wellformed.proofs.Bools.{and-left, and-right, and-both}
 use Rattle.makers.specs.Entries.{fieldWords}
 use Rattle.makers.proofs.Fields.{every-shift}

@@ -8,13 +8,17 @@ use borrow.Author.Tests.{le-leb, eq-eqb, ne-eqb}
 use lib.ListN.{length}
 use Rattle.words.specs.Kinds.{Int, Tuple, Struct, Fref, MemPtr, Mem, lastKind}
 use Rattle.words.specs.Words.{sizeOf, wordsAfter}
-use Rattle.words.specs.Table.{entries, starts, Sized}
+use Rattle.words.specs.Table.{entries, starts}
+use Rattle.words.specs.Ran.{HasSize}
 use Rattle.words.proofs.Sizes.{tuple-size, struct-size}
-use Rattle.wellformed.specs.Entry.{kind, depth, count, mostOf, deepestAllowed, every, namesIn, typesIn, isName, isType, isFlag, isAlias, isAliasFinal, takes, kindAt, all, deepest, floatOk, valuesOk, okEntry}
+use Rattle.wellformed.specs.Entry.{kind, depth, count, mostOf, deepestAllowed, namesIn, typesIn, isName, isType, isFlag, isAlias, isAliasFinal, takes, kindAt, all, deepest, floatOk, valuesOk, okEntry}
+use Rattle.words.specs.Columns.{every, word}
 use Rattle.wellformed.proofs.Bools.{and-left}
-use Rattle.call.specs.Handles.{word, headAround}
-use Rattle.call.specs.Keep.{Ends, Fitting}
-use Rattle.makers.specs.Entries.{intEntry, floatEntry, tupleEntry, frefEntry, pointerEntry, memoryEntry, fieldCount, fieldNames, fieldTypes, fieldWords, ValuesFit, structEntry}
+use Rattle.call.specs.Handles.{headAround}
+use Rattle.call.specs.Keep.{Ends}
+use Rattle.call.specs.Adds.{Fitting}
+use Rattle.makers.specs.Entries.{intEntry, floatEntry, tupleEntry, frefEntry, pointerEntry, memoryEntry, fieldCount, fieldNames, fieldTypes, fieldWords, structEntry}
+use Rattle.makers.specs.Fit.{ValuesFit}
 use Rattle.makers.proofs.Fields.{every-shift, fields-length}
 use Rattle.kept.proofs.Columns.{every-all, names-apart, types-apart, values-apart}
 use Rattle.kept.proofs.Heads.{head-kind, head-depth, head-count, start-heads}
@@ -63,7 +67,7 @@ module _ (u : List ℕ) (k n : ℕ) (names types : List ℕ) where
     pub depth-is : depth e ≡ d
     depth-is = head-depth k d n (omega (arith, p .high)) (omega (arith, p .flat))
 
-    pub around-fits : (k ≡ Int → ⊥) → Sized e → namesIn e ≡ names → typesIn e ≡ types → valuesOk e ≡ true → Fitting u e
+    pub around-fits : (k ≡ Int → ⊥) → HasSize e → namesIn e ≡ names → typesIn e ≡ types → valuesOk e ≡ true → Fitting u e
     unfolding okEntry
     around-fits no-int sized names-are types-are values =
         let no : (k ≡ 0 → ⊥) = λ z. absurd (omega (arith, p .low)) in

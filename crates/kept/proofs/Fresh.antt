@@ -10,24 +10,25 @@ use borrow.Author.Tests.{eqb-true, ltb-true, le-leb}
 use lib.Dec.{eqb, ltb}
 use lib.ListN.{length, getD, replicate, length-append, length-replicate}
 use Rattle.words.specs.Words.{wordsAfter, sizeOf, fills, eqs}
-use Rattle.words.specs.Table.{Row, rows, entries, firstOf, In, Own}
+use Rattle.words.specs.Table.{Row, rows, entries, firstOf, RowIn, Own}
 use Rattle.words.specs.declared.Found.{Found}
 use Rattle.words.specs.declared.Found.the-variants.{At, Nothing}
 use Rattle.bitset.specs.Bitset.{nowhere, also}
 use Rattle.wellformed.specs.Fresh.{freshWords}
-use Rattle.wellformed.specs.Entry.{mostOf, every, namesIn, typesIn, all, deepest, floatOk, zeroFilled, valuesOk, okEntry}
+use Rattle.wellformed.specs.Entry.{mostOf, namesIn, typesIn, all, deepest, floatOk, zeroFilled, valuesOk, okEntry}
+use Rattle.words.specs.Columns.{every}
 use Rattle.wellformed.specs.Form.{allZero, headsAt, okRows, wellFormed, usedWords}
 use Rattle.wellformed.proofs.Before.{passes}
 use Rattle.wellformed.proofs.Bools.{and-left, and-right}
 use Rattle.call.specs.Keep.{Ends}
-use Rattle.names.specs.Name.{number, packed, nameEntry}
+use Rattle.names.specs.Name.{ofBytes, packed, nameEntry}
 use Rattle.makers.specs.Entries.{fieldWords}
 use Rattle.makers.specs.Makers.{freshStore, freshCall}
 use Rattle.kept.specs.FreshTable.{freshUsed, freshTable}
 
 -- the entries of the fresh words are those of the document
 pub fresh-is : entries freshUsed ≡ freshTable
-unfolding entries rows sizeOf wordsAfter freshWords freshTable nameEntry packed number fieldWords every deepest
+unfolding entries rows sizeOf wordsAfter freshWords freshTable nameEntry packed ofBytes fieldWords every deepest
 fresh-is = refl
 
 -- ---- a fresh store is well formed
@@ -66,13 +67,13 @@ passed : (Row → Bool) → List Row → Bool
 passed t [] = true
 passed t (r ∷ rs) = t r && passed t rs
 
-each : (t : Row → Bool) (rs : List Row) → passed t rs ≡ true → (r : Row) → In r rs → t r ≡ true
+each : (t : Row → Bool) (rs : List Row) → passed t rs ≡ true → (r : Row) → RowIn r rs → t r ≡ true
 unfolding passed
 each t [] o r m = absurd (List·Memᴰ·not-nil m)
 each t (q ∷ rs) o r m =
     ⊎-elim
     (λ (e : r ≡ q). rw e (and-left (t q) (passed t rs) o))
-    (λ (i : In r rs). each t rs (and-right (t q) (passed t rs) o) r i)
+    (λ (i : RowIn r rs). each t rs (and-right (t q) (passed t rs) o) r i)
     (List·Memᴰ·cases-cons m)
 
 -- ---- no two of its entries are equal

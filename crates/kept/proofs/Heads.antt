@@ -9,7 +9,7 @@ use Rattle.words.specs.Table.{starts}
 use Rattle.wellformed.specs.Entry.{kindAt, all, deepest}
 use Rattle.wellformed.specs.Form.{headsAt}
 use Rattle.wellformed.proofs.Bools.{and-left, and-right}
-use Rattle.call.specs.Handles.{word}
+use Rattle.words.specs.Columns.{word}
 
 module _ (k d n : ℕ) (small : k < 256) where
   pub head-kind : kindOf (headOf k d n) ≡ k

@@ -12,7 +12,8 @@ use Rattle.words.specs.Made.{make}
 use Rattle.wellformed.specs.Entry.{isType, isStruct, isFlag, isAlias, floatOk}
 use Rattle.wellformed.specs.Form.{wellFormed, usedWords}
 use Rattle.call.specs.Call.{Reply, call, ask, _when_}
-use Rattle.call.specs.Keep.{Fitting, Keeps}
+use Rattle.call.specs.Keep.{Keeps}
+use Rattle.call.specs.Adds.{Fitting}
 use Rattle.call.proofs.Sound.{make-adds}
 use Rattle.call.proofs.Keep.{call-keeps, same-keeps}
 use Rattle.names.specs.Name.{nameEntry}

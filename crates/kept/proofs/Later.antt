@@ -11,8 +11,8 @@ use Rattle.words.specs.Made.{Grown, make}
 use Rattle.words.proofs.Kept.{make-in}
 use Rattle.wellformed.specs.Entry.{isName, all, deepest}
 use Rattle.wellformed.proofs.Bools.{and-left, and-right, and-both}
-use Rattle.call.specs.Handles.{word}
-use Rattle.call.specs.Keep.{Sound, Adds}
+use Rattle.words.specs.Columns.{word}
+use Rattle.call.specs.Adds.{Sound, Adds}
 use Rattle.call.proofs.Sound.{start-used}
 use Rattle.words.proofs.Handles.{at-more, row-starts}
 use Rattle.parts.proofs.Spot.{entry-head}

@@ -12,8 +12,8 @@ use lib.Dec.{eqb}
 use Rattle.words.specs.Table.{starts}
 use Rattle.wellformed.specs.Entry.{kind, count, depth, mostOf, namesIn, typesIn, all, valuesOk, zeroFilled, okEntry}
 use Rattle.wellformed.specs.Form.{headsAt}
-use Rattle.call.specs.Keep.{Fitting}
-use Rattle.names.specs.Name.{number, nameEntry}
+use Rattle.call.specs.Adds.{Fitting}
+use Rattle.names.specs.Name.{ofBytes, nameEntry}
 use Rattle.names.proofs.Number.{number-below}
 use Rattle.names.proofs.NameEntry.{name-length, head-word, later-word, name-sized}
 
@@ -44,8 +44,8 @@ module _ (bs : List ℕ) where
         let m : 8 * (i - 1) ≡ p = omega arith in
         let r : length (drop p bs) ≡ n % 8 = omega (arith, length-drop p bs) in
         let le : length (drop p bs) ≤ 8 = omega arith in
-        let w : number (drop p bs) ≡ number (take 8 (drop (8 * (i - 1)) bs)) = rw (m, take-all 8 (drop p bs) le) in
-        rw (sym (later-word bs i (number (drop p bs)) ne in-it w), sym r)
+        let w : ofBytes (drop p bs) ≡ ofBytes (take 8 (drop (8 * (i - 1)) bs)) = rw (m, take-all 8 (drop p bs) le) in
+        rw (sym (later-word bs i (ofBytes (drop p bs)) ne in-it w), sym r)
         (number-below (drop p bs) (λ j. rw (getD-drop p bs j 0) (small (p + j))))
 
     filled : zeroFilled (nameEntry bs) ≡ true

@@ -9,9 +9,11 @@ use lib.Dec.{eqb, ltb}
 use lib.ListN.{length}
 use Rattle.words.specs.Kinds.{Tuple}
 use Rattle.wellformed.specs.Entry.{isName, isType, isFlag, isAlias, takes, mostOf, deepestAllowed, all, deepest}
-use Rattle.call.specs.Call.{_when_, _∣_}
-use Rattle.call.specs.Handles.{word, noEntry, wrongKind, tooDeep}
-use Rattle.makers.specs.Entries.{fieldCount, fieldNames, fieldTypes, fieldAliases, fieldFinals, ValuesFit}
+use Rattle.call.specs.Call.{_when_, _otherwise_}
+use Rattle.call.specs.Handles.{noEntry, wrongKind, tooDeep}
+use Rattle.words.specs.Columns.{word}
+use Rattle.makers.specs.Entries.{fieldCount, fieldNames, fieldTypes, fieldAliases, fieldFinals}
+use Rattle.makers.specs.Fit.{ValuesFit}
 use Rattle.makers.specs.Makers.{tupleRows, frefRows, partRows, structRows}
 use Rattle.kept.proofs.Fits.{Right, right-none, right-cons, Parts, StructParts}
 
@@ -21,17 +23,17 @@ pub off : (n : ℕ) (t : Bool) → (suc n when t) ≡ 0 → t ≡ false
 off n true q = absurd (omega arith)
 off n false q = refl
 
-pub then-off : (n : ℕ) (t : Bool) (rest : ℕ) → (suc n when t ∣ rest) ≡ 0 → (t ≡ false) × (rest ≡ 0)
+pub then-off : (n : ℕ) (t : Bool) (rest : ℕ) → (suc n when t otherwise rest) ≡ 0 → (t ≡ false) × (rest ≡ 0)
 then-off n true rest q = absurd (omega arith)
 then-off n false rest q = (refl, q)
 
-pub two-off : (i j : ℕ) (a b : Bool) → (suc i when a ∣ suc j when b) ≡ 0 → (a ≡ false) × (b ≡ false)
+pub two-off : (i j : ℕ) (a b : Bool) → (suc i when a otherwise suc j when b) ≡ 0 → (a ≡ false) × (b ≡ false)
 two-off i j a b q = let x = then-off i a (suc j when b) q in (x .0, off j b (x .1))
 
-pub four-off : (i j k l : ℕ) (a b c d : Bool) → (suc i when a ∣ suc j when b ∣ suc k when c ∣ suc l when d) ≡ 0 → (a ≡ false) × (b ≡ false) × (c ≡ false) × (d ≡ false)
+pub four-off : (i j k l : ℕ) (a b c d : Bool) → (suc i when a otherwise suc j when b otherwise suc k when c otherwise suc l when d) ≡ 0 → (a ≡ false) × (b ≡ false) × (c ≡ false) × (d ≡ false)
 four-off i j k l a b c d q =
-    let x = then-off i a (suc j when b ∣ suc k when c ∣ suc l when d) q in
-    let y = then-off j b (suc k when c ∣ suc l when d) (x .1) in
+    let x = then-off i a (suc j when b otherwise suc k when c otherwise suc l when d) q in
+    let y = then-off j b (suc k when c otherwise suc l when d) (x .1) in
     let z = two-off k l c d (y .1) in
     (x .0, y .0, z .0, z .1)
 
@@ -108,7 +110,7 @@ module _ (name : ℕ) (fs u : List ℕ) (q : structRows name fs u ≡ 0) where
   struct-off : (e₂ ≡ false) × (e₃ ≡ false) × (e₄ ≡ false) × (e₅ ≡ false) × (e₆ ≡ false)
   unfolding structRows
   struct-off =
-      let x = then-off 1 e₂ (3 when e₃ ∣ 4 when e₄ ∣ 5 when e₅ ∣ 6 when e₆) q in
+      let x = then-off 1 e₂ (3 when e₃ otherwise 4 when e₄ otherwise 5 when e₅ otherwise 6 when e₆) q in
       let y = four-off 2 3 4 5 e₃ e₄ e₅ e₆ (x .1) in
       (x .0, y .0, y .1, y .2, y .3)
 

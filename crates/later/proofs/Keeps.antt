@@ -12,7 +12,8 @@ use Rattle.words.proofs.Walk.{size-pos, long as fills-long}
 use Rattle.wellformed.specs.Form.{wellFormed, usedWords}
 use Rattle.wellformed.proofs.Before.{tests}
 use Rattle.call.specs.Call.{Outcome}
-use Rattle.call.specs.Keep.{Sound, Keeps}
+use Rattle.call.specs.Keep.{Keeps}
+use Rattle.call.specs.Adds.{Sound}
 use Rattle.call.proofs.Keep.{well-sound}
 use Rattle.later.specs.Later.{Later}
 

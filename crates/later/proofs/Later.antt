@@ -8,7 +8,8 @@ use lib.ListN.{length, getD, drop}
 use lib.Seq.{drop-append-le}
 use Rattle.words.specs.Kinds.{Struct}
 use Rattle.words.specs.Words.{headOf, kindOf, countOf, wordsAfter, sizeOf, fills}
-use Rattle.words.specs.Table.{rows, entries, firstOf, findIn, Sized}
+use Rattle.words.specs.Table.{rows, entries, firstOf, findIn}
+use Rattle.words.specs.Ran.{HasSize}
 use Rattle.words.specs.Made.{Grown, there, make}
 use Rattle.words.specs.declared.Found.{Found}
 use Rattle.words.specs.declared.Found.the-variants.{At, Nothing}
@@ -17,9 +18,10 @@ use Rattle.words.proofs.Grow.{orElse, first-append, rows-append}
 use Rattle.words.proofs.Extend.{Extends, ext-length, ext-word}
 use Rattle.words.proofs.Placed.{make-there, make-new}
 use Rattle.words.proofs.Kept.{Appends, make-appends, entries-append}
-use Rattle.wellformed.specs.Entry.{every, deepest}
-use Rattle.call.specs.Handles.{word, headAround}
-use Rattle.call.specs.Keep.{Sound, Adds}
+use Rattle.wellformed.specs.Entry.{deepest}
+use Rattle.words.specs.Columns.{every, word}
+use Rattle.call.specs.Handles.{headAround}
+use Rattle.call.specs.Adds.{Sound, Adds}
 use Rattle.words.proofs.Handles.{at-row}
 use Rattle.call.proofs.Sound.{start-used}
 use Rattle.parts.specs.Parts.{Good, Part, All}
@@ -114,7 +116,7 @@ module _ {u v : List ℕ} (x : Later u v) where
 
 -- ---- an entry that was made is found again
 
-made-first : (u e : List ℕ) → Sound u → Sized e → firstOf (entries (make u e .words)) e ≡ At (make u e .handle)
+made-first : (u e : List ℕ) → Sound u → HasSize e → firstOf (entries (make u e .words)) e ≡ At (make u e .handle)
 unfolding findIn firstOf orElse
 made-first u e s sized = go (findIn u e) refl
   where
@@ -124,13 +126,13 @@ made-first u e s sized = go (findIn u e) refl
         let t = first-append (entries u) (record { at = length u; words = e } ∷ []) e in
         rw (make-new u e q, entries-append u e (s .low) (s .full) sized) (t ∙ rw (q, eqs-refl e))
 
-pub make-again : {u v : List ℕ} (e : List ℕ) → Sound u → Sized e → Later (make u e .words) v → make v e ≡ there v (make u e .handle)
+pub make-again : {u v : List ℕ} (e : List ℕ) → Sound u → HasSize e → Later (make u e .words) v → make v e ≡ there v (make u e .handle)
 unfolding findIn orElse
 make-again {u} {v} e s sized x =
     let f : firstOf (entries v) e ≡ At (make u e .handle) = rw (x .rows) (first-append (entries (make u e .words)) (x .extra) e ∙ rw (made-first u e s sized)) in
     make-there v e (make u e .handle) f
 
-pub sized-of : (k d n : ℕ) (t : List ℕ) → k < 256 → d < 256 → length t ≡ wordsAfter k n → Sized (headOf k d n ∷ t)
+pub sized-of : (k d n : ℕ) (t : List ℕ) → k < 256 → d < 256 → length t ≡ wordsAfter k n → HasSize (headOf k d n ∷ t)
 unfolding sizeOf
 sized-of k d n t a b s =
     let kk : kindOf (headOf k d n) ≡ k = omega arith in
@@ -144,7 +146,7 @@ module _ {w : List ℕ} (g : Good w) (top d low high : ℕ) (o : 1 ≤ d) (d1 : 
   below [] a = o
   below (h ∷ hs) a = omega (arith, a .0 .shallow, below hs (a .1))
 
-  pub around-sized : (k n : ℕ) (hs t : List ℕ) → All (Part w top d low high) hs → k < 256 → length t ≡ wordsAfter k n → Sized (headAround w k n hs ∷ t)
+  pub around-sized : (k n : ℕ) (hs t : List ℕ) → All (Part w top d low high) hs → k < 256 → length t ≡ wordsAfter k n → HasSize (headAround w k n hs ∷ t)
   around-sized k n hs t a kk s = sized-of k (1 + deepest (word w) hs) n t kk (omega (arith, below hs a)) s
 
   pub around-later : (k n : ℕ) (hs t : List ℕ) → All (Part w top d low high) hs → k < 256 → length t ≡ wordsAfter k n → Later w (make w (headAround w k n hs ∷ t) .words)

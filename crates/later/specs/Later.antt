@@ -6,7 +6,7 @@ use mathlib.Core.List.{List, _++_}
 use Prim.Native.Nat.{ℕ, _≤_, _<_}
 use lib.ListN.{length}
 use Rattle.words.specs.Table.{Row, entries}
-use Rattle.call.specs.Handles.{word}
+use Rattle.words.specs.Columns.{word}
 
 pub record Later (u v : List ℕ) : Type 0 where
   pub long : length u ≤ length v

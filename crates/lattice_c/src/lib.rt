@@ -1,5 +1,6 @@
 // The calls for C and Rust: a static library. A slice is a pointer and a length there. The answer is one word: a handle, a number, 1 or 0 for yes or no, 0 for accepted, or
-// refusal n as 2 to the 63 + n.
+// refusal n as 2 to the 63 + n. The contracts here speak of slices as Rattle lends them; of a caller in C or Rust that is a promise which no call tests: each pointer is valid and aligned for its length and stays so during the call, and a
+// list that is written overlaps no other list of the call.
 use asking::Asking;
 use making::Making;
 use walk_rules::Walk;

@@ -10,7 +10,8 @@ use borrow.Rule.Slice.PartMut.{putMid}
 use lib.Dec.{eqb}
 use lib.ListN.{length, take, drop}
 use lib.Seq.{length-take-le, take-take}
-use Rattle.words.specs.Made.{Grown, Ran}
+use Rattle.words.specs.Made.{Grown}
+use Rattle.words.specs.Ran.{Ran}
 use Rattle.words.specs.declared.Interned.{Interned}
 use Rattle.words.specs.declared.Interned.the-variants.{At, Full}
 use Rattle.words.proofs.Extend.{ext-length}
@@ -18,7 +19,8 @@ use Rattle.words.proofs.Room.{fitted, overflowed}
 use Rattle.index.specs.Covers.{Covers}
 use Rattle.parts.specs.Parts.{Ready}
 use Rattle.parts.proofs.Good.{part-below}
-use Rattle.meet.specs.Meet.{meetOf, isaOf, Met}
+use Rattle.meet.specs.Meet.{meetOf, isaOf}
+use Rattle.meet.specs.Met.{Met}
 use Rattle.meet_types.specs.Remembered.{Remembered}
 use Rattle.meet.proofs.Grows.{meet-grows}
 use Rattle.meet.proofs.Nice.{meet-nice}

@@ -9,7 +9,8 @@ use lib.Dec.{ltb}
 use lib.ListN.{length, take, drop, getD, replicate, length-take, List·getD-eq-default}
 use lib.Seq.{getD-take, getD-drop}
 use Rattle.bitset.proofs.Bit.{none}
-use Rattle.words.specs.Made.{Grown, Segments, Ran}
+use Rattle.words.specs.Made.{Grown}
+use Rattle.words.specs.Ran.{Segments, Ran}
 use Rattle.words.specs.declared.Interned.{Interned}
 use Rattle.words.proofs.Extend.{Extends}
 use Rattle.words.proofs.Zeros.{zeros}

@@ -7,7 +7,7 @@ use native.Mathlib.Omega.{arith}
 use borrow.Rule.Slice.PartMut.{putMid}
 use lib.ListN.{length, take, drop, length-append}
 use lib.Seq.{length-take-le}
-use Rattle.words.specs.Made.{Runs}
+use Rattle.words.specs.Ran.{Runs}
 use Rattle.words.specs.declared.Interned.{Interned}
 use Rattle.words.specs.declared.Interned.the-variants.{At}
 use Rattle.words.proofs.Extend.{Extends, ext-by}
@@ -17,12 +17,14 @@ use Rattle.memo.specs.Memo.{Lines, Tells, Learned}
 use Rattle.memo.specs.declared.Recalled.{Recalled}
 use Rattle.memo.specs.declared.Recalled.the-variants.{Is as Recalled·Is}
 use Rattle.later.specs.Right.{RightAfter}
-use Rattle.meet.specs.Meet.{meetOf, Met}
+use Rattle.meet.specs.Meet.{meetOf}
+use Rattle.meet.specs.Met.{Met}
 use Rattle.meet_types.specs.Remembered.{Remembers as RemembersMeets, Settled as SettledMeet}
 use Rattle.meet.proofs.Grows.{meet-grows}
 use Rattle.walk_rules.specs.declared.Walk.{Walk}
 use Rattle.walk_rules.specs.declared.Walk.the-variants.{Dual, Glb, Lub}
-use Rattle.walk.specs.Walked.{walkOf, Walked}
+use Rattle.walk.specs.Walked.{Walked}
+use Rattle.walk.specs.Walk.{walkOf}
 use Rattle.walk.specs.Remembered.{Remembers as RemembersWalks, Settled as SettledWalk}
 use Rattle.walk.proofs.Grows.{walk-grows}
 use Rattle.join.specs.Join.{joinOf}
@@ -30,7 +32,8 @@ use Rattle.join.specs.Memory.{Remembers as RemembersJoin, Remembered as Remembe
 use Rattle.join.proofs.Adds.{join-adds}
 use Rattle.finals.specs.Known.{Knows}
 use Rattle.finals.proofs.Knows.{knows-blank}
-use Rattle.make_ro.specs.ReadOnly.{makeRoOf, MadeRo}
+use Rattle.make_ro.specs.ReadOnly.{makeRoOf}
+use Rattle.make_ro.specs.MadeRo.{MadeRo}
 use Rattle.make_ro.specs.Remembered.{Settled as SettledRo, Remembered}
 use Rattle.make_ro.proofs.Grows.{make-ro-grows}
 use Rattle.make_ro.proofs.Recall.{made-known, made-noted}

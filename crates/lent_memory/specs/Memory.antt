@@ -14,8 +14,11 @@ use Rattle.finals.specs.Known.{Knows}
 use Rattle.make_ro.specs.Remembered.{Settled as SettledRo}
 
 -- the i-th of six equal parts
+abbrev pub partSize : List ℕ → ℕ
+partSize memory = length memory / 6
+
 unfoldable pub part : ℕ → List ℕ → List ℕ
-part i memory = take (length memory / 6) (drop (i * (length memory / 6)) memory)
+part i memory = take (partSize memory) (drop (i * partSize memory) memory)
 
 -- each part is right for what it is kept for: the first five have settled answers, the last a set of types that are known to be final
 pub record Right (u memory : List ℕ) : Type 0 where

@@ -1,6 +1,6 @@
 // The operations that walk, with a memory that is lent and lives on from call to call; where the lent list has fewer than six words, with one of their own
 // (own_memory). The memory is one list in six equal parts: 0 duals, 1 meets, 2 glb, 3 lub, 4 make_ro, and 5 the set of types that are known to be final.
-// Each operation is lent its part alone, and join the first two.
+// Each operation is lent its part alone, join the first two, and make_ro of a larger type the last two, one after the other. Without a lent memory the set of final types is `scratch`, and where that has no words, none.
 use memo::Recalled;
 use own_memory::Operation;
 use walk_rules::Walk;
@@ -9,17 +9,22 @@ ghost use mathlib.Core.Path.{_≡_};
 ghost use mathlib.Core.List.{[], _++_};
 ghost use lib.ListN.{take};
 ghost use Rattle.index.specs.Covers.{Covers};
-ghost use Rattle.words.specs.Made.{Runs};
+ghost use Rattle.words.specs.Ran.{Runs};
 ghost use Rattle.parts.specs.Parts.{Ready, ReadyOne};
 ghost use Rattle.later.specs.Right.{RightAfter};
 ghost use Rattle.memo.specs.Memo.{Lines};
 ghost use Rattle.meet.specs.Meet.{meetOf, isaOf};
-ghost use Rattle.walk.specs.Walked.{walkOf};
+ghost use Rattle.walk.specs.Walk.{walkOf};
 ghost use Rattle.join.specs.Join.{joinOf};
-ghost use Rattle.finals.specs.Final.{Finals};
-ghost use Rattle.make_ro.specs.ReadOnly.{makeRoOf, MadeRo};
+ghost use Rattle.finals.specs.Known.{Finals};
+ghost use Rattle.make_ro.specs.ReadOnly.{makeRoOf};
+ghost use Rattle.make_ro.specs.MadeRo.{MadeRo};
 ghost use Rattle.make_ro.specs.Remembered.{Settled};
 ghost use Rattle.lent_memory.specs.Memory.{Right, RightThen};
+ghost use Rattle.words.specs.Kinds.{Bot, lastKind};
+
+// A lent memory has six parts of one length, in this order: the answers of dual, of meet, of glb, of lub, of make_ro, and the types known to be final.
+const PARTS: usize = 6;
 
 pub fn meet(
     old: &[u64],
@@ -30,13 +35,13 @@ pub fn meet(
     memory: &mut [u64],
     index: &[u64],
 ) -> Interned
-    requires { ⌜ Ready (now old) (now new) used 1 11 a b ⌝ }
+    requires { ⌜ Ready (now old) (now new) used Bot lastKind a b ⌝ }
     requires { ⌜ Right (take used (now old ++ now new)) (now memory) ⌝ }
     requires { ⌜ Covers (take used (now old ++ now new)) (now index) ⌝ }
     ensures { λ r. ⌜ Runs (λ u. meetOf u a b) (now (old .entry)) (now (new .entry)) used (now (new .exit)) r ⌝ }
     ensures { λ r. ⌜ RightThen (now (old .entry)) (now (new .exit)) r (now (memory .exit)) ⌝ }
 {
-    let n = memory.len() / 6;
+    let n = memory.len() / PARTS;
     if n == 0 {
         let mut known = [0u64; 0];
         return own_memory::run(Operation::Meet(b), &*old, new, used, a, &mut known, &*index);
@@ -60,7 +65,7 @@ pub fn walk(
     ensures { λ r. ⌜ Runs (λ u. walkOf op u a) (now (old .entry)) (now (new .entry)) used (now (new .exit)) r ⌝ }
     ensures { λ r. ⌜ RightThen (now (old .entry)) (now (new .exit)) r (now (memory .exit)) ⌝ }
 {
-    let n = memory.len() / 6;
+    let n = memory.len() / PARTS;
     if n == 0 {
         let mut known = [0u64; 0];
         return own_memory::run(
@@ -88,13 +93,13 @@ pub fn join(
     memory: &mut [u64],
     index: &[u64],
 ) -> Interned
-    requires { ⌜ Ready (now old) (now new) used 1 11 a b ⌝ }
+    requires { ⌜ Ready (now old) (now new) used Bot lastKind a b ⌝ }
     requires { ⌜ Right (take used (now old ++ now new)) (now memory) ⌝ }
     requires { ⌜ Covers (take used (now old ++ now new)) (now index) ⌝ }
     ensures { λ r. ⌜ Runs (λ u. joinOf u a b) (now (old .entry)) (now (new .entry)) used (now (new .exit)) r ⌝ }
     ensures { λ r. ⌜ RightThen (now (old .entry)) (now (new .exit)) r (now (memory .exit)) ⌝ }
 {
-    let n = memory.len() / 6;
+    let n = memory.len() / PARTS;
     if n == 0 {
         return own_memory::join(&*old, new, used, a, b, &*index);
     }
@@ -136,7 +141,7 @@ fn make_ro_large(
     ensures { λ r. ⌜ Runs (λ u. makeRoOf u a) (now (old .entry)) (now (new .entry)) used (now (new .exit)) r ⌝ }
     ensures { λ r. ⌜ RightThen (now (old .entry)) (now (new .exit)) r (now (memory .exit)) ⌝ }
 {
-    let n = memory.len() / 6;
+    let n = memory.len() / PARTS;
     let r = own_memory::run(
         Operation::MakeRo,
         &*old,
@@ -165,7 +170,7 @@ pub fn make_ro(
     ensures { λ r. ⌜ Runs (λ u. makeRoOf u a) (now (old .entry)) (now (new .entry)) used (now (new .exit)) r ⌝ }
     ensures { λ r. ⌜ RightThen (now (old .entry)) (now (new .exit)) r (now (memory .exit)) ⌝ }
 {
-    let n = memory.len() / 6;
+    let n = memory.len() / PARTS;
     if n == 0 {
         return own_memory::make_ro(&*old, new, used, a, scratch, &*index);
     }
@@ -193,7 +198,7 @@ pub fn is_final(
     ensures { λ r. ⌜ Finals (take used (now (old .entry) ++ now (new .entry))) a r ⌝ }
     ensures { λ _. ⌜ Right (take used (now (old .entry) ++ now (new .entry))) (now (memory .exit)) ⌝ }
 {
-    let n = memory.len() / 6;
+    let n = memory.len() / PARTS;
     if n == 0 {
         return own_memory::is_final(&*old, &*new, used, a, scratch);
     }
@@ -203,14 +208,14 @@ pub fn is_final(
 // Whether the meet of a and b would be b, by meeting them. The used words are lent to be read, with no word behind them, so that nothing is appended; and so the
 // memory stays right for them whatever the answer is.
 pub fn isa(words: &[u64], used: usize, a: u64, b: u64, memory: &mut [u64], index: &[u64]) -> bool
-    requires { ⌜ Ready [] (now words) used 1 11 a b ⌝ }
+    requires { ⌜ Ready [] (now words) used Bot lastKind a b ⌝ }
     requires { ⌜ Right (take used (now words)) (now memory) ⌝ }
     requires { ⌜ Covers (take used (now words)) (now index) ⌝ }
     ensures { λ r. ⌜ r ≡ isaOf (take used (now (words .entry))) a b ⌝ }
     ensures { λ _. ⌜ Right (take used (now (words .entry))) (now (memory .exit)) ⌝ }
 {
     let mut none = [0u64; 0];
-    let n = memory.len() / 6;
+    let n = memory.len() / PARTS;
     if n == 0 {
         let m = own_memory::ask(
             &words[..used],

@@ -7,7 +7,8 @@ use Rattle.words.specs.Words.{headOf, wordsAfter, sizeOf, eqs}
 use Rattle.words.specs.Table.{rows, entries, firstOf, findIn}
 use Rattle.words.specs.Made.{there, make}
 use Rattle.wellformed.specs.Fresh.{freshWords}
-use Rattle.wellformed.specs.Entry.{every, deepest}
+use Rattle.wellformed.specs.Entry.{deepest}
+use Rattle.words.specs.Columns.{every}
 use Rattle.makers.specs.Entries.{fieldWords}
 use Rattle.structs.specs.Remade.{fieldsWith, remake}
 use Rattle.finals.specs.Final.{allFinal, isFinalWithin}

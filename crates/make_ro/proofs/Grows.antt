@@ -6,17 +6,17 @@ use lib.Dec.{eqb}
 use Rattle.words.specs.Made.{Grown, there}
 use Rattle.words.proofs.Extend.{Extends, ext-same, ext-then}
 use Rattle.words.proofs.Placed.{make-extends}
-use Rattle.call.specs.Handles.{word, kindOn}
+use Rattle.words.specs.Columns.{word, kindOn}
 use Rattle.structs.specs.Remade.{remake}
 use Rattle.rules.specs.Column.{_⇒_∣_}
 use Rattle.meet.specs.Meet.{Many, pointerOf}
 use Rattle.meet.proofs.Grows.{pointer-grows}
-use Rattle.walk.specs.Walked.{Op₁}
+use Rattle.walk.specs.Walk.{Op₁}
 use Rattle.walk.proofs.Grows.{Grows₁}
 use Rattle.finals.specs.Final.{isFinalOf}
-use Rattle.make_ro.specs.ReadOnly.{fieldType, readOnlyEach, types, structOf, pointerTo, makeRoWithin}
+use Rattle.make_ro.specs.ReadOnly.{fieldType, readOnlyEach, readOnlyFieldTypes, readOnlyStructOf, pointerTo, makeRoWithin}
 
-pub struct-grows : (a : ℕ) (m : Many) → Extends (m .words) (structOf a m .words)
+pub struct-grows : (a : ℕ) (m : Many) → Extends (m .words) (readOnlyStructOf a m .words)
 unfolding remake
 struct-grows a m = make-extends (m .words) _
 
@@ -41,9 +41,9 @@ module _ (op : Op₁) (grows : Grows₁ op) where
   each-grows u (v ∷ vs) [] = ext-same u
   each-grows u (v ∷ vs) (t ∷ ts) = ext-then u (fieldType op u v t .words) _ (field-grows u v t) (each-grows (fieldType op u v t .words) vs ts)
 
-  step-grows : (u : List ℕ) (a : ℕ) (p s : Bool) → Extends u ((p ⇒ pointerTo u a (op u (word u (a + 1))) ∣ s ⇒ structOf a (types op u a) ∣ there u a) .words)
+  step-grows : (u : List ℕ) (a : ℕ) (p s : Bool) → Extends u ((p ⇒ pointerTo u a (op u (word u (a + 1))) ∣ s ⇒ readOnlyStructOf a (readOnlyFieldTypes op u a) ∣ there u a) .words)
   step-grows u a true s = let g = op u (word u (a + 1)) in ext-then u (g .words) _ (grows u (word u (a + 1))) (pointer-to-grows u a g)
-  step-grows u a false true = ext-then u (types op u a .words) _ (each-grows u _ _) (struct-grows a (types op u a))
+  step-grows u a false true = ext-then u (readOnlyFieldTypes op u a .words) _ (each-grows u _ _) (struct-grows a (readOnlyFieldTypes op u a))
   step-grows u a false false = ext-same u
 
 pub make-ro-grows : (n : ℕ) → Grows₁ (makeRoWithin n)

@@ -6,3 +6,4 @@ pub mod Loop
 pub mod Settled
 pub mod Recall
 pub mod Ways
+pub mod Any

@@ -4,18 +4,18 @@ use mathlib.Core.List.{List, _++_}
 use Prim.Native.Nat.{ℕ, _+_, _-_, _*_, _≤_, _<_}
 use native.Mathlib.Omega.{arith}
 use lib.ListN.{length, take, getD, set}
-use Rattle.words.specs.Made.{Segments, Ran}
+use Rattle.words.specs.Ran.{Segments, Ran}
 use Rattle.words.specs.declared.Interned.{Interned}
 use Rattle.words.specs.declared.Interned.the-variants.{At, Full}
-use Rattle.wellformed.specs.Entry.{every}
-use Rattle.call.specs.Handles.{word}
+use Rattle.words.specs.Columns.{every, word}
 use Rattle.parts.specs.Parts.{Part, All, ReadyOne}
 use Rattle.parts.proofs.Good.{good-adds}
 use Rattle.parts.proofs.Left.{every-zero, every-next, every-at}
 use Rattle.parts.proofs.Grew.{grew-kept}
 use Rattle.meet.specs.Meet.{Many}
 use Rattle.meet.proofs.InTurn.{Sequence, InTurn, turn-begin, turn-part, turn-ready, turn-stop, turn-on, turn-end, turn-segments}
-use Rattle.make_ro.specs.ReadOnly.{fieldType, readOnlyEach, structOf, makeRoWithin, FieldRo}
+use Rattle.make_ro.specs.ReadOnly.{fieldType, readOnlyEach, readOnlyStructOf, makeRoWithin}
+use Rattle.make_ro.specs.MadeRo.{FieldRo}
 use Rattle.make_ro.proofs.Grows.{make-ro-grows, field-grows, each-grows, struct-grows}
 use Rattle.make_ro.proofs.Nice.{make-ro-nice, field-nice}
 
@@ -78,8 +78,8 @@ module _ {old new : List ℕ} {used a n : ℕ} {now types : List ℕ} {v i : ℕ
       unfolding fieldsOf
       told k l = rw (is-type, is-value) at (made .is k (omega (arith, part-t .earlier)))
 
-      pub going-stop : r ≡ Full → (k : ℕ) → a ≤ k → Ran used (structOf a (every-type k)) (old ++ new) (old ++ now′) Full
-      going-stop f k ka = rw (whole k) at (turn-stop (J .turn) more now′ r told f (structOf a) (struct-grows a) k ka)
+      pub going-stop : r ≡ Full → (k : ℕ) → a ≤ k → Ran used (readOnlyStructOf a (every-type k)) (old ++ new) (old ++ now′) Full
+      going-stop f k ka = rw (whole k) at (turn-stop (J .turn) more now′ r told f (readOnlyStructOf a) (struct-grows a) k ka)
 
       pub going-turn : (h v′ : ℕ) → r ≡ At h v′ → i < length types → GoingRo old new used a n now′ (set types i h) v′ (i + 1)
       unfolding fieldsOf
@@ -88,8 +88,8 @@ module _ {old new : List ℕ} {used a n : ℕ} {now types : List ℕ} {v i : ℕ
           record { turn = turn-on (J .turn) more now′ r told (rw (is-type, is-value) at (res .adds)) h v′ f l; inside = J .inside; parts = J .parts }
 
   -- the last field is done
-  pub going-end : n ≤ i → i ≤ n → (now′ : List ℕ) (r : Interned) → Ran v (structOf a (record { words = w; handles = take n types })) (old ++ now) (old ++ now′) r → (k : ℕ) → a ≤ k → Ran used (structOf a (every-type k)) (old ++ new) (old ++ now′) r
-  going-end lo hi now′ r t k ka = rw (whole k) at (turn-end (J .turn) lo hi (structOf a) (struct-grows a) now′ r t k ka)
+  pub going-end : n ≤ i → i ≤ n → (now′ : List ℕ) (r : Interned) → Ran v (readOnlyStructOf a (record { words = w; handles = take n types })) (old ++ now) (old ++ now′) r → (k : ℕ) → a ≤ k → Ran used (readOnlyStructOf a (every-type k)) (old ++ new) (old ++ now′) r
+  going-end lo hi now′ r t k ka = rw (whole k) at (turn-end (J .turn) lo hi (readOnlyStructOf a) (struct-grows a) now′ r t k ka)
 
   -- what the maker at the loop's end requires
   pub going-segments : Segments old now v

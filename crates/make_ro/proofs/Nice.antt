@@ -11,9 +11,8 @@ use lib.Dec.{eqb}
 use lib.ListN.{length, replicate, length-replicate}
 use Rattle.words.specs.Words.{kindOf, countOf}
 use Rattle.words.specs.Made.{Grown, there}
-use Rattle.wellformed.specs.Entry.{every}
+use Rattle.words.specs.Columns.{every, word, kindOn, depthOn, countOn}
 use Rattle.wellformed.proofs.Bools.{and-left}
-use Rattle.call.specs.Handles.{word, kindOn, depthOn, countOn}
 use Rattle.call.proofs.Sound.{adds-none, adds-then}
 use Rattle.parts.specs.Parts.{Good, Part, All}
 use Rattle.parts.proofs.Parts.{few, flat, deep, of-struct, of-pointer, all-map}
@@ -23,10 +22,10 @@ use Rattle.rules.specs.Column.{_⇒_∣_}
 use Rattle.meet.specs.Meet.{pointerOf}
 use Rattle.meet.proofs.Made.{struct-answers, pointer-answers, answer-late}
 use Rattle.meet.proofs.Nice.{EachAnswers, late-on, wide, narrow}
-use Rattle.walk.specs.Walked.{Op₁}
+use Rattle.walk.specs.Walk.{Op₁}
 use Rattle.walk.proofs.Nice.{Nice₁}
 use Rattle.finals.specs.Final.{isFinalOf}
-use Rattle.make_ro.specs.ReadOnly.{fieldType, readOnlyEach, types, structOf, pointerTo, makeRoWithin}
+use Rattle.make_ro.specs.ReadOnly.{fieldType, readOnlyEach, readOnlyFieldTypes, readOnlyStructOf, pointerTo, makeRoWithin}
 use Rattle.make_ro.proofs.Finals.{ones-flags}
 
 module _ (op : Op₁) (k : ℕ) (nice : Nice₁ k op) where
@@ -57,14 +56,14 @@ module _ (op : Op₁) (k : ℕ) (nice : Nice₁ k op) where
       }
 
   module _ (u : List ℕ) (a d : ℕ) (g : Good u) where
-    fields-answers : Part u (suc k) d 8 9 a → kindOn u a ≡ 8 → Answers u d 8 9 (structOf a (types op u a))
+    fields-answers : Part u (suc k) d 8 9 a → kindOn u a ≡ 8 → Answers u d 8 9 (readOnlyStructOf a (readOnlyFieldTypes op u a))
     fields-answers p q =
         let c = countOn u a in
         let sa = of-struct (g .sound) p q in
         let pa = all-map (λ z x. part-weak k (depthOn u a) (omega (arith, p .earlier)) (omega arith) x) (every 3 c (a + 3) u) (sa .types) in
         let e = each-nice u (depthOn u a) (every 3 c (a + 4) u) (every 3 c (a + 3) u) g pa (every-length 3 c (a + 4) u ∙ sym (every-length 3 c (a + 3) u)) in
         let long = e .long ∙ every-length 3 c (a + 3) u in
-        let m = types op u a in
+        let m = readOnlyFieldTypes op u a in
         let v = m .words in
         let hs = m .handles in
         let g₁ = good-adds g (e .adds) in
@@ -97,7 +96,7 @@ module _ (op : Op₁) (k : ℕ) (nice : Nice₁ k op) where
             (s .handle) (word u (a + 2)) (r .part) (answer-late r) (of-pointer (g .sound) p q .flag)
 
     abbrev step : Bool → Bool → Grown
-    step t s = t ⇒ pointerTo u a (op u (word u (a + 1))) ∣ s ⇒ structOf a (types op u a) ∣ there u a
+    step t s = t ⇒ pointerTo u a (op u (word u (a + 1))) ∣ s ⇒ readOnlyStructOf a (readOnlyFieldTypes op u a) ∣ there u a
 
     step-types : Part u (suc k) d 1 11 a → (t s : Bool) → eqb (kindOn u a) 10 ≡ t → (s ≡ true → kindOn u a ≡ 8) → Answers u d 1 11 (step t s)
     step-types p true s e f = pointer-to-answers p (eqb-true (kindOn u a) 10 e)

@@ -4,7 +4,8 @@ use mathlib.Core.List.{List, _++_}
 use Prim.Native.Nat.{ℕ}
 use native.Mathlib.Omega.{arith}
 use lib.ListN.{length, take, replicate}
-use Rattle.words.specs.Made.{Grown, make, Segments, Ran, Runs}
+use Rattle.words.specs.Made.{Grown, make}
+use Rattle.words.specs.Ran.{Segments, Ran, Runs}
 use Rattle.words.specs.declared.Interned.{Interned}
 use Rattle.words.specs.declared.Interned.the-variants.{At, Full}
 use Rattle.words.proofs.Extend.{Extends}
@@ -22,7 +23,8 @@ use Rattle.memo.specs.declared.Recalled.the-variants.{Is as Recalled·Is}
 use Rattle.memo.proofs.Lines.{recalled, noted}
 use Rattle.finals.specs.Known.{Knows}
 use Rattle.finals.proofs.Knows.{knows-later}
-use Rattle.make_ro.specs.ReadOnly.{makeRoWithin, MadeRo}
+use Rattle.make_ro.specs.ReadOnly.{makeRoWithin}
+use Rattle.make_ro.specs.MadeRo.{MadeRo}
 use Rattle.make_ro.specs.Remembered.{Settled, Remembers, Remembered}
 use Rattle.make_ro.proofs.Grows.{struct-grows}
 use Rattle.make_ro.proofs.Settled.{make-ro-settled}

@@ -12,8 +12,7 @@ use Rattle.words.specs.Words.{kindOf, wordsAfter, sizeOf}
 use Rattle.words.specs.Made.{Grown, there}
 use Rattle.words.proofs.Walk.{size-pos}
 use Rattle.words.proofs.Sizes.{struct-size}
-use Rattle.wellformed.specs.Entry.{every}
-use Rattle.call.specs.Handles.{word, kindOn, depthOn, countOn}
+use Rattle.words.specs.Columns.{every, word, kindOn, depthOn, countOn}
 use Rattle.parts.specs.Parts.{Good, Part, All}
 use Rattle.parts.proofs.Parts.{flat, deep, of-struct, of-pointer, all-map}
 use Rattle.parts.proofs.Good.{part-weak, part-below, good-adds, part-adds}
@@ -24,16 +23,16 @@ use Rattle.meet_fields.proofs.Finals.{every-length}
 use Rattle.rules.specs.Column.{_⇒_∣_}
 use Rattle.meet.specs.Meet.{pointerOf}
 use Rattle.meet.proofs.Nice.{narrow}
-use Rattle.walk.specs.Walked.{Op₁}
+use Rattle.walk.specs.Walk.{Op₁}
 use Rattle.walk.proofs.Nice.{Nice₁}
 use Rattle.finals.specs.Final.{isFinalOf}
 use Rattle.finals.proofs.Stays.{final-later}
-use Rattle.make_ro.specs.ReadOnly.{fieldType, readOnlyEach, types, structOf, pointerTo, makeRoWithin}
+use Rattle.make_ro.specs.ReadOnly.{fieldType, readOnlyEach, readOnlyFieldTypes, readOnlyStructOf, pointerTo, makeRoWithin}
 use Rattle.make_ro.proofs.Nice.{field-nice, each-nice, struct-kind, make-ro-nice}
 
 -- what is done with the parts of a, in the used words w, by the two tests of its kind
 abbrev step : Op₁ → ℕ → List ℕ → Bool → Bool → Grown
-step op a w t s = t ⇒ pointerTo w a (op w (word w (a + 1))) ∣ s ⇒ structOf a (types op w a) ∣ there w a
+step op a w t s = t ⇒ pointerTo w a (op w (word w (a + 1))) ∣ s ⇒ readOnlyStructOf a (readOnlyFieldTypes op w a) ∣ there w a
 
 step-same : (op : Op₁) (a : ℕ) (w : List ℕ) (t t′ s s′ : Bool) → t ≡ t′ → s ≡ s′ → step op a w t s ≡ step op a w t′ s′
 step-same op a w t t′ s s′ e f = rw (e, f)
@@ -103,14 +102,14 @@ module _ (op : Op₁) (k : ℕ) (nice : Nice₁ k op) (settles : Settles₁ k op
             let e : op v t ≡ there v (s .handle) = settles u t (depthOn u a) g to v y in
             rw (a1, a2, e, q) (around-again g₁ (length (s .words)) (depthOn u a) 1 11 o fl MemPtr 0 (s .handle ∷ []) (s .handle ∷ nil ∷ []) (r .part, tt) (omega arith) refl v x)
 
-    struct-settled : kindOn u a ≡ 8 → Later (structOf a (types op u a) .words) v → structOf a (types op v a) ≡ there v (structOf a (types op u a) .handle)
+    struct-settled : kindOn u a ≡ 8 → Later (readOnlyStructOf a (readOnlyFieldTypes op u a) .words) v → readOnlyStructOf a (readOnlyFieldTypes op v a) ≡ there v (readOnlyStructOf a (readOnlyFieldTypes op u a) .handle)
     struct-settled k8 x =
         let n = countOn u a in
         let s = struct-size (word u a) k8 in
         let pa = all-map (λ h q. part-weak k (depthOn u a) (omega (arith, p .earlier)) (omega arith) q) (every 3 n (a + 3) u) (of-struct (g .sound) p k8 .types) in
         let long = every-length 3 n (a + 4) u ∙ sym (every-length 3 n (a + 3) u) in
         let e = each-nice op k nice u (depthOn u a) (every 3 n (a + 4) u) (every 3 n (a + 3) u) g pa long in
-        let m = types op u a in
+        let m = readOnlyFieldTypes op u a in
         let w = m .words in
         let hs = m .handles in
         let g₁ = good-adds g (e .adds) in
@@ -124,7 +123,7 @@ module _ (op : Op₁) (k : ℕ) (nice : Nice₁ k op) (settles : Settles₁ k op
         let c : word v a ≡ word u a = z .words a (inside .0) (omega (arith, inside .1, s)) in
         let vs : every 3 n (a + 4) v ≡ every 3 n (a + 4) u = later-every z 3 n (a + 4) (omega arith) (omega (arith, inside .1, s)) in
         let xs : every 3 n (a + 3) v ≡ every 3 n (a + 3) u = later-every z 3 n (a + 3) (omega arith) (omega (arith, inside .1, s)) in
-        let ts : types op v a ≡ record { words = v; handles = hs } = rw (c, vs, xs) (each-settled u (depthOn u a) (every 3 n (a + 4) u) (every 3 n (a + 3) u) g pa long v y) in
+        let ts : readOnlyFieldTypes op v a ≡ record { words = v; handles = hs } = rw (c, vs, xs) (each-settled u (depthOn u a) (every 3 n (a + 4) u) (every 3 n (a + 3) u) g pa long v y) in
         rw ts (remake-again g₁ (length w) (depthOn u a) 1 11 o fl a hs ones same (e .parts) (inside .0) room v x)
 
     pub step-settled : (t s : Bool) → eqb (kindOn u a) 10 ≡ t → (s ≡ true → kindOn u a ≡ 8) → Later (step op a u t s .words) v → step op a v t s ≡ there v (step op a u t s .handle)

@@ -6,11 +6,12 @@ use Prim.Native.Nat.{ℕ, zero, suc, _+_, _*_, _/_, _%_, _≤_, _<_}
 use native.Mathlib.Omega.{arith}
 use borrow.Author.Tests.{eq-eqb, ne-eqb}
 use lib.ListN.{length, take, getD, replicate}
-use Rattle.words.specs.Made.{Grown, there, make, Segments, Ran, Runs}
+use Rattle.words.specs.Made.{Grown, there, make}
+use Rattle.words.specs.Ran.{Segments, Ran, Runs}
 use Rattle.words.specs.declared.Interned.{Interned}
 use Rattle.words.specs.declared.Interned.the-variants.{At, Full}
-use Rattle.wellformed.specs.Entry.{every, all, isAliasFinal}
-use Rattle.call.specs.Handles.{kindOn, countOn}
+use Rattle.wellformed.specs.Entry.{all, isAliasFinal}
+use Rattle.words.specs.Columns.{every, kindOn, countOn}
 use Rattle.makers.specs.Entries.{pointerEntry}
 use Rattle.structs.specs.Remade.{remake}
 use Rattle.index.specs.Covers.{Covers}
@@ -18,9 +19,11 @@ use Rattle.parts.specs.Parts.{Part, ReadyOne}
 use Rattle.parts.proofs.Parts.{flat, of-struct, all-map}
 use Rattle.parts.proofs.Good.{part-weak, part-ready, good-adds}
 use Rattle.parts.proofs.Grew.{Grew, grew-none, grew-there, grew-long, grew-high, grew-more, grew-stop, grew-segments, grew-values, then-made, grew-covers}
-use Rattle.finals.specs.Final.{isFinalOf, Finals}
+use Rattle.finals.specs.Final.{isFinalOf}
+use Rattle.finals.specs.Known.{Finals}
 use Rattle.finals.proofs.Ways.{pointer-part}
-use Rattle.make_ro.specs.ReadOnly.{types, structOf, pointerTo, makeRoWithin, MadeRo, FieldRo}
+use Rattle.make_ro.specs.ReadOnly.{readOnlyFieldTypes, readOnlyStructOf, pointerTo, makeRoWithin}
+use Rattle.make_ro.specs.MadeRo.{MadeRo, FieldRo}
 use Rattle.make_ro.proofs.Grows.{make-ro-grows, pointer-to-grows}
 use Rattle.make_ro.proofs.Nice.{make-ro-nice}
 use Rattle.make_ro.proofs.Loop.{GoingRo, going-begin, going-stop, going-end}
@@ -123,7 +126,7 @@ module _ (old new : List ℕ) (used a : ℕ) (rd : ReadyOne old new used a) wher
 
     -- a struct whose fields are not all final
     module _ (q : kindOn (take used (old ++ new)) a ≡ 8) (f : isFinalOf (take used (old ++ new)) a ≡ false) where
-      by-fields : (now₂ : List ℕ) (o : Interned) → ((k : ℕ) → a ≤ k → Ran used (structOf a (types (makeRoWithin k) u a)) (old ++ new) (old ++ now₂) o) → MadeRo old new used a now₂ o
+      by-fields : (now₂ : List ℕ) (o : Interned) → ((k : ℕ) → a ≤ k → Ran used (readOnlyStructOf a (readOnlyFieldTypes (makeRoWithin k) u a)) (old ++ new) (old ++ now₂) o) → MadeRo old new used a now₂ o
       unfolding makeRoWithin
       by-fields now₂ o g = let m : kindOn u a ≡ 10 → ⊥ = (λ z. absurd (omega arith)) in by-step now₂ o (λ k ka. rw (ne-eqb (kindOn u a) 10 m, eq-eqb (kindOn u a) 8 q, f) (g k ka))
 

@@ -1,2 +1,3 @@
 pub mod ReadOnly
+pub mod MadeRo
 pub mod Remembered

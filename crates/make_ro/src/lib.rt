@@ -1,22 +1,30 @@
 // make_ro, on a store that row 1 has passed: a type, a struct and a field's type call each other. Parts are earlier entries, so that three
-// times the handle falls, plus one in a type's call, and plus two in a field's. A pointer or a struct is looked up in a memory of answers first, and noted in it
-// last; types that are final are kept in the set that is_final has.
+// times the handle falls, plus one in a type's call, and plus two in a field's. A pointer or a struct is looked up in a memory of answers first, and, unless it is
+// a struct that is final, noted in it last; types that are final are kept in the set that is_final has.
 use memo::Recalled;
 use words::Interned;
+use words::columns;
+use words::kinds;
+use words::limits;
 ghost use mathlib.Core.Path.{_≡_};
 ghost use mathlib.Core.Bool.{true, false};
 ghost use mathlib.Core.List.{_++_};
 ghost use Prim.Native.Nat.{_+_, _≤_};
 ghost use lib.ListN.{length, replicate, take};
 ghost use Rattle.index.specs.Covers.{Covers};
-ghost use Rattle.words.specs.Made.{Segments, Runs};
-ghost use Rattle.wellformed.specs.Entry.{every, all, isAliasFinal};
-ghost use Rattle.call.specs.Handles.{kindOn};
+ghost use Rattle.words.specs.Ran.{Segments, Runs};
+ghost use Rattle.wellformed.specs.Entry.{all, isAliasFinal, mostCounted};
+ghost use Rattle.words.specs.Columns.{every, kindOn, firstFlagsOn};
 ghost use Rattle.structs.specs.Remade.{remake};
 ghost use Rattle.parts.specs.Parts.{ReadyOne};
 ghost use Rattle.finals.specs.Final.{isFinalOf};
-ghost use Rattle.make_ro.specs.ReadOnly.{MadeRo, FieldRo};
+ghost use Rattle.make_ro.specs.MadeRo.{MadeRo, FieldRo};
 ghost use Rattle.make_ro.specs.Remembered.{Remembers, Remembered};
+ghost use Rattle.wellformed.specs.Form.{longestAllowed};
+ghost use Rattle.words.specs.Kinds.{Struct};
+
+// Few fields are given few words, since all of them are set at each call.
+const FEW_FIELDS: usize = 8;
 
 // Makes the struct at a again with these types, every field final. Few fields are given few words, since all of them are set at each call.
 fn made_final(
@@ -28,16 +36,16 @@ fn made_final(
     index: &[u64],
 ) -> Interned
     requires { ⌜ Segments (now old) (now new) used ⌝ }
-    requires { ⌜ (length (now types) ≤ 255) × (a ≤ 1048576) × (all isAliasFinal (every 3 (length (now types)) (a + 4) (take used (now old ++ now new))) ≡ true) ⌝ }
+    requires { ⌜ (length (now types) ≤ mostCounted) × (a ≤ longestAllowed) × (all isAliasFinal (firstFlagsOn (take used (now old ++ now new)) (length (now types)) a) ≡ true) ⌝ }
     requires { ⌜ Covers (take used (now old ++ now new)) (now index) ⌝ }
     ensures { λ r. ⌜ Runs (remake a (now (types .entry)) (replicate (length (now (types .entry))) 1)) (now (old .entry)) (now (new .entry)) used (now (new .exit)) r ⌝ }
 {
     let n = types.len();
-    if n <= 8 {
-        let few = [1u64; 8];
+    if n <= FEW_FIELDS {
+        let few = [1u64; FEW_FIELDS];
         return structs::made_again(&*old, new, used, a, &*types, &few[..n], &*index);
     }
-    let many = [1u64; 255];
+    let many = [1u64; limits::MOST_COUNTED];
     structs::made_again(&*old, new, used, a, &*types, &many[..n], &*index)
 }
 
@@ -45,10 +53,10 @@ fn made_final(
 fn ro_key(kind: u64, a: usize) -> u64
     ensures { λ r. ⌜ ((r ≡ 0 → ⊥) → r ≡ a) ⌝ }
 {
-    if kind == 8 {
+    if kind == kinds::STRUCT {
         return a as u64;
     }
-    if kind == 10 {
+    if kind == kinds::MEM_PTR {
         return a as u64;
     }
     0
@@ -69,15 +77,15 @@ pub fn make_ro(
     ensures { λ r. ⌜ MadeRo (now (old .entry)) (now (new .entry)) used a (now (new .exit)) r ⌝ }
     ensures { λ r. ⌜ Remembered (now (old .entry)) (now (new .exit)) r (now (memo .exit)) (now (known .exit)) ⌝ }
 {
-    let kind = words::word(&*old, new, used, a) % 256;
+    let kind = words::word(&*old, new, used, a) % kinds::DEPTH;
     let key = ro_key(kind, a);
     let line = memo::recall(memo, key);
     if let Recalled::Is(h) = line {
         return Interned::At(h as usize, used);
     }
-    if kind == 10 {
-        let to = words::word(&*old, new, used, a + 1) as usize;
-        let nil = words::word(&*old, new, used, a + 2);
+    if kind == kinds::MEM_PTR {
+        let to = words::word(&*old, new, used, a + columns::TARGET) as usize;
+        let nil = words::word(&*old, new, used, a + columns::NIL);
         let m = make_ro(&*old, new, used, to, memo, known, &*index);
         match m {
             Interned::At(h, v) => {
@@ -92,7 +100,7 @@ pub fn make_ro(
             }
         }
     }
-    if kind != 8 {
+    if kind != kinds::STRUCT {
         return Interned::At(a, used);
     }
     if finals::is_final(&*old, new, used, a, known) {
@@ -114,19 +122,19 @@ fn make_struct_ro(
 ) -> Interned
     requires { ⌜ ReadyOne (now old) (now new) used a ⌝ }
     requires { ⌜ Remembers (take used (now old ++ now new)) (now memo) (now known) ⌝ }
-    requires { ⌜ (kindOn (take used (now old ++ now new)) a ≡ 8) × (isFinalOf (take used (now old ++ now new)) a ≡ false) ⌝ }
+    requires { ⌜ (kindOn (take used (now old ++ now new)) a ≡ Struct) × (isFinalOf (take used (now old ++ now new)) a ≡ false) ⌝ }
     requires { ⌜ Covers (take used (now old ++ now new)) (now index) ⌝ }
     ensures { λ r. ⌜ MadeRo (now (old .entry)) (now (new .entry)) used a (now (new .exit)) r ⌝ }
     ensures { λ r. ⌜ Remembered (now (old .entry)) (now (new .exit)) r (now (memo .exit)) (now (known .exit)) ⌝ }
 {
-    let n = (words::word(&*old, new, used, a) / 65536) as usize;
-    let mut types = [0u64; 255];
+    let n = (words::word(&*old, new, used, a) / kinds::COUNT) as usize;
+    let mut types = [0u64; limits::MOST_COUNTED];
     let mut v = used;
     let mut i: usize = 0;
     while i < n {
-        let p = a + 3 + 3 * i;
+        let p = a + columns::FIELD_TYPES + columns::FIELD * i;
         let t = words::word(&*old, new, used, p) as usize;
-        let value = words::word(&*old, new, used, p + 1);
+        let value = words::word(&*old, new, used, p + columns::FLAGS_BEHIND_TYPE);
         let m = make_field_ro(&*old, new, v, value, t, memo, known, &*index);
         match m {
             Interned::At(h, w) => {

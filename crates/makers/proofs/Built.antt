@@ -12,10 +12,11 @@ use mir.Val.{SFits, toZ, ofZ}
 use mir.Facts.{toZ-ofZ}
 use Rattle.words.specs.Words.{depthOf}
 use Rattle.type_float.specs.Float.{wordOf}
-use Rattle.words.specs.Made.{make, Ran}
+use Rattle.words.specs.Made.{make}
+use Rattle.words.specs.Ran.{Ran}
 use Rattle.words.specs.declared.Interned.{Interned}
 use Rattle.wellformed.specs.Entry.{deepest}
-use Rattle.call.specs.Handles.{word}
+use Rattle.words.specs.Columns.{word}
 use Rattle.makers.specs.Entries.{floatEntry, tupleEntry, pointerEntry, memoryEntry}
 
 -- a head, and a list behind it

@@ -11,12 +11,14 @@ use lib.ListN.{length, take, drop, getD, set, length-drop, drop-of-length-le}
 use lib.Seq.{take-all}
 use Rattle.words.specs.Words.{depthOf}
 use Rattle.words.proofs.Written.{written-on, written-all}
-use Rattle.words.specs.Made.{make, Ran}
+use Rattle.words.specs.Made.{make}
+use Rattle.words.specs.Ran.{Ran}
 use Rattle.words.specs.declared.Interned.{Interned}
-use Rattle.wellformed.specs.Entry.{every, all, isFlag, isAlias, deepest}
+use Rattle.wellformed.specs.Entry.{all, isFlag, isAlias, deepest}
+use Rattle.words.specs.Columns.{every, word}
 use Rattle.wellformed.proofs.Bools.{and-left, and-right}
-use Rattle.call.specs.Handles.{word}
-use Rattle.makers.specs.Entries.{fieldTypes, fieldWords, ValuesFit, structEntry}
+use Rattle.makers.specs.Entries.{fieldTypes, fieldWords, structEntry}
+use Rattle.makers.specs.Fit.{ValuesFit}
 use Rattle.makers.proofs.Built.{front-of}
 
 -- ---- words that stand apart

@@ -24,7 +24,7 @@ size-word size bits e = go (eqb size 64) refl (eqb bits 0) e
         by (suc (suc (suc (suc zero)))) s l = let z : size ≡ 128 = omega arith in rw z
         by (suc (suc (suc (suc (suc q))))) s l = absurd (omega arith)
 
-    go : (t : Bool) → eqb size 64 ≡ t → (b : Bool) → (t || ((b && leb size 128) && eqb (size % 32) 0)) ≡ true → isSizeWord size ≡ true
+    go : (t : Bool) → eqb size 64 ≡ t → (b : Bool) → (t || (b && (leb size 128 && eqb (size % 32) 0))) ≡ true → isSizeWord size ≡ true
     go true q b f = let z : size ≡ 64 = eqb-true size 64 q in rw z
     go false q true f = multiple (leb-true size 128 (and-left (leb size 128) (eqb (size % 32) 0) f)) (eqb-true (size % 32) 0 (and-right (leb size 128) (eqb (size % 32) 0) f))
     go false q false f = let z : _≡_ {A = ℕ} 0 1 = cc in absurd (omega arith)

@@ -1,21 +1,19 @@
 -- The entries that the makers make: document 01's table of kinds, from a maker's arguments. `u` is the used words.
-use mathlib.Core.Path.{_≡_}
-use mathlib.Core.Bool.{true}
 use mathlib.Core.List.{List, [], _∷_}
-use Prim.Native.Nat.{ℕ, zero, suc, _+_, _*_, _/_, _%_, _^_}
-use lib.ListN.{length, getD}
+use Prim.Native.Nat.{ℕ, zero, suc, _+_, _/_, _%_, _^_}
+use lib.ListN.{length}
 use Rattle.words.specs.Kinds.{Int, Float, Tuple, Struct, Fref, MemPtr, Mem}
 use Rattle.words.specs.Words.{headOf}
-use Rattle.wellformed.specs.Entry.{every, all, isFlag, isAlias}
+use Rattle.words.specs.Columns.{word, every, sizeZero, flagsOf}
 use Rattle.call.specs.Handles.{headAround}
 
--- "min, max (two's complement)"
+-- "min, max (two's complement)"; an entry that holds no type has depth 1, and n is 0
 abbrev pub intEntry : ℕ → ℕ → List ℕ
 intEntry min max = headOf Int 1 0 ∷ min ∷ max ∷ []
 
 -- "sz + 64", of a size that is lent as a two's complement word
 abbrev pub storedSize : ℕ → ℕ
-storedSize sz = (sz + 64) % 2 ^ 64
+storedSize sz = (sz + sizeZero) % 2 ^ 64
 
 -- "sz + 64, constant's bits"
 abbrev pub floatEntry : ℕ → ℕ → List ℕ
@@ -42,6 +40,7 @@ memoryEntry alias t u = headAround u Mem 0 (t ∷ []) ∷ alias ∷ t ∷ []
 abbrev pub fieldCount : List ℕ → ℕ
 fieldCount fs = length fs / 4
 
+-- its names, types, aliases and finals, each every fourth word
 abbrev pub fieldNames : List ℕ → List ℕ
 fieldNames fs = every 4 (fieldCount fs) 0 fs
 
@@ -54,15 +53,27 @@ fieldAliases fs = every 4 (fieldCount fs) 2 fs
 abbrev pub fieldFinals : List ℕ → List ℕ
 fieldFinals fs = every 4 (fieldCount fs) 3 fs
 
+-- a lent field whose first word has the position p
+abbrev pub lentName : List ℕ → ℕ → ℕ
+lentName fs p = word fs p
+
+abbrev pub lentType : List ℕ → ℕ → ℕ
+lentType fs p = word fs (p + 1)
+
+abbrev pub lentAlias : List ℕ → ℕ → ℕ
+lentAlias fs p = word fs (p + 2)
+
+abbrev pub lentFinal : List ℕ → ℕ → ℕ
+lentFinal fs p = word fs (p + 3)
+
+abbrev pub nextLent : ℕ → ℕ
+nextLent p = p + 4
+
 -- "n times: field name, type, 2 × alias + final", of n lent fields from position p on
 unfoldable pub fieldWords : ℕ → ℕ → List ℕ → List ℕ
 fieldWords zero p fs = []
-fieldWords (suc n) p fs = getD fs p 0 ∷ getD fs (p + 1) 0 ∷ (2 * getD fs (p + 2) 0 + getD fs (p + 3) 0) ∷ fieldWords n (p + 4) fs
+fieldWords (suc n) p fs = lentName fs p ∷ lentType fs p ∷ flagsOf (lentAlias fs p) (lentFinal fs p) ∷ fieldWords n (nextLent p) fs
 
--- the aliases and flags are ones that the maker takes
-pub record ValuesFit (fs : List ℕ) : Type 0 where
-  pub aliases : all isAlias (fieldAliases fs) ≡ true
-  pub finals : all isFlag (fieldFinals fs) ≡ true
-
+-- "name handle; n times: ..", around the field types
 abbrev pub structEntry : ℕ → List ℕ → List ℕ → List ℕ
 structEntry name fs u = headAround u Struct (fieldCount fs) (fieldTypes fs) ∷ name ∷ fieldWords (fieldCount fs) 0 fs

@@ -4,7 +4,7 @@ use mathlib.Core.Bool.{true}
 use mathlib.Core.List.{List, _++_}
 use Prim.Native.Nat.{ℕ}
 use lib.ListN.{take}
-use Rattle.words.specs.Made.{Ran}
+use Rattle.words.specs.Ran.{Ran}
 use Rattle.words.specs.declared.Interned.{Interned}
 use Rattle.lent_memory.specs.Memory.{Right, RightThen}
 use Rattle.every_call.specs.Run.{typed}

@@ -5,7 +5,7 @@ use mathlib.Core.List.{List, [], _∷_}
 use Prim.Native.Nat.{ℕ, suc, _^_, _<_}
 use borrow.Author.Tests.{lt-ltb}
 use lib.ListN.{getD}
-use Rattle.words.specs.Made.{Ran}
+use Rattle.words.specs.Ran.{Ran}
 use Rattle.words.specs.declared.Interned.{Interned}
 use Rattle.call.specs.Call.{call}
 use Rattle.walk_rules.specs.declared.Walk.{Walk}

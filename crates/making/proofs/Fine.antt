@@ -2,7 +2,7 @@
 use mathlib.Core.Path.{_≡_}
 use mathlib.Core.Bool.{true, not}
 use mathlib.Core.List.{List}
-use Prim.Native.Nat.{ℕ, _≤_}
+use Prim.Native.Nat.{ℕ, _+_, _≤_}
 use native.Mathlib.Omega.{arith}
 use borrow.Author.Tests.{leb-true, ltb-false, not-false}
 use lib.Dec.{ltb}
@@ -12,7 +12,8 @@ use Rattle.call.specs.Call.{_when_}
 use Rattle.kept.proofs.Rows.{off, tuple-parts, struct-parts, struct-values}
 use Rattle.kept.proofs.Array.{ary-parts}
 use Rattle.rows.proofs.Arrays.{bracketed}
-use Rattle.makers.specs.Entries.{storedSize, fieldCount, ValuesFit}
+use Rattle.makers.specs.Entries.{storedSize, fieldCount}
+use Rattle.makers.specs.Fit.{ValuesFit}
 use Rattle.makers.specs.Makers.{tupleRows, structRows, aryRows}
 
 pub float-fine : (sz bits : ℕ) → (4 when not (floatOk (storedSize sz) bits)) ≡ 0 → floatOk (storedSize sz) bits ≡ true
@@ -29,7 +30,7 @@ pub struct-fine : (name : ℕ) (list u : List ℕ) → structRows name list u �
 unfolding mostOf
 struct-fine name list u q = (struct-parts name list u q .few, struct-values name list u q)
 
-pub array-fine : (len la body ba : ℕ) (text u : List ℕ) → aryRows len la body ba text u ≡ 0 → (length text ≤ 253) × (la ≤ 4294967295) × (ba ≤ 4294967295)
+pub array-fine : (len la body ba : ℕ) (text u : List ℕ) → aryRows len la body ba text u ≡ 0 → (2 + length text ≤ 255) × (la ≤ 4294967295) × (ba ≤ 4294967295)
 array-fine len la body ba text u q =
     let p = ary-parts len la body ba text u q in
     (omega (arith, bracketed text, p .few), leb-true _ _ (p .len-alias), leb-true _ _ (p .body-alias))

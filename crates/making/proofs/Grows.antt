@@ -10,7 +10,7 @@ use Rattle.names.specs.Name.{nameEntry, wrapped}
 use Rattle.makers.specs.Makers.{makeAry, lengthName, bodyName}
 use Rattle.meet.proofs.Grows.{meet-grows}
 use Rattle.walk_rules.specs.declared.Walk.the-variants.{Dual}
-use Rattle.walk.specs.Walked.{dualOf}
+use Rattle.walk.specs.Walk.{dualOf}
 use Rattle.walk.proofs.Grows.{walk-grows}
 use Rattle.join.specs.Join.{joinWith, joinOf}
 use Rattle.join.proofs.Steps.{with-grows}

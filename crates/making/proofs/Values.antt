@@ -6,7 +6,8 @@ use Prim.Native.Nat.{ℕ, _+_, _%_, _^_, _≤_, _<_}
 use borrow.Author.Tests.{lt-ltb, le-ltb, not-true, not-false}
 use lib.Dec.{ltb}
 use lib.IntN.{ℤ}
-use Rattle.words.specs.Made.{make, Ran}
+use Rattle.words.specs.Made.{make}
+use Rattle.words.specs.Ran.{Ran}
 use Rattle.words.specs.declared.Interned.{Interned}
 use Rattle.type_float.specs.Float.{sizeFrom, wordOf, isSizeWord, isSize}
 use Rattle.type_float.proofs.Size.{word-size, size-ok}

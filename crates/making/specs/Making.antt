@@ -16,7 +16,7 @@ use Rattle.makers.specs.Makers.{tupleRows, frefRows, partRows, structRows, aryR
 use Rattle.meet.specs.Meet.{meetOf}
 use Rattle.walk_rules.specs.declared.Walk.{Walk}
 use Rattle.walk_rules.specs.declared.Walk.the-variants.{Dual, Glb, Lub}
-use Rattle.walk.specs.Walked.{walkOf}
+use Rattle.walk.specs.Walk.{walkOf}
 use Rattle.join.specs.Join.{joinOf}
 use Rattle.make_ro.specs.ReadOnly.{makeRoOf}
 use Rattle.every_call.specs.Run as Run

@@ -3,17 +3,20 @@
 use call::Made;
 use walk_rules::Walk;
 use words::Interned;
+use words::kinds;
+use words::limits;
 ghost use mathlib.Core.Path.{_≡_};
 ghost use mathlib.Core.Bool.{true, not};
 ghost use mathlib.Core.List.{_++_};
 ghost use lib.Dec.{ltb};
 ghost use lib.ListN.{length, take};
-ghost use Rattle.words.specs.Made.{make, Segments, Runs};
+ghost use Rattle.words.specs.Made.{make};
+ghost use Rattle.words.specs.Ran.{Segments, Runs};
 ghost use Rattle.index.specs.Covers.{Covers};
 ghost use Rattle.wellformed.specs.Entry.{mostCounted, floatOk};
 ghost use Rattle.wellformed.specs.Form.{usedWords};
 ghost use Rattle.call.specs.Call.{left, made, _when_};
-ghost use Rattle.call.specs.Steps.{usedOf, Open};
+ghost use Rattle.call.specs.Steps.{usedOf, Marked};
 ghost use Rattle.makers.specs.Entries.{storedSize, floatEntry};
 ghost use Rattle.lent_memory.specs.Memory.{Right, RightThen};
 ghost use Rattle.every_call.specs.Run.{run, typed};
@@ -48,7 +51,7 @@ pub fn rows_of(
     list: &[u64],
     text: &[u8],
 ) -> u8
-    requires { ⌜ Open (now words) (now bits) used ⌝ }
+    requires { ⌜ Marked (now words) (now bits) used ⌝ }
     ensures { λ r. ⌜ r ≡ rowsOf making (now (list .entry)) (now (text .entry)) (take used (now (words .entry))) ⌝ }
 {
     match making {
@@ -61,9 +64,25 @@ pub fn rows_of(
             rows::ary_rows(&*words, used, &*bits, len, la, body, ba, &*text)
         }
         Making::MakeStructFref(name) => rows::fref_rows(&*words, used, &*bits, name),
-        Making::GetMemPtr(to, nil) => rows::part_rows(&*words, used, &*bits, to, 8, 9, nil <= 1),
+        Making::GetMemPtr(to, nil) => rows::part_rows(
+            &*words,
+            used,
+            &*bits,
+            to,
+            kinds::STRUCT,
+            kinds::FREF,
+            nil <= limits::LARGEST_FLAG,
+        ),
         Making::GetMem(alias, t) => {
-            rows::part_rows(&*words, used, &*bits, t, 1, 11, alias <= 4294967295)
+            rows::part_rows(
+                &*words,
+                used,
+                &*bits,
+                t,
+                kinds::BOT,
+                kinds::MEM,
+                alias <= limits::LARGEST_ALIAS,
+            )
         }
         Making::Meet(a, b) => rows::types_rows(&*words, used, &*bits, &[a, b]),
         Making::Join(a, b) => rows::types_rows(&*words, used, &*bits, &[a, b]),
@@ -80,7 +99,7 @@ fn float(old: &[u64], new: &mut [u64], used: usize, sz: u64, bits: u64, index: &
     requires { ⌜ Covers (take used (now old ++ now new)) (now index) ⌝ }
     ensures { λ r. ⌜ Runs (λ u. make u (floatEntry (storedSize sz) bits)) (now (old .entry)) (now (new .entry)) used (now (new .exit)) r ⌝ }
 {
-    let size = std::num::wrapping_add_u64(sz, 64);
+    let size = std::num::wrapping_add_u64(sz, wellformed::SIZE_ZERO);
     let f = type_float::float_of(size, bits);
     makers::float(&*old, new, used, f, bits, &*index)
 }

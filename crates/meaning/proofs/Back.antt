@@ -9,13 +9,14 @@ use lib.Dec.{eqb}
 use lib.ListN.{length, getD}
 use Rattle.words.specs.Kinds.{Bot, Top, Ctrl, XCtrl, Int, Float, Tuple, Struct, Fref, MemPtr, Mem}
 use Rattle.words.specs.Words.{headOf, kindOf}
-use Rattle.words.specs.Table.{Row, entries, In}
+use Rattle.words.specs.Table.{Row, entries, RowIn}
 use Rattle.words.proofs.Sizes.{plain-size, tuple-size, struct-size, fref-size}
-use Rattle.wellformed.specs.Entry.{kind, depth, count, mostOf, every, typesIn, isFlag, takes, kindAt, all, deepest, floatOk, valuesOk}
+use Rattle.wellformed.specs.Entry.{kind, depth, count, mostOf, typesIn, isFlag, takes, kindAt, all, deepest, floatOk, valuesOk}
+use Rattle.words.specs.Columns.{every, word}
 use Rattle.wellformed.specs.Form.{headsAt}
 use Rattle.wellformed.proofs.Bools.{and-left, and-right}
-use Rattle.call.specs.Handles.{word, headAround}
-use Rattle.call.specs.Keep.{Sound}
+use Rattle.call.specs.Handles.{headAround}
+use Rattle.call.specs.Adds.{Sound}
 use Rattle.makers.specs.Entries.{intEntry, floatEntry, frefEntry}
 use Rattle.makers.proofs.Fields.{every-shift}
 use Rattle.makers.proofs.FloatSize.{size-word}
@@ -104,7 +105,7 @@ module _ (start : ℕ → Bool) (u : List ℕ) (p : ℕ → Bool) (never : p 255
       let t = kindAt (headsAt start u) p in
       rw (head-word h (and-left (t h) (all t hs) k), deepest-words hs (and-right (t h) (all t hs) k))
 
-module _ (u : List ℕ) (s : Sound u) (r : Row) (m : In r (entries u)) where
+module _ (u : List ℕ) (s : Sound u) (r : Row) (m : RowIn r (entries u)) where
   abbrev e : List ℕ
   e = r .words
 
@@ -147,8 +148,8 @@ module _ (u : List ℕ) (s : Sound u) (r : Row) (m : In r (entries u)) where
   unfolding floatOk
   float-entry n sz ok =
       each-word (λ x. floatOk x n ≡ true → unview u (floatView x n) ≡ floatEntry x n)
-      (λ o. rw (zero-bits n (and-left (eqb n 0 && true) true o))) (λ o. rw (zero-bits n (and-left (eqb n 0 && true) true o))) (λ o. refl)
-      (λ o. rw (zero-bits n (and-left (eqb n 0 && true) true o))) (λ o. rw (zero-bits n (and-left (eqb n 0 && true) true o)))
+      (λ o. rw (zero-bits n o)) (λ o. rw (zero-bits n o)) (λ o. refl)
+      (λ o. rw (zero-bits n o)) (λ o. rw (zero-bits n o))
       sz (size-word sz n ok) ok
 
   module _ (low : 1 ≤ kind e) (high : kind e ≤ 11) (ends : kind e ≡ 5 → (getD e 1 0 < 2 ^ 64) × (getD e 2 0 < 2 ^ 64)) where

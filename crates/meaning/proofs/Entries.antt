@@ -8,10 +8,11 @@ use borrow.Author.Tests.{leb-true}
 use lib.Dec.{eqb}
 use lib.ListN.{length, getD}
 use Rattle.words.specs.Kinds.{Tuple, Struct, MemPtr, Mem}
-use Rattle.wellformed.specs.Entry.{every, all, isFlag}
+use Rattle.wellformed.specs.Entry.{all, isFlag}
+use Rattle.words.specs.Columns.{every, word, kindOn}
 use Rattle.wellformed.specs.Fresh.{freshWords}
 use Rattle.wellformed.proofs.Bools.{and-left, and-right}
-use Rattle.call.specs.Handles.{word, kindOn, headAround}
+use Rattle.call.specs.Handles.{headAround}
 use Rattle.makers.specs.Entries.{intEntry, floatEntry, tupleEntry, pointerEntry, memoryEntry, fieldCount, fieldNames, fieldTypes, fieldWords, structEntry}
 use Rattle.makers.proofs.Fields.{every-shift}
 use Rattle.kept.proofs.Columns.{every-all, column, names-apart, types-apart}

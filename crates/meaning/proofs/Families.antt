@@ -8,7 +8,7 @@ use native.Mathlib.Omega.{arith}
 use borrow.Author.Tests.{eqb-true, eqb-false, eq-eqb}
 use lib.Dec.{eqb}
 use Rattle.wellformed.specs.Entry.{isStruct}
-use Rattle.call.specs.Handles.{word, kindOn, countOn}
+use Rattle.words.specs.Columns.{word, kindOn, countOn}
 use Rattle.parts.specs.Parts.{Good}
 use Rattle.rules.specs.Column.{_⇒_∣_}
 use Rattle.trees.proofs.Tree.{stc, _≼_, same, Ty, cls}

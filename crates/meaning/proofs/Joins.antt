@@ -12,7 +12,7 @@ use Rattle.parts.proofs.Good.{part-below}
 use Rattle.meet.specs.Meet.{meetOf}
 use Rattle.meet.proofs.Nice.{meet-nice}
 use Rattle.walk_rules.specs.declared.Walk.the-variants.{Dual}
-use Rattle.walk.specs.Walked.{dualOf}
+use Rattle.walk.specs.Walk.{dualOf}
 use Rattle.join.specs.Join.{joinWith, joinOf}
 use Rattle.join.proofs.Adds.{dualled, answered}
 use Rattle.trees.proofs.Tree.{Ty, ⊑-refl}

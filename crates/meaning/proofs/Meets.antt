@@ -10,30 +10,30 @@ use lib.Dec.{eqb, leb}
 use lib.ListN.{length}
 use Rattle.words.specs.Kinds.{Bot, Top, Ctrl, XCtrl, Int, Float, Tuple, Fref, MemPtr, Mem}
 use Rattle.words.specs.Made.{Grown, there}
-use Rattle.wellformed.specs.Entry.{every, isStruct, isFlag}
+use Rattle.wellformed.specs.Entry.{isStruct, isFlag}
+use Rattle.words.specs.Columns.{every, word, kindOn, depthOn, countOn, firstFlagsOn, fieldTypesOn, flagsOn}
 use Rattle.wellformed.proofs.Bools.{and-left, and-right}
-use Rattle.call.specs.Handles.{word, kindOn, depthOn, countOn}
 use Rattle.call.proofs.Sound.{adds-none}
 use Rattle.type_integer.specs.Signed.{smaller, larger}
 use Rattle.makers.specs.Entries.{intEntry}
 use Rattle.makers.proofs.FloatSize.{size-word}
 use Rattle.kept.proofs.Fits.{int-fits}
 use Rattle.structs.proofs.Columns.{half}
-use Rattle.parts.specs.Parts.{Good, Part, Name, All}
+use Rattle.parts.specs.Parts.{Good, Part, NameAt, All}
 use Rattle.parts.proofs.Parts.{StructAt, few, flat, deep, of-tuple, of-struct, of-fref, of-pointer, of-int, of-float, all-map}
 use Rattle.parts.proofs.Good.{part-weak, part-adds, good-adds, make-answers}
 use Rattle.float_meet.specs.FloatRule.{floatRule}
 use Rattle.float_meet.specs.declared.FloatMeet.{FloatMeet}
 use Rattle.float_meet.specs.declared.FloatMeet.the-variants.{First, Second, Single, Double}
-use Rattle.meet_rules.specs.FreshHandles.{structTop, structBot}
+use Rattle.wellformed.specs.FreshHandles.{structTop, structBot}
 use Rattle.meet_rules.specs.Rules.{pairRule, ruleFor, typeRule, namedRule, structRule, readingOn, floatHandle}
 use Rattle.meet_rules.specs.declared.Rule.{Rule}
 use Rattle.meet_rules.specs.declared.StructRule.{StructRule}
 use Rattle.structs.specs.Remade.{remake}
 use Rattle.meet_rules.specs.Names.{sameName, sameFields}
-use Rattle.meet_fields.specs.Fields.{eitherFinal, flagsOn, meetFields}
+use Rattle.meet_fields.specs.Fields.{eitherFinal, meetFields}
 use Rattle.meet_fields.proofs.Finals.{every-length, either-length, either-flags}
-use Rattle.meet.specs.Meet.{Many, meetInt, meetEach, elements, tupleOf, types, structOf, pointerOf, eitherNil, followStruct, meetStruct, follow, meet}
+use Rattle.meet.specs.Meet.{Many, meetInt, meetEach, meetElements, tupleOf, meetFieldTypes, meetStructOf, pointerOf, eitherNil, followStruct, meetStruct, follow, meetWithin}
 use Rattle.meet.proofs.Nice.{EachAnswers, narrow, int-ends, each-nice, pairs, structs-nice, meet-nice}
 use Rattle.trees.proofs.Tree.{any, same, Shape, tup, str, fre, mem, Ty, int, node, Tys, ε, _◂_, _⊑_, up, dn, fw, ⊑-refl}
 use Rattle.trees.proofs.Meet.{Meet, Meet*, Flags, meet-le, meet-ge, meet-int, flags-none, flags-more, meet-node, meet-ε, meet-◂, len, meet-lengths, Named, struct, fref, meet-names, meet-fields, meet-kinds}
@@ -41,7 +41,7 @@ use Rattle.trees.proofs.Free.{Lacks*, lnode, lmore, isMem, NoMem}
 use Rattle.meaning.proofs.View.{row}
 use Rattle.meaning.proofs.Values.{pick, pick-cond, key, smaller-key, larger-key, flag, flags, flag-either, flag-max, floatTree, floatAnswer, float-right}
 use Rattle.meaning.proofs.Store.{Distinct, Typed, treeOn, typed, typed-struct, looks, handle-same, onward-adds, grown, kept, row-kept, every-kept, made-tree}
-use Rattle.meaning.proofs.Structs.{shapeOn, typesOn, valuesOn, isTop, isBot, struct-tree, struct-long, not-top, not-bot, remade-tree}
+use Rattle.meaning.proofs.Structs.{shapeOn, isTop, isBot, struct-tree, struct-long, not-top, not-bot, remade-tree}
 use Rattle.meaning.proofs.Names.{name-handle, other-name, fields-same, fields-pass}
 use Rattle.meaning.proofs.Entries.{int-view, float-tree, tree-bot, tree-struct-top, tree-struct-bot, tree-float-b32, tree-float-bot}
 use Rattle.meaning.proofs.Around.{tuple-tree, pointer-tree}
@@ -94,9 +94,9 @@ flags-met (x ∷ xs) (y ∷ ys) e = rw (flag-either x y) (flags-more (flag x) (f
 
 -- ---- parts
 
-module _ (n : ℕ) (ih : (u : List ℕ) (a b : ℕ) → Distinct u → Part u n 33 1 11 a → Part u n 33 1 11 b → Side (treeOn u a) (treeOn u b) → Right u a b (meet n u a b)) where
+module _ (n : ℕ) (ih : (u : List ℕ) (a b : ℕ) → Distinct u → Part u n 33 1 11 a → Part u n 33 1 11 b → Side (treeOn u a) (treeOn u b) → Right u a b (meetWithin n u a b)) where
   each-right : (u xs ys : List ℕ) → Distinct u → All (Part u n 33 1 11) xs → All (Part u n 33 1 11) ys → length xs ≡ length ys → Side* (row (treeOn u) xs) (row (treeOn u) ys)
-      → Meet* (row (treeOn u) xs) (row (treeOn u) ys) (row (treeOn (meetEach (meet n) u xs ys .words)) (meetEach (meet n) u xs ys .handles))
+      → Meet* (row (treeOn u) xs) (row (treeOn u) ys) (row (treeOn (meetEach (meetWithin n) u xs ys .words)) (meetEach (meetWithin n) u xs ys .handles))
   unfolding meetEach
   each-right u [] [] S a b l s = meet-ε
   each-right u [] (y ∷ ys) S a b l s = absurd (omega arith)
@@ -104,7 +104,7 @@ module _ (n : ℕ) (ih : (u : List ℕ) (a b : ℕ) → Distinct u → Part u n 
   each-right u (x ∷ xs) (y ∷ ys) S a b l s =
       let G = S .good in
       let r = meet-nice n u x y 33 G (a .0) (b .0) in
-      let g = meet n u x y in
+      let g = meetWithin n u x y in
       let T = grown S (r .adds) in
       let H = T .good in
       let on = onward-adds (r .adds) in
@@ -113,25 +113,25 @@ module _ (n : ℕ) (ih : (u : List ℕ) (a b : ℕ) → Distinct u → Part u n 
       let kx = row-kept G H on xs (all-map (λ z p. typed G p) xs (a .1)) in
       let ky = row-kept G H on ys (all-map (λ z p. typed G p) ys (b .1)) in
       let rest = each-right (g .words) xs ys T a′ b′ (omega arith) (rw (kx, ky) (side-tail s)) in
-      let e = each-nice (meet n) n (meet-nice n) (g .words) 33 xs ys H a′ b′ (omega arith) in
+      let e = each-nice (meetWithin n) n (meet-nice n) (g .words) 33 xs ys H a′ b′ (omega arith) in
       let k = kept H (good-adds H (e .adds)) (onward-adds (e .adds)) (g .handle) (r .part) in
       rw (k, ← kx, ← ky) (meet-◂ (ih u x y S (a .0) (b .0) (side-head s)) rest)
 
-  -- the parts of two entries, s words apart
-  module _ (u : List ℕ) (a b s c p q : ℕ) (S : Distinct u) (la : a ≤ n) (lb : b ≤ n) (fa : depthOn u a ≤ 32) (fb : depthOn u b ≤ 32)
-      (pa : All (Part u a (depthOn u a) 1 11) (every s c p u)) (pb : All (Part u b (depthOn u b) 1 11) (every s c q u)) where
+  -- the parts of two entries, s words apart, as many of the one as of the other
+  module _ (u : List ℕ) (a b s c d p q : ℕ) (same : c ≡ d) (S : Distinct u) (la : a ≤ n) (lb : b ≤ n) (fa : depthOn u a ≤ 32) (fb : depthOn u b ≤ 32)
+      (pa : All (Part u a (depthOn u a) 1 11) (every s c p u)) (pb : All (Part u b (depthOn u b) 1 11) (every s d q u)) where
     abbrev m : Many
-    m = meetEach (meet n) u (every s c p u) (every s c q u)
+    m = meetEach (meetWithin n) u (every s c p u) (every s d q u)
 
     pub part-answers : EachAnswers u (max (depthOn u a) (depthOn u b)) c m
-    part-answers = pairs (meet n) n (meet-nice n) u a b s c p q (S .good) la lb pa pb
+    part-answers = pairs (meetWithin n) n (meet-nice n) u a b s c d p q same (S .good) la lb pa pb
 
-    pub parts-met : Side* (row (treeOn u) (every s c p u)) (row (treeOn u) (every s c q u)) → Meet* (row (treeOn u) (every s c p u)) (row (treeOn u) (every s c q u)) (row (treeOn (m .words)) (m .handles))
+    pub parts-met : Side* (row (treeOn u) (every s c p u)) (row (treeOn u) (every s d q u)) → Meet* (row (treeOn u) (every s c p u)) (row (treeOn u) (every s d q u)) (row (treeOn (m .words)) (m .handles))
     parts-met =
-        each-right u (every s c p u) (every s c q u) S
+        each-right u (every s c p u) (every s d q u) S
         (all-map (λ z x. part-weak n 33 la (omega arith) x) (every s c p u) pa)
-        (all-map (λ z x. part-weak n 33 lb (omega arith) x) (every s c q u) pb)
-        (every-length s c p u ∙ sym (every-length s c q u))
+        (all-map (λ z x. part-weak n 33 lb (omega arith) x) (every s d q u) pb)
+        (every-length s c p u ∙ same ∙ sym (every-length s d q u))
 
   -- ---- tuples
 
@@ -148,23 +148,22 @@ module _ (n : ℕ) (ih : (u : List ℕ) (a b : ℕ) → Distinct u → Part u n 
     tuple-b : treeOn u b ≡ node tup [] (row (treeOn u) (every 1 (countOn u b) (b + 1) u))
     tuple-b = looks G b 7 (typed G pb) kb
 
-    tuples-right : c ≡ countOn u b → Side (treeOn u a) (treeOn u b) → Right u a b (tupleOf (elements (meet n) u a b))
+    tuples-right : c ≡ countOn u b → Side (treeOn u a) (treeOn u b) → Right u a b (tupleOf (meetElements (meetWithin n) u a b))
     tuples-right e side =
         let ta = of-tuple (G .sound) pa ka .types in
-        let tb : All (Part u b (depthOn u b) 1 11) (every 1 c (b + 1) u) = rw e (of-tuple (G .sound) pb kb .types) in
+        let tb = of-tuple (G .sound) pb kb .types in
         let fa = flat (G .sound) pa in
         let fb = flat (G .sound) pb in
         let D = max (depthOn u a) (depthOn u b) in
         let o : 1 ≤ D = omega (arith, deep (G .sound) pa (omega arith)) in
-        let x = part-answers u a b 1 c (a + 1) (b + 1) S (omega (arith, pa .earlier)) (omega (arith, pb .earlier)) fa fb ta tb in
-        let m = elements (meet n) u a b in
+        let x = part-answers u a b 1 c (countOn u b) (a + 1) (b + 1) e S (omega (arith, pa .earlier)) (omega (arith, pb .earlier)) fa fb ta tb in
+        let m = meetElements (meetWithin n) u a b in
         let w = m .words in
         let hs = m .handles in
         let l : length hs ≤ 255 = omega (arith, few (G .sound) pa, x .long) in
         let t = tuple-tree (grown S (x .adds)) D o (omega arith) hs (x .parts) l in
-        let fb′ : treeOn u b ≡ node tup [] (row (treeOn u) (every 1 c (b + 1) u)) = rw e tuple-b in
-        let sides = side-parts (rw (tuple-a, fb′) at side) in
-        rw (tuple-a, fb′, t) (meet-node (λ i z. let y : _≡_ {A = ℕ} 0 1 = cc in omega arith) flags-none (parts-met u a b 1 c (a + 1) (b + 1) S (omega (arith, pa .earlier)) (omega (arith, pb .earlier)) fa fb ta tb sides))
+        let sides = side-parts (rw (tuple-a, tuple-b) at side) in
+        rw (tuple-a, tuple-b, t) (meet-node (λ i z. let y : _≡_ {A = ℕ} 0 1 = cc in omega arith) flags-none (parts-met u a b 1 c (countOn u b) (a + 1) (b + 1) e S (omega (arith, pa .earlier)) (omega (arith, pb .earlier)) fa fb ta tb sides))
 
     len-row : (f : ℕ → Ty) (ks : List ℕ) → len (row f ks) ≡ length ks
     len-row f [] = refl
@@ -204,8 +203,8 @@ module _ (n : ℕ) (ih : (u : List ℕ) (a b : ℕ) → Distinct u → Part u n 
           let f = fields-same S a b (countOn u a) (a + 2) (b + 2) (sa .names) (rw counted (sb .names)) fielded in
           rw (← counted, ← e, ← f .0, rw (x, y) at (f .1))
 
-      fields-right : Side (treeOn u a) (treeOn u b) → (treeOn u a ≡ node (shapeOn u a) (flags (valuesOn u a)) (row (treeOn u) (typesOn u a))) → (treeOn u b ≡ node (shapeOn u b) (flags (valuesOn u b)) (row (treeOn u) (typesOn u b)))
-          → isTop u a ≡ false → isBot u a ≡ false → Right u a b (structOf a b (types (meet n) u a b))
+      fields-right : Side (treeOn u a) (treeOn u b) → (treeOn u a ≡ node (shapeOn u a) (flags (flagsOn u a)) (row (treeOn u) (fieldTypesOn u a))) → (treeOn u b ≡ node (shapeOn u b) (flags (flagsOn u b)) (row (treeOn u) (fieldTypesOn u b)))
+          → isTop u a ≡ false → isBot u a ≡ false → Right u a b (meetStructOf a b (meetFieldTypes (meetWithin n) u a b))
       unfolding meetFields
       fields-right side la lb nt nb =
           let c = countOn u a in
@@ -215,24 +214,23 @@ module _ (n : ℕ) (ih : (u : List ℕ) (a b : ℕ) → Distinct u → Part u n 
           let fb = flat (G₈ .sound) tb in
           let D = max (depthOn u a) (depthOn u b) in
           let o : 1 ≤ D = omega (arith, deep (G₈ .sound) ta (omega arith)) in
-          let pb′ : All (Part u b (depthOn u b) 1 11) (every 3 c (b + 3) u) = rw counted (sb .types) in
-          let x = part-answers u a b 3 c (a + 3) (b + 3) S (omega (arith, pa .earlier)) (omega (arith, pb .earlier)) fa fb (sa .types) pb′ in
-          let m = types (meet n) u a b in
+          let x = part-answers u a b 3 c (countOn u b) (a + 3) (b + 3) counted S (omega (arith, pa .earlier)) (omega (arith, pb .earlier)) fa fb (sa .types) (sb .types) in
+          let m = meetFieldTypes (meetWithin n) u a b in
           let w = m .words in
           let hs = m .handles in
           let H = grown S (x .adds) .good in
           let on = onward-adds (x .adds) in
           let l = x .long in
-          let ex : flagsOn w (length hs) a ≡ xs = rw l (every-kept G₈ H on ta 3 c 4 (a + 4) refl (omega (arith, struct-long S ta ka))) in
-          let ey : flagsOn w (length hs) b ≡ ys = rw l (every-kept G₈ H on tb 3 c 4 (b + 4) refl (omega (arith, struct-long S tb kb, counted))) in
+          let ex : firstFlagsOn w (length hs) a ≡ xs = rw l (every-kept G₈ H on ta 3 c 4 (a + 4) refl (omega (arith, struct-long S ta ka))) in
+          let ey : firstFlagsOn w (length hs) b ≡ ys = rw l (every-kept G₈ H on tb 3 c 4 (b + 4) refl (omega (arith, struct-long S tb kb, counted))) in
           let fs = eitherFinal xs ys in
           let n₁ : length xs ≡ length ys = every-length 3 c (a + 4) u ∙ sym (every-length 3 c (b + 4) u) in
           let same : length hs ≡ length fs = l ∙ sym (either-length xs ys n₁ ∙ every-length 3 c (a + 4) u) in
           let t = remade-tree S ta ka w (x .adds) hs fs D o (omega arith) (x .parts) l same (either-flags xs ys) in
           let t₁ : treeOn (remake a hs fs w .words) (remake a hs fs w .handle) ≡ node (shapeOn u a) (flags fs) (row (treeOn w) hs) = t ∙ rw (nt, nb) in
-          let lb₁ : treeOn u b ≡ node (shapeOn u a) (flags ys) (row (treeOn u) (every 3 c (b + 3) u)) = lb ∙ rw (shapes, ← counted) in
+          let lb₁ : treeOn u b ≡ node (shapeOn u a) (flags ys) (row (treeOn u) (fieldTypesOn u b)) = lb ∙ rw (shapes, counted) in
           let sides = side-parts (rw (la, lb₁) at side) in
-          rw (ex, ey, la, lb₁, t₁) (meet-node (λ i z. let y : _≡_ {A = ℕ} 0 1 = cc in omega arith) (flags-met xs ys n₁) (parts-met u a b 3 c (a + 3) (b + 3) S (omega (arith, pa .earlier)) (omega (arith, pb .earlier)) fa fb (sa .types) pb′ sides))
+          rw (ex, ey, la, lb₁, t₁) (meet-node (λ i z. let y : _≡_ {A = ℕ} 0 1 = cc in omega arith) (flags-met xs ys n₁) (parts-met u a b 3 c (countOn u b) (a + 3) (b + 3) counted S (omega (arith, pa .earlier)) (omega (arith, pb .earlier)) fa fb (sa .types) (sb .types) sides))
 
     -- a struct that is neither $TOP nor $BOT, or a forward reference
     module _ (h : ℕ) (ph : Typed u h) (low : 8 ≤ kindOn u h) (high : kindOn u h ≤ 9) (ne : h ≢ 18) (nb : h ≢ 20) where
@@ -243,7 +241,7 @@ module _ (n : ℕ) (ih : (u : List ℕ) (a b : ℕ) → Distinct u → Part u n 
         is : treeOn u h ≡ node shape finals parts
         named : Named (word u (h + 1)) shape
 
-      plain-tree : (k : kindOn u h ≡ 8) → treeOn u h ≡ node (shapeOn u h) (flags (valuesOn u h)) (row (treeOn u) (typesOn u h))
+      plain-tree : (k : kindOn u h ≡ 8) → treeOn u h ≡ node (shapeOn u h) (flags (flagsOn u h)) (row (treeOn u) (fieldTypesOn u h))
       plain-tree k = struct-tree G₈ ph k ∙ rw (not-top S ph k ne, not-bot S ph k nb)
 
       either : (kindOn u h ≡ 8) ⊎ (kindOn u h ≡ 9)
@@ -252,7 +250,7 @@ module _ (n : ℕ) (ih : (u : List ℕ) (a b : ℕ) → Distinct u → Part u n 
       node-of : Node
       node-of =
           ⊎-elim
-          (λ (k : kindOn u h ≡ 8). record { shape = shapeOn u h; finals = flags (valuesOn u h); parts = row (treeOn u) (typesOn u h); is = plain-tree k; named = struct })
+          (λ (k : kindOn u h ≡ 8). record { shape = shapeOn u h; finals = flags (flagsOn u h); parts = row (treeOn u) (fieldTypesOn u h); is = plain-tree k; named = struct })
           (λ (k : kindOn u h ≡ 9). record { shape = fre (word u (h + 1)); finals = []; parts = ε; is = looks G₈ h 9 ph k; named = fref })
           either
 
@@ -260,7 +258,7 @@ module _ (n : ℕ) (ih : (u : List ℕ) (a b : ℕ) → Distinct u → Part u n 
       fref-below : (x : ℕ) → x ≡ word u (h + 1) → node (fre x) [] ε ⊑ treeOn u h
       fref-below x q = ⊎-elim (λ (k : kindOn u h ≡ 8). rw (q, plain-tree k) fw) (λ (k : kindOn u h ≡ 9). rw (q, looks G₈ h 9 ph k) (⊑-refl (node (fre (word u (h + 1))) [] ε))) either
 
-      name-of : Name u h (word u (h + 1))
+      name-of : NameAt u h (word u (h + 1))
       name-of = ⊎-elim (λ (k : kindOn u h ≡ 8). of-struct (G₈ .sound) ph k .name) (λ (k : kindOn u h ≡ 9). of-fref (G₈ .sound) ph k) either
 
     -- structs whose field counts, or whose fields' names or aliases, differ
@@ -279,10 +277,10 @@ module _ (n : ℕ) (ih : (u : List ℕ) (a b : ℕ) → Distinct u → Part u n 
         let y : map half (every 3 c (a + 4) u) ≡ map half (every 3 c (b + 4) u) = cc in
         true≢false (sym (fields-pass u c (a + 2) (b + 2) x (rw (i, j) y)) ∙ e)
 
-    structs-right : Side (treeOn u a) (treeOn u b) → Right u a b (meetStruct (meet n) u a b)
+    structs-right : Side (treeOn u a) (treeOn u b) → Right u a b (meetStruct (meetWithin n) u a b)
     unfolding meetStruct followStruct structRule namedRule
     structs-right side =
-        let Q : StructRule → Type 0 = λ r. Right u a b (followStruct (meet n) u a b r) in
+        let Q : StructRule → Type 0 = λ r. Right u a b (followStruct (meetWithin n) u a b r) in
         let in-a = in-structs G₈ a ta (pa .least) (pa .most) in
         let in-b = in-structs G₈ b tb (pb .least) (pb .most) in
         let ja = kindOn u a in
@@ -358,7 +356,7 @@ module _ (n : ℕ) (ih : (u : List ℕ) (a b : ℕ) → Distinct u → Part u n 
         let et = size-word t y (of-float (G₁ .sound) vb kb) in
         rw (answer-tree (floatRule (readingOn u a) (readingOn u b)), la, lb) (float-right x y s t es et (λ i j z. no-twin (let e : floatTree s x ≡ floatTree t y = rw (i, j, z) in la ∙ e ∙ sym lb)))
 
-    pointers-right : kindOn u a ≡ 10 → kindOn u b ≡ 10 → Right u a b (pointerOf (eitherNil u a b) (meetStruct (meet n) u (word u (a + 1)) (word u (b + 1))))
+    pointers-right : kindOn u a ≡ 10 → kindOn u b ≡ 10 → Right u a b (pointerOf (eitherNil u a b) (meetStruct (meetWithin n) u (word u (a + 1)) (word u (b + 1))))
     pointers-right ka kb =
         let ta = of-pointer (G₁ .sound) va ka in
         let tb = of-pointer (G₁ .sound) vb kb in
@@ -370,8 +368,8 @@ module _ (n : ℕ) (ih : (u : List ℕ) (a b : ℕ) → Distinct u → Part u n 
         let y = word u (b + 1) in
         let px = part-weak (suc n) D (omega (arith, pa .earlier)) (omega arith) (ta .to) in
         let py = part-weak (suc n) D (omega (arith, pb .earlier)) (omega arith) (tb .to) in
-        let q = meetStruct (meet n) u x y in
-        let r = structs-nice (meet n) n (meet-nice n) u x y D G₁ px py in
+        let q = meetStruct (meetWithin n) u x y in
+        let r = structs-nice (meetWithin n) n (meet-nice n) u x y D G₁ px py in
         let w = q .words in
         let na = leb-true (word u (a + 2)) 1 (ta .flag) in
         let nb = leb-true (word u (b + 2)) 1 (tb .flag) in
@@ -400,10 +398,10 @@ module _ (n : ℕ) (ih : (u : List ℕ) (a b : ℕ) → Distinct u → Part u n 
     in-range : (k : ℕ) → isStruct k ≡ true → (8 ≤ k) × (k ≤ 9)
     in-range k e = (leb-true 8 k (and-left (leb 8 k) (leb k 9) e), leb-true k 9 (and-right (leb 8 k) (leb k 9) e))
 
-    rule-right : Right u a b (follow (meet n) u a b (typeRule u a b))
+    rule-right : Right u a b (follow (meetWithin n) u a b (typeRule u a b))
     unfolding follow ruleFor pairRule
     rule-right =
-        let Q : Rule → Type 0 = λ r. Right u a b (follow (meet n) u a b r) in
+        let Q : Rule → Type 0 = λ r. Right u a b (follow (meetWithin n) u a b r) in
         let j = kindOn u a in
         let k = kindOn u b in
         pick Q (eqb a b) (λ e. absurd (ne (eqb-true a b e))) λ n₀.
@@ -442,15 +440,15 @@ module _ (n : ℕ) (ih : (u : List ℕ) (a b : ℕ) → Distinct u → Part u n 
         } k₁ k₂
 
 -- one type with itself
-same-right : (n : ℕ) (u : List ℕ) (a b : ℕ) → eqb a b ≡ true → Right u a b (follow (meet n) u a b (typeRule u a b))
+same-right : (n : ℕ) (u : List ℕ) (a b : ℕ) → eqb a b ≡ true → Right u a b (follow (meetWithin n) u a b (typeRule u a b))
 unfolding follow ruleFor
 same-right n u a b e = rw e (rw (← eqb-true a b e) (meet-le (⊑-refl (treeOn u a))))
 
-pub meet-right : (n : ℕ) (u : List ℕ) (a b : ℕ) → Distinct u → Part u n 33 1 11 a → Part u n 33 1 11 b → Side (treeOn u a) (treeOn u b) → Right u a b (meet n u a b)
-unfolding meet
+pub meet-right : (n : ℕ) (u : List ℕ) (a b : ℕ) → Distinct u → Part u n 33 1 11 a → Part u n 33 1 11 b → Side (treeOn u a) (treeOn u b) → Right u a b (meetWithin n u a b)
+unfolding meetWithin
 meet-right zero u a b S pa pb side = absurd (omega (arith, pa .earlier))
 meet-right (suc n) u a b S pa pb side = go (eqb a b) refl (λ ne. rule-right n (meet-right n) u a b S pa pb ne side)
   where
-    go : (t : Bool) → eqb a b ≡ t → ((a ≢ b) → Right u a b (follow (meet n) u a b (typeRule u a b))) → Right u a b (follow (meet n) u a b (typeRule u a b))
+    go : (t : Bool) → eqb a b ≡ t → ((a ≢ b) → Right u a b (follow (meetWithin n) u a b (typeRule u a b))) → Right u a b (follow (meetWithin n) u a b (typeRule u a b))
     go true e k = same-right n u a b e
     go false e k = k (eqb-false a b e)

@@ -8,14 +8,13 @@ use native.Mathlib.Omega.{arith}
 use borrow.Author.Tests.{eqb-true, eq-eqb}
 use lib.Dec.{eqb}
 use Rattle.words.specs.Words.{sizeOf}
-use Rattle.words.specs.Table.{Row, entries, In}
+use Rattle.words.specs.Table.{Row, entries, RowIn}
 use Rattle.words.proofs.Walk.{size-pos}
-use Rattle.wellformed.specs.Entry.{every}
+use Rattle.words.specs.Columns.{every, word}
 use Rattle.wellformed.proofs.Bools.{and-left, and-right, and-both}
-use Rattle.call.specs.Handles.{word}
 use Rattle.words.proofs.Handles.{at-row}
 use Rattle.structs.proofs.Columns.{half}
-use Rattle.parts.specs.Parts.{Good, Name, All}
+use Rattle.parts.specs.Parts.{Good, NameAt, All}
 use Rattle.meet_rules.specs.Names.{sameWords, sameName, sameFields}
 use Rattle.meaning.proofs.Values.{clash}
 use Rattle.meaning.proofs.Store.{Distinct, row-words, same-handle}
@@ -41,14 +40,14 @@ first-same u zero p q l e = absurd (omega arith)
 first-same u (suc n) p q l e = eqb-true (word u p) (word u q) (and-left (eqb (word u p) (word u q)) (sameWords u n (p + 1) (q + 1)) e)
 
 module _ {u : List ℕ} (g : Good u) where
-  abbrev found : {k h : ℕ} → Name u k h → (r : Row) × (In r (entries u)) × (r .at ≡ h)
+  abbrev found : {k h : ℕ} → NameAt u k h → (r : Row) × (RowIn r (entries u)) × (r .at ≡ h)
   found {h = h} p = at-row (entries u) h (p .entry)
 
   -- the words of a name, read off the used words
-  name-words : {k h : ℕ} (p : Name u k h) → found p .0 .words ≡ every 1 (sizeOf (word u h)) h u
+  name-words : {k h : ℕ} (p : NameAt u k h) → found p .0 .words ≡ every 1 (sizeOf (word u h)) h u
   name-words {h = h} p = row-words g (found p .0) (found p .1) h (found p .2)
 
-pub name-handle : {u : List ℕ} → Distinct u → (k l p q : ℕ) → Name u k p → Name u l q → sameName u p q ≡ true → p ≡ q
+pub name-handle : {u : List ℕ} → Distinct u → (k l p q : ℕ) → NameAt u k p → NameAt u l q → sameName u p q ≡ true → p ≡ q
 name-handle {u} S k l p q a b e =
     let g = S .good in
     let n = sizeOf (word u p) in
@@ -62,7 +61,7 @@ other-name u p q e z = clash (rw (← z) (words-refl u (sizeOf (word u p)) p)) e
 -- ---- fields
 
 module _ {u : List ℕ} (S : Distinct u) where
-  pub fields-same : (k l n p q : ℕ) → All (Name u k) (every 3 n p u) → All (Name u l) (every 3 n q u) → sameFields u n p q ≡ true
+  pub fields-same : (k l n p q : ℕ) → All (NameAt u k) (every 3 n p u) → All (NameAt u l) (every 3 n q u) → sameFields u n p q ≡ true
       → (every 3 n p u ≡ every 3 n q u) × (map half (every 3 n (p + 2) u) ≡ map half (every 3 n (q + 2) u))
   unfolding sameFields every
   fields-same k l zero p q a b e = (refl, refl)

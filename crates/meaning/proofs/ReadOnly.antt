@@ -8,8 +8,7 @@ use lib.Dec.{eqb}
 use lib.ListN.{length, replicate, length-replicate}
 use borrow.Author.Tests.{eqb-true}
 use Rattle.words.specs.Made.{Grown}
-use Rattle.wellformed.specs.Entry.{every}
-use Rattle.call.specs.Handles.{word, kindOn, depthOn, countOn}
+use Rattle.words.specs.Columns.{every, word, kindOn, depthOn, countOn, fieldTypesOn, flagsOn}
 use Rattle.parts.specs.Parts.{Good, Part, All}
 use Rattle.parts.proofs.Parts.{flat, deep, of-struct, of-pointer, all-map}
 use Rattle.parts.proofs.Good.{part-weak, part-adds, good-adds}
@@ -17,7 +16,7 @@ use Rattle.rules.specs.Column.{_⇒_∣_}
 use Rattle.meet_fields.proofs.Finals.{every-length}
 use Rattle.meet.proofs.Nice.{narrow}
 use Rattle.finals.specs.Final.{isFinalOf}
-use Rattle.make_ro.specs.ReadOnly.{fieldType, readOnlyEach, types, structOf, pointerTo, makeRoWithin}
+use Rattle.make_ro.specs.ReadOnly.{fieldType, readOnlyEach, readOnlyFieldTypes, readOnlyStructOf, pointerTo, makeRoWithin}
 use Rattle.make_ro.proofs.Finals.{ones-flags}
 use Rattle.make_ro.proofs.Nice.{field-nice, each-nice, struct-kind, make-ro-nice}
 use Rattle.trees.proofs.Tree.{stc, same, _≤ᵇ_, _≤*_, stop, _⨟_, _⊑_, up, dn, nd, _⊑*_, end, _&_, ≤ᵇ-true, ≤*-refl, ⊑-refl}
@@ -25,7 +24,7 @@ use Rattle.meaning.proofs.View.{vhi, vlo, vnode, row, build}
 use Rattle.meaning.proofs.Values.{pick, pick-cond, flag, flags}
 use Rattle.meaning.proofs.Store.{Distinct, Typed, treeOn, typed, looks, onward-adds, grown, kept, row-kept}
 use Rattle.meaning.proofs.Around.{pointer-tree}
-use Rattle.meaning.proofs.Structs.{shapeOn, typesOn, valuesOn, isTop, isBot, struct-tree, remade-tree}
+use Rattle.meaning.proofs.Structs.{shapeOn, isTop, isBot, struct-tree, remade-tree}
 
 abbrev Above : List ℕ → ℕ → Grown → Type 0
 Above u a g = treeOn u a ⊑ treeOn (g .words) (g .handle)
@@ -88,25 +87,25 @@ module _ (n : ℕ) (ih : (u : List ℕ) (a : ℕ) → Distinct u → Part u n 33
         (λ e. rw (kept G (T .good) (onward-adds (r .adds)) a v) (⊑-refl (treeOn u a)))
         (λ e. rw (looks G a 10 v k, pointer-tree T D some most (s .handle) (word u (a + 2)) (r .part) (t .flag)) (nd (≤*-refl (flag (word u (a + 2)) ∷ [])) (h & end)))
 
-    struct-above : kindOn u a ≡ 8 → Above u a (structOf a (types (makeRoWithin n) u a))
+    struct-above : kindOn u a ≡ 8 → Above u a (readOnlyStructOf a (readOnlyFieldTypes (makeRoWithin n) u a))
     struct-above k =
         let c = countOn u a in
         let ts = of-struct (G .sound) p k .types in
         let pa = all-map (λ z x. part-weak n D (omega (arith, p .earlier)) (omega arith) x) (every 3 c (a + 3) u) ts in
         let pa′ = all-map (λ z x. part-weak n 33 (omega arith) (omega (arith, most)) x) (every 3 c (a + 3) u) pa in
         let l = every-length 3 c (a + 4) u ∙ sym (every-length 3 c (a + 3) u) in
-        let x = each-nice (makeRoWithin n) n (make-ro-nice n) u D (valuesOn u a) (typesOn u a) G pa l in
-        let m = types (makeRoWithin n) u a in
+        let x = each-nice (makeRoWithin n) n (make-ro-nice n) u D (flagsOn u a) (fieldTypesOn u a) G pa l in
+        let m = readOnlyFieldTypes (makeRoWithin n) u a in
         let hs = m .handles in
         let long = x .long ∙ every-length 3 c (a + 3) u in
         let fs : List ℕ = replicate (length hs) 1 in
         let e = remade-tree S v k (m .words) (x .adds) hs fs D some most (x .parts) long (sym (length-replicate (length hs) 1)) (ones-flags (length hs)) in
-        let nv : length hs ≡ length (valuesOn u a) = long ∙ sym (every-length 3 c (a + 4) u) in
-        let f : flags (valuesOn u a) ≤* flags fs = rw nv (to-ones (valuesOn u a)) in
-        rw (struct-tree G v k, e) (by (isTop u a) (isBot u a) (m .words) hs (flags fs) f (each-above u (valuesOn u a) (typesOn u a) S pa′ l))
+        let nv : length hs ≡ length (flagsOn u a) = long ∙ sym (every-length 3 c (a + 4) u) in
+        let f : flags (flagsOn u a) ≤* flags fs = rw nv (to-ones (flagsOn u a)) in
+        rw (struct-tree G v k, e) (by (isTop u a) (isBot u a) (m .words) hs (flags fs) f (each-above u (flagsOn u a) (fieldTypesOn u a) S pa′ l))
       where
-        by : (s t : Bool) (w hs : List ℕ) (fs : List Bool) → flags (valuesOn u a) ≤* fs → row (treeOn u) (typesOn u a) ⊑* row (treeOn w) hs
-            → build (treeOn u) (s ⇒ vhi stc ∣ t ⇒ vlo stc ∣ vnode (shapeOn u a) (flags (valuesOn u a)) (typesOn u a)) ⊑ build (treeOn w) (s ⇒ vhi stc ∣ t ⇒ vlo stc ∣ vnode (shapeOn u a) fs hs)
+        by : (s t : Bool) (w hs : List ℕ) (fs : List Bool) → flags (flagsOn u a) ≤* fs → row (treeOn u) (fieldTypesOn u a) ⊑* row (treeOn w) hs
+            → build (treeOn u) (s ⇒ vhi stc ∣ t ⇒ vlo stc ∣ vnode (shapeOn u a) (flags (flagsOn u a)) (fieldTypesOn u a)) ⊑ build (treeOn w) (s ⇒ vhi stc ∣ t ⇒ vlo stc ∣ vnode (shapeOn u a) fs hs)
         by true t w hs fs f p = up same
         by false true w hs fs f p = dn same
         by false false w hs fs f p = nd f p

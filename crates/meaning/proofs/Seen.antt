@@ -12,11 +12,11 @@ use lib.Dec.{eqb}
 use lib.ListN.{length, getD}
 use Rattle.words.specs.Kinds.{Bot, Top, Ctrl, XCtrl, Int, Float, Tuple, Struct, Fref, MemPtr}
 use Rattle.words.specs.Words.{sizeOf}
-use Rattle.words.specs.Table.{Row, entries, In}
+use Rattle.words.specs.Table.{Row, entries, RowIn}
 use Rattle.words.proofs.Sizes.{pair-size, tuple-size, struct-size, fref-size}
-use Rattle.wellformed.specs.Entry.{kind, count, every}
-use Rattle.call.specs.Handles.{word, kindOn, countOn}
-use Rattle.call.specs.Keep.{Sound}
+use Rattle.wellformed.specs.Entry.{kind, count}
+use Rattle.words.specs.Columns.{every, word, kindOn, countOn}
+use Rattle.call.specs.Adds.{Sound}
 use Rattle.structs.proofs.Columns.{half}
 use Rattle.parts.proofs.Spot.{entry-head, row-sized, row-word, row-every}
 use Rattle.rules.specs.Column.{_⇒_∣_}
@@ -65,7 +65,7 @@ eleven l h n₁ n₂ n₃ n₄ n₅ n₆ n₇ n₈ n₉ n₁₀ = le-antisymm h 
 
 -- ---- an entry of sound used words
 
-module _ (u : List ℕ) (s : Sound u) (r : Row) (m : In r (entries u)) where
+module _ (u : List ℕ) (s : Sound u) (r : Row) (m : RowIn r (entries u)) where
   abbrev a : ℕ
   a = r .at
 

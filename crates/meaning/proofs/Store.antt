@@ -9,13 +9,15 @@ use lib.Dec.{eqb}
 use lib.ListN.{length, getD}
 use Rattle.words.specs.Kinds.{Bot, Top, Ctrl, XCtrl, Int, Float, Tuple, Struct, Fref, MemPtr}
 use Rattle.words.specs.Words.{sizeOf, kindOf}
-use Rattle.words.specs.Table.{Row, entries, starts, Sized, In, Own, firstOf}
+use Rattle.words.specs.Table.{Row, entries, starts, RowIn, Own, firstOf}
+use Rattle.words.specs.Ran.{HasSize}
 use Rattle.words.specs.Made.{Grown, make}
 use Rattle.words.specs.declared.Found.the-variants.{At}
 use Rattle.words.proofs.Kept.{make-in}
-use Rattle.wellformed.specs.Entry.{kind, every}
-use Rattle.call.specs.Handles.{word, kindOn, depthOn, countOn}
-use Rattle.call.specs.Keep.{Ends, Adds}
+use Rattle.wellformed.specs.Entry.{kind}
+use Rattle.words.specs.Columns.{every, word, kindOn, depthOn, countOn}
+use Rattle.call.specs.Keep.{Ends}
+use Rattle.call.specs.Adds.{Adds}
 use Rattle.words.proofs.Handles.{at-row, at-more}
 use Rattle.call.proofs.Sound.{start-used}
 use Rattle.kept.proofs.Columns.{every-all}
@@ -52,11 +54,11 @@ typed-struct g p = typed g (record { entry = p .entry; earlier = p .earlier; lea
 
 -- ---- the row of a handle
 
-pub same-handle : (rs : List Row) (r s : Row) → Own rs → In r rs → In s rs → r .words ≡ s .words → r .at ≡ s .at
+pub same-handle : (rs : List Row) (r s : Row) → Own rs → RowIn r rs → RowIn s rs → r .words ≡ s .words → r .at ≡ s .at
 same-handle rs r s own i j e = let q : At (r .at) ≡ At (s .at) = sym (own r i) ∙ ap (firstOf rs) e ∙ own s j in cc
 
 -- the words of the entry at h, read off the used words
-pub row-words : {u : List ℕ} → Good u → (r : Row) → In r (entries u) → (h : ℕ) → r .at ≡ h → r .words ≡ every 1 (sizeOf (word u h)) h u
+pub row-words : {u : List ℕ} → Good u → (r : Row) → RowIn r (entries u) → (h : ℕ) → r .at ≡ h → r .words ≡ every 1 (sizeOf (word u h)) h u
 row-words {u} g r m h a =
     let e = r .words in
     let w : getD e 0 0 ≡ word u h = sym (entry-head u r m) ∙ ap (word u) a in
@@ -68,7 +70,7 @@ module _ {u : List ℕ} (g : Good u) {h : ℕ} (p : Typed u h) where
   pub rowOf : Row
   rowOf = at-row (entries u) h (p .entry) .0
 
-  pub row-in : In rowOf (entries u)
+  pub row-in : RowIn rowOf (entries u)
   unfolding rowOf
   row-in = at-row (entries u) h (p .entry) .1
 
@@ -161,7 +163,7 @@ grown S a = record { good = good-adds (S .good) a; own = a .own (S .own); ends =
 
 module _ {u w : List ℕ} (G : Good u) (H : Good w) (o : Onward u w) where
   module _ {h : ℕ} (p : Typed u h) where
-    row-still : In (rowOf G p) (entries w)
+    row-still : RowIn (rowOf G p) (entries w)
     row-still = rw (o .rows) (Memᴰ·append-left (o .extra) (row-in G p))
 
     head-still : word w h ≡ word u h
@@ -198,7 +200,7 @@ module _ {u w : List ℕ} (G : Good u) (H : Good w) (o : Onward u w) where
 
 -- ---- an entry that is made
 
-module _ (w e : List ℕ) (S : Distinct w) (sized : Sized e) (low : 1 ≤ kind e) (high : kind e ≤ 11) (r : Answers w 33 1 11 (make w e)) where
+module _ (w e : List ℕ) (S : Distinct w) (sized : HasSize e) (low : 1 ≤ kind e) (high : kind e ≤ 11) (r : Answers w 33 1 11 (make w e)) where
   abbrev g′ : Grown
   g′ = make w e
 

@@ -11,10 +11,10 @@ use lib.ListN.{length, getD}
 use Rattle.words.specs.Words.{kindOf, countOf}
 use Rattle.words.specs.Made.{there}
 use Rattle.words.proofs.Sizes.{struct-size}
-use Rattle.wellformed.specs.Entry.{every, all, isFlag, isAliasFinal}
+use Rattle.wellformed.specs.Entry.{all, isFlag, isAliasFinal}
+use Rattle.words.specs.Columns.{every, word, kindOn, countOn, fieldTypesOn, flagsOn, nameOn, fieldNamesOn}
 use Rattle.wellformed.proofs.Bools.{and-left}
-use Rattle.call.specs.Handles.{word, kindOn, countOn}
-use Rattle.call.specs.Keep.{Adds}
+use Rattle.call.specs.Adds.{Adds}
 use Rattle.call.proofs.Sound.{adds-none}
 use Rattle.kept.proofs.Fits.{kind-is, StructParts, struct-fits}
 use Rattle.structs.specs.Remade.{fieldsWith, remake}
@@ -35,15 +35,9 @@ use Rattle.meaning.proofs.Seen.{viewOn, sized}
 use Rattle.meaning.proofs.Store.{Distinct, Typed, treeOn, typed, rowOf, row-in, row-at, row-kind, looks, handle-same, onward-adds, grown, row-kept, word-kept, every-kept, made-tree}
 use Rattle.meaning.proofs.Entries.{remade-view, struct-top-typed, tree-struct-top, struct-bot-typed, tree-struct-bot}
 
--- the shape of the struct at h, its field types, and the words 2 × alias + final
+-- the shape of the struct at h
 abbrev pub shapeOn : List ℕ → ℕ → Shape
-shapeOn u h = str (word u (h + 1)) (every 3 (countOn u h) (h + 2) u) (map half (every 3 (countOn u h) (h + 4) u))
-
-abbrev pub typesOn : List ℕ → ℕ → List ℕ
-typesOn u h = every 3 (countOn u h) (h + 3) u
-
-abbrev pub valuesOn : List ℕ → ℕ → List ℕ
-valuesOn u h = every 3 (countOn u h) (h + 4) u
+shapeOn u h = str (nameOn u h) (fieldNamesOn u h) (map half (flagsOn u h))
 
 -- $TOP, $BOT, or another
 abbrev pub isTop : List ℕ → ℕ → Bool
@@ -55,7 +49,7 @@ isBot u h = eqb (word u (h + 1)) 3 && eqb (countOn u h) 0
 abbrev pub seen : List ℕ → ℕ → View → View
 seen u h v = isTop u h ⇒ vhi stc ∣ isBot u h ⇒ vlo stc ∣ v
 
-pub struct-tree : {u : List ℕ} → Good u → {h : ℕ} → Typed u h → kindOn u h ≡ 8 → treeOn u h ≡ build (treeOn u) (seen u h (vnode (shapeOn u h) (flags (valuesOn u h)) (typesOn u h)))
+pub struct-tree : {u : List ℕ} → Good u → {h : ℕ} → Typed u h → kindOn u h ≡ 8 → treeOn u h ≡ build (treeOn u) (seen u h (vnode (shapeOn u h) (flags (flagsOn u h)) (fieldTypesOn u h)))
 struct-tree {u} g {h} p q =
     let x : h + 2 + 1 ≡ h + 3 = omega arith in
     let y : h + 2 + 2 ≡ h + 4 = omega arith in

@@ -9,8 +9,7 @@ use borrow.Author.Tests.{eqb-true, eqb-false, leb-true}
 use lib.Dec.{eqb}
 use lib.ListN.{length}
 use Rattle.words.specs.Made.{Grown, make}
-use Rattle.wellformed.specs.Entry.{every}
-use Rattle.call.specs.Handles.{word, kindOn, depthOn, countOn}
+use Rattle.words.specs.Columns.{every, word, kindOn, depthOn, countOn, fieldTypesOn, flagsOn}
 use Rattle.call.proofs.Sound.{adds-none}
 use Rattle.type_float.specs.Float.{isSizeWord}
 use Rattle.type_float.specs.Single.{isSingle}
@@ -24,12 +23,12 @@ use Rattle.parts.proofs.Good.{part-weak, part-adds, good-adds, make-answers}
 use Rattle.meet_fields.proofs.Finals.{every-length}
 use Rattle.meet.specs.Meet.{Many, tupleOf, pointerOf, memoryOf}
 use Rattle.meet.proofs.Nice.{narrow}
-use Rattle.walk_rules.specs.Tables.{endOf, structForm, tupleForm, formFor, intOf, floatOf, nilOf, finalOf, finalsOf, fieldsOf}
+use Rattle.walk_rules.specs.Tables.{endOf, structForm, tupleForm, formFor, intOf, floatOf, nilOf, finalOf, finalsOf, walkFields}
 use Rattle.walk_rules.specs.declared.Walk.{Walk}
 use Rattle.walk_rules.specs.declared.Walk.the-variants.{Dual, Glb, Lub}
 use Rattle.walk_rules.specs.declared.Form.{Form}
-use Rattle.walk_rules.proofs.Finals.{nil-flag, finals-length, finals-flags}
-use Rattle.walk.specs.Walked.{walkEach, elements, types, structOf, followForm, walkWithin}
+use Rattle.walk_fields.proofs.Finals.{nil-flag, finals-length, finals-flags}
+use Rattle.walk.specs.Walk.{walkEach, walkElements, walkFieldTypes, walkStructOf, followForm, walkWithin}
 use Rattle.walk.proofs.Nice.{turned-fits, walk-nice, each-nice, each-part}
 use Rattle.trees.proofs.Tree.{all as allTypes, ctl, f64, stc, _≼_, any, same, wide, Shape, con, tup, ptr, fre, mem, Ty, hi, lo, node, Tys, ε, _◂_, cls, _≤ᵇ_, off, _≤*_, stop, _⨟_, _⊑_, up, dn, io, nd, _⊑*_, end, _&_, ≤ᵇ-refl, ≤ᵇ-true, ⊑-refl}
 use Rattle.trees.proofs.Dual.{dual, dual*, nots}
@@ -39,7 +38,7 @@ use Rattle.meaning.proofs.Store.{Distinct, Typed, treeOn, typed, looks,
 use Rattle.meaning.proofs.Entries.{int-view, float-view, float-tree, tree-bot, tree-top, tree-ctrl, tree-xctrl, tree-struct-top, tree-struct-bot, tree-int-top, tree-int-bot, tree-float-top, tree-float-bot}
 use Rattle.meaning.proofs.Around.{tuple-tree, pointer-tree, memory-tree}
 use Rattle.meaning.proofs.Families.{each-kind}
-use Rattle.meaning.proofs.Structs.{shapeOn, typesOn, valuesOn, isTop, isBot, seen, struct-tree, struct-long, not-top, not-bot, remade-tree}
+use Rattle.meaning.proofs.Structs.{shapeOn, isTop, isBot, seen, struct-tree, struct-long, not-top, not-bot, remade-tree}
 
 -- ---- what each of the three is to give, of types, of lists of types, of flags
 
@@ -203,12 +202,12 @@ module _ (w : Walk) (n : ℕ) (ih : (u : List ℕ) (a : ℕ) → Distinct u → 
     parts-right : (s c q : ℕ) → All (Part u a D 1 11) (every s c q u) → Rel* w (row (treeOn u) (every s c q u)) (row (treeOn (walkEach (walkWithin w n) u (every s c q u) .words)) (walkEach (walkWithin w n) u (every s c q u) .handles))
     parts-right s c q t = each-right u (every s c q u) S (all-map (λ z x. part-weak n 33 (omega (arith, p .earlier)) (omega (arith, most)) x) (every s c q u) t)
 
-    tuples-right : kindOn u a ≡ 7 → Rel w (treeOn u a) (treeOn (tupleOf (elements (walkWithin w n) u a) .words) (tupleOf (elements (walkWithin w n) u a) .handle))
+    tuples-right : kindOn u a ≡ 7 → Rel w (treeOn u a) (treeOn (tupleOf (walkElements (walkWithin w n) u a) .words) (tupleOf (walkElements (walkWithin w n) u a) .handle))
     tuples-right k =
         let c = countOn u a in
         let t = of-tuple (G′ .sound) p k .types in
         let x = each-part (walkWithin w n) n (walk-nice w n) u a 1 c (a + 1) G′ (omega (arith, p .earlier)) t in
-        let m = elements (walkWithin w n) u a in
+        let m = walkElements (walkWithin w n) u a in
         let e = tuple-tree (grown S (x .adds)) D some most (m .handles) (x .parts) (omega (arith, few (G′ .sound) p, x .long)) in
         rw (looks G′ a 7 v k, e) (rel-node w tup [] [] _ _ (flip-none w) (parts-right 1 c (a + 1) t))
 
@@ -242,10 +241,10 @@ module _ (w : Walk) (n : ℕ) (ih : (u : List ℕ) (a : ℕ) → Distinct u → 
 
     module _ (k : kindOn u a ≡ 8) where
       abbrev m : Many
-      m = types (walkWithin w n) u a
+      m = walkFieldTypes (walkWithin w n) u a
 
-      fields-tree : let g = structOf w a m in treeOn (g .words) (g .handle) ≡ build (treeOn (m .words)) (seen u a (vnode (shapeOn u a) (flags (finalsOf w (valuesOn u a))) (m .handles)))
-      unfolding fieldsOf
+      fields-tree : let g = walkStructOf w a m in treeOn (g .words) (g .handle) ≡ build (treeOn (m .words)) (seen u a (vnode (shapeOn u a) (flags (finalsOf w (flagsOn u a))) (m .handles)))
+      unfolding walkFields
       fields-tree =
           let c = countOn u a in
           let t = of-struct (G′ .sound) p k .types in
@@ -253,33 +252,33 @@ module _ (w : Walk) (n : ℕ) (ih : (u : List ℕ) (a : ℕ) → Distinct u → 
           let hs = m .handles in
           let H = grown S (x .adds) .good in
           let l = x .long in
-          let e : every 3 (length hs) (a + 4) (m .words) ≡ valuesOn u a = rw l (every-kept G′ H (onward-adds (x .adds)) v 3 c 4 (a + 4) refl (omega (arith, struct-long S v k))) in
-          let fs = finalsOf w (valuesOn u a) in
-          let same : length hs ≡ length fs = l ∙ sym (finals-length w (valuesOn u a) ∙ every-length 3 c (a + 4) u) in
-          rw e (remade-tree S v k (m .words) (x .adds) hs fs D some most (x .parts) l same (finals-flags w (valuesOn u a)))
+          let e : every 3 (length hs) (a + 4) (m .words) ≡ flagsOn u a = rw l (every-kept G′ H (onward-adds (x .adds)) v 3 c 4 (a + 4) refl (omega (arith, struct-long S v k))) in
+          let fs = finalsOf w (flagsOn u a) in
+          let same : length hs ≡ length fs = l ∙ sym (finals-length w (flagsOn u a) ∙ every-length 3 c (a + 4) u) in
+          rw e (remade-tree S v k (m .words) (x .adds) hs fs D some most (x .parts) l same (finals-flags w (flagsOn u a)))
 
-      types-right : Rel* w (row (treeOn u) (typesOn u a)) (row (treeOn (m .words)) (m .handles))
+      types-right : Rel* w (row (treeOn u) (fieldTypesOn u a)) (row (treeOn (m .words)) (m .handles))
       types-right = parts-right 3 (countOn u a) (a + 3) (of-struct (G′ .sound) p k .types)
 
       -- a struct that is neither $TOP nor $BOT
-      named-right : isTop u a ≡ false → isBot u a ≡ false → let g = structOf w a m in Rel w (treeOn u a) (treeOn (g .words) (g .handle))
+      named-right : isTop u a ≡ false → isBot u a ≡ false → let g = walkStructOf w a m in Rel w (treeOn u a) (treeOn (g .words) (g .handle))
       named-right nt nb =
-          let la : treeOn u a ≡ node (shapeOn u a) (flags (valuesOn u a)) (row (treeOn u) (typesOn u a)) = struct-tree G′ v k ∙ rw (nt, nb) in
-          let e : treeOn (structOf w a m .words) (structOf w a m .handle) ≡ node (shapeOn u a) (flags (finalsOf w (valuesOn u a))) (row (treeOn (m .words)) (m .handles)) = fields-tree ∙ rw (nt, nb) in
-          rw (la, e) (rel-node w (shapeOn u a) (flags (valuesOn u a)) (flags (finalsOf w (valuesOn u a))) (row (treeOn u) (typesOn u a)) (row (treeOn (m .words)) (m .handles)) (finals-flip w (valuesOn u a)) types-right)
+          let la : treeOn u a ≡ node (shapeOn u a) (flags (flagsOn u a)) (row (treeOn u) (fieldTypesOn u a)) = struct-tree G′ v k ∙ rw (nt, nb) in
+          let e : treeOn (walkStructOf w a m .words) (walkStructOf w a m .handle) ≡ node (shapeOn u a) (flags (finalsOf w (flagsOn u a))) (row (treeOn (m .words)) (m .handles)) = fields-tree ∙ rw (nt, nb) in
+          rw (la, e) (rel-node w (shapeOn u a) (flags (flagsOn u a)) (flags (finalsOf w (flagsOn u a))) (row (treeOn u) (fieldTypesOn u a)) (row (treeOn (m .words)) (m .handles)) (finals-flip w (flagsOn u a)) types-right)
 
       -- glb and lub keep $TOP and $BOT, which have no fields
-      kept-right : ((t : Ty) → Rel w t t) → let g = structOf w a m in Rel w (treeOn u a) (treeOn (g .words) (g .handle))
+      kept-right : ((t : Ty) → Rel w t t) → let g = walkStructOf w a m in Rel w (treeOn u a) (treeOn (g .words) (g .handle))
       kept-right keep = go (isTop u a) refl (isBot u a) refl
         where
-          go : (s : Bool) → isTop u a ≡ s → (t : Bool) → isBot u a ≡ t → let g = structOf w a m in Rel w (treeOn u a) (treeOn (g .words) (g .handle))
+          go : (s : Bool) → isTop u a ≡ s → (t : Bool) → isBot u a ≡ t → let g = walkStructOf w a m in Rel w (treeOn u a) (treeOn (g .words) (g .handle))
           go true x t y =
               let la : treeOn u a ≡ hi stc = struct-tree G′ v k ∙ rw x in
-              let e : treeOn (structOf w a m .words) (structOf w a m .handle) ≡ hi stc = fields-tree ∙ rw x in
+              let e : treeOn (walkStructOf w a m .words) (walkStructOf w a m .handle) ≡ hi stc = fields-tree ∙ rw x in
               rw (la, e) (keep (hi stc))
           go false x true y =
               let la : treeOn u a ≡ lo stc = struct-tree G′ v k ∙ rw (x, y) in
-              let e : treeOn (structOf w a m .words) (structOf w a m .handle) ≡ lo stc = fields-tree ∙ rw (x, y) in
+              let e : treeOn (walkStructOf w a m .words) (walkStructOf w a m .handle) ≡ lo stc = fields-tree ∙ rw (x, y) in
               rw (la, e) (keep (lo stc))
           go false x false y = named-right x y
 

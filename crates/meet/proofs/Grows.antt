@@ -4,7 +4,7 @@ use Prim.Native.Nat.{ℕ, zero, suc, _+_}
 use Rattle.words.specs.Made.{Grown}
 use Rattle.words.proofs.Extend.{Extends, ext-same, ext-then}
 use Rattle.words.proofs.Placed.{make-extends}
-use Rattle.call.specs.Handles.{word}
+use Rattle.words.specs.Columns.{word}
 use Rattle.makers.specs.Entries.{tupleEntry, pointerEntry, memoryEntry}
 use Rattle.meet_rules.specs.Rules.{typeRule, structRule, sharedAlias}
 use Rattle.meet_rules.specs.declared.Rule.{Rule}
@@ -13,7 +13,7 @@ use Rattle.meet_rules.specs.declared.StructRule.{StructRule}
 use Rattle.meet_rules.specs.declared.StructRule.the-variants.{Former, Latter, Lowest, Fields}
 use Rattle.structs.specs.Remade.{remake}
 use Rattle.meet_fields.specs.Fields.{meetFields}
-use Rattle.meet.specs.Meet.{Op, Many, meetEach, elements, tupleOf, types, structOf, followStruct, meetStruct, eitherNil, pointerOf, memoryOf, follow, meet}
+use Rattle.meet.specs.Meet.{Op, Many, meetEach, meetElements, tupleOf, meetFieldTypes, meetStructOf, followStruct, meetStruct, eitherNil, pointerOf, memoryOf, follow, meetWithin}
 
 abbrev pub Grows : Op → Type 0
 Grows op = (u : List ℕ) (a b : ℕ) → Extends u (op u a b .words)
@@ -21,7 +21,7 @@ Grows op = (u : List ℕ) (a b : ℕ) → Extends u (op u a b .words)
 pub tuple-grows : (m : Many) → Extends (m .words) (tupleOf m .words)
 tuple-grows m = make-extends (m .words) (tupleEntry (m .handles) (m .words))
 
-pub struct-grows : (a b : ℕ) (m : Many) → Extends (m .words) (structOf a b m .words)
+pub struct-grows : (a b : ℕ) (m : Many) → Extends (m .words) (meetStructOf a b m .words)
 unfolding meetFields remake
 struct-grows a b m = make-extends (m .words) _
 
@@ -43,7 +43,7 @@ module _ (op : Op) (grows : Grows op) where
   struct-by u a b Former = ext-same u
   struct-by u a b Latter = ext-same u
   struct-by u a b Lowest = ext-same u
-  struct-by u a b Fields = ext-then u (types op u a b .words) _ (each-grows u _ _) (struct-grows a b (types op u a b))
+  struct-by u a b Fields = ext-then u (meetFieldTypes op u a b .words) _ (each-grows u _ _) (struct-grows a b (meetFieldTypes op u a b))
 
   pub structs-grow : Grows (meetStruct op)
   unfolding meetStruct
@@ -56,7 +56,7 @@ module _ (op : Op) (grows : Grows op) where
   follow-grows u a b Bottom = ext-same u
   follow-grows u a b Ints = make-extends u _
   follow-grows u a b Floats = ext-same u
-  follow-grows u a b Tuples = ext-then u (elements op u a b .words) _ (each-grows u _ _) (tuple-grows (elements op u a b))
+  follow-grows u a b Tuples = ext-then u (meetElements op u a b .words) _ (each-grows u _ _) (tuple-grows (meetElements op u a b))
   follow-grows u a b Structs = structs-grow u a b
   follow-grows u a b Pointers =
       let s = meetStruct op u (word u (a + 1)) (word u (b + 1)) in
@@ -65,7 +65,7 @@ module _ (op : Op) (grows : Grows op) where
       let t = op u (word u (a + 2)) (word u (b + 2)) in
       ext-then u (t .words) _ (grows u (word u (a + 2)) (word u (b + 2))) (memory-grows (sharedAlias (word u (a + 1)) (word u (b + 1))) t)
 
-pub meet-grows : (n : ℕ) → Grows (meet n)
-unfolding meet
+pub meet-grows : (n : ℕ) → Grows (meetWithin n)
+unfolding meetWithin
 meet-grows zero u a b = ext-same u
-meet-grows (suc n) u a b = follow-grows (meet n) (meet-grows n) u a b (typeRule u a b)
+meet-grows (suc n) u a b = follow-grows (meetWithin n) (meet-grows n) u a b (typeRule u a b)

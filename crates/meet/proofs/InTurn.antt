@@ -8,11 +8,12 @@ use native.Mathlib.Numerals.{add-one}
 use lib.ListN.{length, take, drop, set}
 use lib.Seq.{take-suc-set, append-snoc}
 use Rattle.words.specs.Words.{fills}
-use Rattle.words.specs.Made.{Grown, Segments, Ran}
+use Rattle.words.specs.Made.{Grown}
+use Rattle.words.specs.Ran.{Segments, Ran}
 use Rattle.words.specs.declared.Interned.{Interned}
 use Rattle.words.specs.declared.Interned.the-variants.{At, Full}
 use Rattle.words.proofs.Extend.{Extends, ext-then}
-use Rattle.call.specs.Keep.{Adds}
+use Rattle.call.specs.Adds.{Adds}
 use Rattle.parts.specs.Parts.{Good, Part, ReadyOne}
 use Rattle.parts.proofs.Good.{part-weak, good-adds, part-adds}
 use Rattle.parts.proofs.Grew.{Grew, grew-none, grew-long, grew-up, grew-high, grew-ran, grew-words, grew-more, grew-stop, grew-segments}

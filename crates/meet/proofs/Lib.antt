@@ -3,3 +3,4 @@ pub mod Examples
 pub mod Made
 pub mod Nice
 pub mod InTurn
+pub mod Any

@@ -11,12 +11,12 @@ use Rattle.words.specs.Kinds.{Tuple, Struct, MemPtr, Mem}
 use Rattle.words.specs.Words.{kindOf}
 use Rattle.words.specs.Table.{starts}
 use Rattle.words.specs.Made.{Grown, make}
-use Rattle.wellformed.specs.Entry.{mostOf, every, typesIn, isName, isFlag, isAlias, isAliasFinal, takes, kindIn, kindAt, all, deepest}
+use Rattle.wellformed.specs.Entry.{mostOf, typesIn, isName, isFlag, isAlias, isAliasFinal, takes, kindIn, kindAt, all, deepest}
+use Rattle.words.specs.Columns.{every, word, countOn}
 use Rattle.wellformed.proofs.Bools.{and-both}
-use Rattle.call.specs.Handles.{word, countOn}
-use Rattle.call.specs.Keep.{Adds}
+use Rattle.call.specs.Adds.{Adds}
 use Rattle.makers.specs.Entries.{tupleEntry, pointerEntry, memoryEntry, fieldCount, fieldNames, fieldTypes, fieldWords, structEntry}
-use Rattle.parts.specs.Parts.{Good, Part, Name, All}
+use Rattle.parts.specs.Parts.{Good, Part, NameAt, All}
 use Rattle.parts.proofs.Parts.{StructAt}
 use Rattle.parts.proofs.Good.{Late, Answers, make-answers}
 use Rattle.kept.proofs.Fits.{Right, right-none, Parts, kind-is, depth-is, StructParts, tuple-types, tuple-fits, pointer-types, pointer-fits, memory-types, memory-fits, struct-types, struct-fits}
@@ -48,19 +48,19 @@ module _ (u : List ℕ) (k d low high : ℕ) where
   deep-below (h ∷ hs) o a = omega (arith, a .0 .shallow, deep-below hs o (a .1))
 
 module _ (u : List ℕ) (k : ℕ) where
-  names-start : (hs : List ℕ) → All (Name u k) hs → all (starts u) hs ≡ true
+  names-start : (hs : List ℕ) → All (NameAt u k) hs → all (starts u) hs ≡ true
   unfolding all
   names-start [] a = refl
   names-start (h ∷ hs) a = and-both (starts u h) (all (starts u) hs) (a .0 .entry) (names-start hs (a .1))
 
-  names-kinds : (hs : List ℕ) → All (Name u k) hs → all (kindAt (word u) isName) hs ≡ true
+  names-kinds : (hs : List ℕ) → All (NameAt u k) hs → all (kindAt (word u) isName) hs ≡ true
   unfolding all
   names-kinds [] a = refl
   names-kinds (h ∷ hs) a =
       let p = kindAt (word u) isName in
       and-both (p h) (all p hs) (eq-eqb (kindOf (word u h)) 0 (a .0 .kind)) (names-kinds hs (a .1))
 
-  pub names-right : (hs : List ℕ) → All (Name u k) hs → Right u isName hs
+  pub names-right : (hs : List ℕ) → All (NameAt u k) hs → Right u isName hs
   names-right hs a = record { start = names-start hs a; kinds = names-kinds hs a }
 
 -- ---- entries, made once the used words u have grown to w

@@ -11,9 +11,10 @@ use lib.ListN.{length}
 use Rattle.words.specs.Made.{Grown, there}
 use Rattle.words.specs.Words.{kindOf, countOf}
 use Rattle.words.specs.Table.{entries}
-use Rattle.wellformed.specs.Entry.{every, isFlag, isAlias}
-use Rattle.call.specs.Handles.{word, kindOn, depthOn, countOn}
-use Rattle.call.specs.Keep.{Ends, Adds}
+use Rattle.wellformed.specs.Entry.{isFlag, isAlias}
+use Rattle.words.specs.Columns.{every, word, kindOn, depthOn, countOn, firstFlagsOn}
+use Rattle.call.specs.Keep.{Ends}
+use Rattle.call.specs.Adds.{Adds}
 use Rattle.call.proofs.Sound.{adds-none, adds-then}
 use Rattle.type_integer.specs.Signed.{less, smaller, larger}
 use Rattle.float_meet.specs.FloatRule.{floatRule}
@@ -30,9 +31,9 @@ use Rattle.meet_rules.specs.declared.Rule.the-variants.{First, Second, Bottom, 
 use Rattle.meet_rules.specs.declared.StructRule.{StructRule}
 use Rattle.meet_rules.specs.declared.StructRule.the-variants.{Former, Latter, Lowest, Fields}
 use Rattle.meet_rules.proofs.Sure.{chosen, sure-ints, sure-tuples, sure-structs, sure-pointers, sure-memories, sure-fields}
-use Rattle.meet_fields.specs.Fields.{eitherFinal, flagsOn, meetFields}
+use Rattle.meet_fields.specs.Fields.{eitherFinal, meetFields}
 use Rattle.meet_fields.proofs.Finals.{every-length, either-length, either-flags}
-use Rattle.meet.specs.Meet.{Op, Many, meetEach, elements, types, followStruct, meetStruct, eitherNil, follow, meet}
+use Rattle.meet.specs.Meet.{Op, Many, meetEach, meetElements, meetFieldTypes, followStruct, meetStruct, eitherNil, follow, meetWithin}
 use Rattle.meet.proofs.Made.{tuple-answers, struct-answers, pointer-answers, memory-answers, answer-late}
 
 -- an operation that gives good answers on handles below k
@@ -116,11 +117,11 @@ module _ (op : Op) (k : ℕ) (nice : Nice 1 11 k op) where
         new = late-on u w v (op u x y .handle) (meetEach op w xs ys .handles) (adds-long g (r .adds)) (r .new) (s .new);
       }
 
-  -- the parts of two entries, s words apart
-  pub pairs : (u : List ℕ) (a b s n p q : ℕ) → Good u → a ≤ k → b ≤ k → All (Part u a (depthOn u a) 1 11) (every s n p u) → All (Part u b (depthOn u b) 1 11) (every s n q u) → EachAnswers u (max (depthOn u a) (depthOn u b)) n (meetEach op u (every s n p u) (every s n q u))
-  pairs u a b s n p q g la lb pa pb =
+  -- the parts of two entries, s words apart, as many of the one as of the other
+  pub pairs : (u : List ℕ) (a b s n m p q : ℕ) → n ≡ m → Good u → a ≤ k → b ≤ k → All (Part u a (depthOn u a) 1 11) (every s n p u) → All (Part u b (depthOn u b) 1 11) (every s m q u) → EachAnswers u (max (depthOn u a) (depthOn u b)) n (meetEach op u (every s n p u) (every s m q u))
+  pairs u a b s n m p q same g la lb pa pb =
       let D = max (depthOn u a) (depthOn u b) in
-      let e = each-nice u D (every s n p u) (every s n q u) g (all-map (λ z x. part-weak k D la (omega arith) x) (every s n p u) pa) (all-map (λ z x. part-weak k D lb (omega arith) x) (every s n q u) pb) (every-length s n p u ∙ sym (every-length s n q u)) in
+      let e = each-nice u D (every s n p u) (every s m q u) g (all-map (λ z x. part-weak k D la (omega arith) x) (every s n p u) pa) (all-map (λ z x. part-weak k D lb (omega arith) x) (every s m q u) pb) (every-length s n p u ∙ same ∙ sym (every-length s m q u)) in
       record { adds = e .adds; parts = e .parts; long = e .long ∙ every-length s n p u; new = e .new }
 
   struct-by : (u : List ℕ) (a b d : ℕ) → Good u → Part u (suc k) d 8 9 a → Part u (suc k) d 8 9 b → (r : StructRule) → structRule u a b ≡ r → Answers u d 8 9 (followStruct op u a b r)
@@ -135,18 +136,18 @@ module _ (op : Op) (k : ℕ) (nice : Nice 1 11 k op) where
       let sa = of-struct (g .sound) pa ka in
       let sb = of-struct (g .sound) pb kb in
       let D = max (depthOn u a) (depthOn u b) in
-      let e = pairs u a b 3 (countOn u a) (a + 3) (b + 3) g (omega (arith, pa .earlier)) (omega (arith, pb .earlier)) (sa .types) (rw (f .2) (sb .types)) in
-      let m = types op u a b in
+      let e = pairs u a b 3 (countOn u a) (countOn u b) (a + 3) (b + 3) (f .2) g (omega (arith, pa .earlier)) (omega (arith, pb .earlier)) (sa .types) (sb .types) in
+      let m = meetFieldTypes op u a b in
       let w = m .words in
       let hs = m .handles in
       let g₁ = good-adds g (e .adds) in
       let head : word w a ≡ word u a = adds-word g (e .adds) a (part-used g pa) in
       let s₁ = of-struct (g₁ .sound) (part-adds g (e .adds) pa) (ap kindOf head ∙ ka) in
       let n : countOn w a ≡ length hs = ap countOf head ∙ sym (e .long) in
-      let same : length hs ≡ length (eitherFinal (flagsOn w (length hs) a) (flagsOn w (length hs) b)) =
-      sym (either-length (flagsOn w (length hs) a) (flagsOn w (length hs) b) (every-length 3 (length hs) (a + 4) w ∙ sym (every-length 3 (length hs) (b + 4) w)) ∙ every-length 3 (length hs) (a + 4) w) in
+      let same : length hs ≡ length (eitherFinal (firstFlagsOn w (length hs) a) (firstFlagsOn w (length hs) b)) =
+      sym (either-length (firstFlagsOn w (length hs) a) (firstFlagsOn w (length hs) b) (every-length 3 (length hs) (a + 4) w ∙ sym (every-length 3 (length hs) (b + 4) w)) ∙ every-length 3 (length hs) (a + 4) w) in
       struct-answers (e .adds) g₁ (length w) D (omega (arith, deep (g .sound) pa (omega arith))) (omega (arith, flat (g .sound) pa, flat (g .sound) pb)) d (omega (arith, pa .shallow, pb .shallow))
-      hs (e .parts) (e .new) (omega (arith, few (g .sound) pa, e .long)) (eitherFinal (flagsOn w (length hs) a) (flagsOn w (length hs) b)) same (either-flags (flagsOn w (length hs) a) (flagsOn w (length hs) b)) a s₁ n
+      hs (e .parts) (e .new) (omega (arith, few (g .sound) pa, e .long)) (eitherFinal (firstFlagsOn w (length hs) a) (firstFlagsOn w (length hs) b)) same (either-flags (firstFlagsOn w (length hs) a) (firstFlagsOn w (length hs) b)) a s₁ n
 
   pub structs-nice : Nice 8 9 (suc k) (meetStruct op)
   unfolding meetStruct
@@ -167,8 +168,8 @@ module _ (op : Op) (k : ℕ) (nice : Nice 1 11 k op) where
       let ta = of-tuple (g .sound) pa (s .0) in
       let tb = of-tuple (g .sound) pb (s .1) in
       let D = max (depthOn u a) (depthOn u b) in
-      let e = pairs u a b 1 (countOn u a) (a + 1) (b + 1) g (omega (arith, pa .earlier)) (omega (arith, pb .earlier)) (ta .types) (rw (s .2) (tb .types)) in
-      let m = elements op u a b in
+      let e = pairs u a b 1 (countOn u a) (countOn u b) (a + 1) (b + 1) (s .2) g (omega (arith, pa .earlier)) (omega (arith, pb .earlier)) (ta .types) (tb .types) in
+      let m = meetElements op u a b in
       tuple-answers (e .adds) (good-adds g (e .adds)) (length (m .words)) D (omega (arith, deep (g .sound) pa (omega arith))) (omega (arith, flat (g .sound) pa, flat (g .sound) pb)) d (omega (arith, pa .shallow, pb .shallow))
       (m .handles) (e .parts) (e .new) (omega (arith, few (g .sound) pa, e .long))
   follow-nice u a b d g pa pb Structs q =
@@ -198,7 +199,7 @@ module _ (op : Op) (k : ℕ) (nice : Nice 1 11 k op) where
       memory-answers (r .adds) (good-adds g (r .adds)) (length (w .words)) D (omega (arith, deep (g .sound) pa (omega arith))) (omega (arith, flat (g .sound) pa, flat (g .sound) pb)) d (omega (arith, pa .shallow, pb .shallow))
       alias (w .handle) (r .part) (answer-late r) (shared-fits (word u (a + 1)) (word u (b + 1)) (ta .alias))
 
-pub meet-nice : (n : ℕ) → Nice 1 11 n (meet n)
-unfolding meet
+pub meet-nice : (n : ℕ) → Nice 1 11 n (meetWithin n)
+unfolding meetWithin
 meet-nice zero u a b d g pa pb = absurd (omega (arith, pa .earlier))
-meet-nice (suc n) u a b d g pa pb = follow-nice (meet n) n (meet-nice n) u a b d g pa pb (typeRule u a b) refl
+meet-nice (suc n) u a b d g pa pb = follow-nice (meetWithin n) n (meet-nice n) u a b d g pa pb (typeRule u a b) refl

@@ -2,16 +2,14 @@
 -- meet_rules/specs/Rules.antt; here is what each rule answers. "Parts are made first, left to right."
 use mathlib.Core.Bool.{Bool}
 use mathlib.Core.List.{List, [], _∷_}
-use Prim.Native.Nat.{ℕ, zero, suc, _+_, _<_, _≤_, max}
+use Prim.Native.Nat.{ℕ, zero, suc, max}
 use lib.Dec.{eqb}
-use Rattle.words.specs.Made.{Grown, there, make, Runs}
-use Rattle.words.specs.declared.Interned.{Interned}
-use Rattle.wellformed.specs.Entry.{every}
-use Rattle.call.specs.Handles.{word, countOn}
+use Rattle.words.specs.Made.{Grown, there, make}
+use Rattle.words.specs.Columns.{minOn, maxOn, elementsOn, fieldTypesOn, targetOn, nilOn, aliasOn, innerOn}
 use Rattle.type_integer.specs.Signed.{smaller, larger}
 use Rattle.float_meet.specs.FloatRule.{floatRule}
 use Rattle.makers.specs.Entries.{intEntry, tupleEntry, pointerEntry, memoryEntry}
-use Rattle.meet_rules.specs.FreshHandles.{bot, structBot}
+use Rattle.wellformed.specs.FreshHandles.{bot, structBot}
 use Rattle.meet_rules.specs.Rules.{typeRule, structRule, readingOn, floatHandle, sharedAlias}
 use Rattle.meet_rules.specs.declared.Rule.{Rule}
 use Rattle.meet_rules.specs.declared.Rule.the-variants.{First, Second, Bottom, Ints, Floats, Tuples, Structs, Pointers, Memories}
@@ -32,37 +30,39 @@ pub record Many : Type 0 where
 abbrev pub led : ℕ → Many → Many
 led h m = record { words = m .words; handles = h ∷ m .handles }
 
+-- the meets of two lists of handles, which have one length where a rule comes here
 unfoldable pub meetEach : Op → List ℕ → List ℕ → List ℕ → Many
 meetEach meet u [] ys = record { words = u; handles = [] }
+-- not come to
 meetEach meet u (x ∷ xs) [] = record { words = u; handles = [] }
 meetEach meet u (x ∷ xs) (y ∷ ys) = led (meet u x y .handle) (meetEach meet (meet u x y .words) xs ys)
 
 -- ---- Ints: "smaller min, larger max"
 
 abbrev pub meetInt : Op
-meetInt u a b = make u (intEntry (smaller (word u (a + 1)) (word u (b + 1))) (larger (word u (a + 2)) (word u (b + 2))))
+meetInt u a b = make u (intEntry (smaller (minOn u a) (minOn u b)) (larger (maxOn u a) (maxOn u b)))
 
 -- ---- Tuples: "by element"
 
-abbrev pub elements : Op → List ℕ → ℕ → ℕ → Many
-elements meet u a b = meetEach meet u (every 1 (countOn u a) (a + 1) u) (every 1 (countOn u a) (b + 1) u)
+abbrev pub meetElements : Op → List ℕ → ℕ → ℕ → Many
+meetElements meet u a b = meetEach meet u (elementsOn u a) (elementsOn u b)
 
 abbrev pub tupleOf : Many → Grown
 tupleOf m = make (m .words) (tupleEntry (m .handles) (m .words))
 
 -- ---- Structs: "types meet, finals are or-ed"
 
-abbrev pub types : Op → List ℕ → ℕ → ℕ → Many
-types meet u a b = meetEach meet u (every 3 (countOn u a) (a + 3) u) (every 3 (countOn u a) (b + 3) u)
+abbrev pub meetFieldTypes : Op → List ℕ → ℕ → ℕ → Many
+meetFieldTypes meet u a b = meetEach meet u (fieldTypesOn u a) (fieldTypesOn u b)
 
-abbrev pub structOf : ℕ → ℕ → Many → Grown
-structOf a b m = meetFields a b (m .handles) (m .words)
+abbrev pub meetStructOf : ℕ → ℕ → Many → Grown
+meetStructOf a b m = meetFields a b (m .handles) (m .words)
 
 unfoldable pub followStruct : Op → List ℕ → ℕ → ℕ → StructRule → Grown
 followStruct meet u a b Former = there u a
 followStruct meet u a b Latter = there u b
 followStruct meet u a b Lowest = there u structBot
-followStruct meet u a b Fields = structOf a b (types meet u a b)
+followStruct meet u a b Fields = meetStructOf a b (meetFieldTypes meet u a b)
 
 unfoldable pub meetStruct : Op → Op
 meetStruct meet u a b = followStruct meet u a b (structRule u a b)
@@ -70,7 +70,7 @@ meetStruct meet u a b = followStruct meet u a b (structRule u a b)
 -- ---- Pointers: "structs meet, nils or-ed"
 
 abbrev pub eitherNil : List ℕ → ℕ → ℕ → ℕ
-eitherNil u a b = max (word u (a + 2)) (word u (b + 2))
+eitherNil u a b = max (nilOn u a) (nilOn u b)
 
 abbrev pub pointerOf : ℕ → Grown → Grown
 pointerOf nil s = make (s .words) (pointerEntry (s .handle) nil (s .words))
@@ -88,28 +88,20 @@ follow meet u a b Second = there u b
 follow meet u a b Bottom = there u bot
 follow meet u a b Ints = meetInt u a b
 follow meet u a b Floats = there u (floatHandle a b (floatRule (readingOn u a) (readingOn u b)))
-follow meet u a b Tuples = tupleOf (elements meet u a b)
+follow meet u a b Tuples = tupleOf (meetElements meet u a b)
 follow meet u a b Structs = meetStruct meet u a b
-follow meet u a b Pointers = pointerOf (eitherNil u a b) (meetStruct meet u (word u (a + 1)) (word u (b + 1)))
-follow meet u a b Memories = memoryOf (sharedAlias (word u (a + 1)) (word u (b + 1))) (meet u (word u (a + 2)) (word u (b + 2)))
+follow meet u a b Pointers = pointerOf (eitherNil u a b) (meetStruct meet u (targetOn u a) (targetOn u b))
+follow meet u a b Memories = memoryOf (sharedAlias (aliasOn u a) (aliasOn u b)) (meet u (innerOn u a) (innerOn u b))
 
--- the parts of an entry stand before it: n is above both handles, and falls
-unfoldable pub meet : ℕ → Op
-meet zero u a b = there u bot
-meet (suc n) u a b = follow (meet n) u a b (typeRule u a b)
+-- The parts of an entry stand before it: n is above both handles, and falls with them; 0 is not come to. Every n above both gives the same (`meet-any`, proofs/Any.antt).
+unfoldable pub meetWithin : ℕ → Op
+meetWithin zero u a b = there u bot
+meetWithin (suc n) u a b = follow (meetWithin n) u a b (typeRule u a b)
 
--- the meet of two types
+-- the meet of two types: at the least n above both
 abbrev pub meetOf : Op
-meetOf u a b = meet (suc (max a b)) u a b
+meetOf u a b = meetWithin (suc (max a b)) u a b
 
 -- "isa is yes if meet would hand back the second handle"
 abbrev pub isaOf : List ℕ → ℕ → ℕ → Bool
 isaOf u a b = eqb (meetOf u a b .handle) b
-
--- ---- what the two functions of the cycle leave: at every n above both handles, what meet gives, where it fits
-
-pub record Met (old new : List ℕ) (used a b : ℕ) (new′ : List ℕ) (r : Interned) : Type 0 where
-  pub is : (n : ℕ) → a < n → b < n → Runs (λ u. meet n u a b) old new used new′ r
-
-pub record MetStruct (old new : List ℕ) (used a b : ℕ) (new′ : List ℕ) (r : Interned) : Type 0 where
-  pub is : (n : ℕ) → a ≤ n → b ≤ n → Runs (λ u. meetStruct (meet n) u a b) old new used new′ r

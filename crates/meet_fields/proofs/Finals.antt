@@ -9,11 +9,11 @@ use native.Mathlib.Numerals.{add-one}
 use borrow.Author.Tests.{le-leb}
 use lib.ListN.{length, take, drop, set}
 use lib.Seq.{set-split, drop-drop}
-use Rattle.words.specs.Made.{Ran}
+use Rattle.words.specs.Ran.{Ran}
 use Rattle.words.specs.declared.Interned.{Interned}
-use Rattle.wellformed.specs.Entry.{every, all, isFlag}
+use Rattle.wellformed.specs.Entry.{all, isFlag}
+use Rattle.words.specs.Columns.{every, word}
 use Rattle.wellformed.proofs.Bools.{and-both}
-use Rattle.call.specs.Handles.{word}
 use Rattle.makers.proofs.Built.{front-of}
 use Rattle.makers.proofs.Fields.{every-first}
 use Rattle.structs.specs.Remade.{remake}

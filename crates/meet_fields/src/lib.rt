@@ -1,14 +1,21 @@
 // The struct that two structs meet in, made of the types that their fields met in, on a store that row 1 has passed.
 use words::Interned;
+use words::columns;
+use words::limits;
 ghost use mathlib.Core.Path.{_≡_};
 ghost use mathlib.Core.Bool.{true};
 ghost use mathlib.Core.List.{_++_};
 ghost use Prim.Native.Nat.{_+_, _*_, _≤_, _<_};
 ghost use lib.ListN.{length, take, drop};
 ghost use Rattle.index.specs.Covers.{Covers};
-ghost use Rattle.words.specs.Made.{Segments, Runs};
-ghost use Rattle.wellformed.specs.Entry.{every, all, isAliasFinal};
-ghost use Rattle.meet_fields.specs.Fields.{eitherFinal, flagsOn, meetFields};
+ghost use Rattle.words.specs.Ran.{Segments, Runs};
+ghost use Rattle.wellformed.specs.Entry.{all, isAliasFinal, mostCounted};
+ghost use Rattle.words.specs.Columns.{every, firstFlagsOn};
+ghost use Rattle.meet_fields.specs.Fields.{eitherFinal, meetFields};
+ghost use Rattle.wellformed.specs.Form.{longestAllowed};
+
+// Few fields are given few words, since all of them are cleared at each call.
+const FEW_FIELDS: usize = 8;
 
 // Fills the first words of `dst` with n finals, or-ed: the words 2 × alias + final stand from p and from q on, 3 apart.
 fn either_final(
@@ -21,13 +28,13 @@ fn either_final(
     q: usize,
 )
     requires { ⌜ (length (now old) ≤ used) × (used ≤ length (now old) + length (now new)) ⌝ }
-    requires { ⌜ (n ≤ length (now dst)) × (n ≤ 255) × (p ≤ 1048580) × (q ≤ 1048580) ⌝ }
+    requires { ⌜ (n ≤ length (now dst)) × (n ≤ mostCounted) × (p ≤ longestAllowed + 4) × (q ≤ longestAllowed + 4) ⌝ }
     ensures { λ _. ⌜ now (dst .exit) ≡ eitherFinal (every 3 n p (take used (now (old .entry) ++ now (new .entry)))) (every 3 n q (take used (now (old .entry) ++ now (new .entry)))) ++ drop n (now (dst .entry)) ⌝ }
 {
     let mut i = 0;
     while i < n {
-        let f = words::word(&*old, &*new, used, p + 3 * i) % 2;
-        let g = words::word(&*old, &*new, used, q + 3 * i) % 2;
+        let f = words::word(&*old, &*new, used, p + columns::FIELD * i) % 2;
+        let g = words::word(&*old, &*new, used, q + columns::FIELD * i) % 2;
         dst[i] = wellformed::larger(f, g);
         i += 1;
     }
@@ -45,13 +52,21 @@ fn meet_fields_in(
     index: &[u64],
 ) -> Interned
     requires { ⌜ Segments (now old) (now new) used ⌝ }
-    requires { ⌜ (length (now types) ≤ 255) × (length (now types) ≤ length (now finals)) × (a < 1048576) × (b < 1048576) ⌝ }
-    requires { ⌜ all isAliasFinal (flagsOn (take used (now old ++ now new)) (length (now types)) a) ≡ true ⌝ }
+    requires { ⌜ (length (now types) ≤ mostCounted) × (length (now types) ≤ length (now finals)) × (a < longestAllowed) × (b < longestAllowed) ⌝ }
+    requires { ⌜ all isAliasFinal (firstFlagsOn (take used (now old ++ now new)) (length (now types)) a) ≡ true ⌝ }
     requires { ⌜ Covers (take used (now old ++ now new)) (now index) ⌝ }
     ensures { λ r. ⌜ Runs (meetFields a b (now (types .entry))) (now (old .entry)) (now (new .entry)) used (now (new .exit)) r ⌝ }
 {
     let n = types.len();
-    either_final(finals, &*old, new, used, n, a + 4, b + 4);
+    either_final(
+        finals,
+        &*old,
+        new,
+        used,
+        n,
+        a + columns::FIELD_FLAGS,
+        b + columns::FIELD_FLAGS,
+    );
     structs::made_again(&*old, new, used, a, &*types, &finals[..n], &*index)
 }
 
@@ -66,14 +81,14 @@ pub fn meet_fields(
     index: &[u64],
 ) -> Interned
     requires { ⌜ Segments (now old) (now new) used ⌝ }
-    requires { ⌜ (length (now types) ≤ 255) × (a < 1048576) × (b < 1048576) × (all isAliasFinal (flagsOn (take used (now old ++ now new)) (length (now types)) a) ≡ true) ⌝ }
+    requires { ⌜ (length (now types) ≤ mostCounted) × (a < longestAllowed) × (b < longestAllowed) × (all isAliasFinal (firstFlagsOn (take used (now old ++ now new)) (length (now types)) a) ≡ true) ⌝ }
     requires { ⌜ Covers (take used (now old ++ now new)) (now index) ⌝ }
     ensures { λ r. ⌜ Runs (meetFields a b (now (types .entry))) (now (old .entry)) (now (new .entry)) used (now (new .exit)) r ⌝ }
 {
-    if types.len() <= 8 {
-        let mut few = [0u64; 8];
+    if types.len() <= FEW_FIELDS {
+        let mut few = [0u64; FEW_FIELDS];
         return meet_fields_in(&*old, new, used, a, b, &*types, &mut few, &*index);
     }
-    let mut many = [0u64; 255];
+    let mut many = [0u64; limits::MOST_COUNTED];
     meet_fields_in(&*old, new, used, a, b, &*types, &mut many, &*index)
 }

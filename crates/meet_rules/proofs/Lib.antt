@@ -1,5 +1,3 @@
 pub mod Chosen
-pub mod Alike
-pub mod Answers
-pub mod FloatsRead
+pub mod Heads
 pub mod Sure

@@ -7,7 +7,7 @@ use borrow.Author.Tests.{eqb-true, eqb-false, leb-true, not-false}
 use lib.Dec.{eqb, leb}
 use Rattle.wellformed.specs.Entry.{isStruct}
 use Rattle.wellformed.proofs.Bools.{and-left, and-right}
-use Rattle.call.specs.Handles.{word, kindOn, countOn}
+use Rattle.words.specs.Columns.{word, kindOn, countOn}
 use Rattle.rules.proofs.Column.{rule}
 use Rattle.meet_rules.specs.Names.{sameName, sameFields}
 use Rattle.meet_rules.specs.Rules.{memRule, pairRule, ruleFor, typeRule, namedRule, structRule}

@@ -1,3 +1,2 @@
-pub mod FreshHandles
 pub mod Names
 pub mod Rules

@@ -1,25 +1,25 @@
 -- Document 01, "meet, isa": which rule decides. The rules stand in the document's order. `u` is the used words, a and b are the operands.
 use mathlib.Core.Bool.{not, cond, _&&_}
 use mathlib.Core.List.{List}
-use Prim.Native.Nat.{ℕ, _+_}
+use Prim.Native.Nat.{ℕ}
 use lib.Dec.{eqb}
 use lib.Ieee.{binary64, ofBits}
 use Rattle.words.specs.Kinds.{Bot, Top, Ctrl, XCtrl, Int, Float, Tuple, Fref, MemPtr, Mem}
-use Rattle.wellformed.specs.Entry.{isStruct}
-use Rattle.call.specs.Handles.{word, kindOn, countOn}
+use Rattle.wellformed.specs.Entry.{isStruct, largestAlias}
+use Rattle.words.specs.Columns.{kindOn, countOn, sizeOn, bitsOn, nameOn, firstField}
 use Rattle.type_float.specs.Float.{sizeFrom, readingOf}
 use Rattle.type_float.specs.declared.Reading.{Reading}
 use Rattle.rules.specs.Column.{_⇒_∣_}
 use Rattle.float_meet.specs.declared.FloatMeet.{FloatMeet}
 use Rattle.float_meet.specs.declared.FloatMeet.the-variants as FloatMeet-variants
-use Rattle.meet_rules.specs.FreshHandles.{structTop, structBot, floatB32, floatBot, memTop, memBot}
+use Rattle.wellformed.specs.FreshHandles.{structTop, structBot, floatB32, floatBot, memTop, memBot}
 use Rattle.meet_rules.specs.Names.{sameName, sameFields}
 use Rattle.meet_rules.specs.declared.Rule.{Rule}
 use Rattle.meet_rules.specs.declared.Rule.the-variants.{First, Second, Bottom, Ints, Floats, Tuples, Structs, Pointers, Memories}
 use Rattle.meet_rules.specs.declared.StructRule.{StructRule}
 use Rattle.meet_rules.specs.declared.StructRule.the-variants.{Former, Latter, Lowest, Fields}
 
--- ---- two types, of the kinds j and k, with n of m and n
+-- ---- two types, whose heads have the kinds j and k and the counts m and n
 
 -- "Mem: 79 wins, 76 yields; else .. types meet"
 abbrev pub memRule : ℕ → ℕ → Rule
@@ -66,13 +66,13 @@ typeRule u a b = ruleFor a b (kindOn u a) (kindOn u b) (countOn u a) (countOn u 
 unfoldable pub namedRule : List ℕ → ℕ → ℕ → StructRule
 namedRule u a b =
     -- "other name, $BOT"
-    not (sameName u (word u (a + 1)) (word u (b + 1))) ⇒ Lowest ∣
+    not (sameName u (nameOn u a) (nameOn u b)) ⇒ Lowest ∣
     -- "a forward reference yields to its namesake"; "two forward references the second"
     eqb (kindOn u a) Fref ⇒ Latter ∣
     eqb (kindOn u b) Fref ⇒ Former ∣
     -- "field count, names and aliases must match .., else $BOT"
     not (eqb (countOn u a) (countOn u b)) ⇒ Lowest ∣
-    not (sameFields u (countOn u a) (a + 2) (b + 2)) ⇒ Lowest ∣
+    not (sameFields u (countOn u a) (firstField a) (firstField b)) ⇒ Lowest ∣
     -- "types meet"
     Fields
 
@@ -91,7 +91,7 @@ structRule u a b =
 
 -- the reading of the float at h: its size, and its constant's bits
 abbrev pub readingOn : List ℕ → ℕ → Reading
-readingOn u h = readingOf (record { sz = sizeFrom (word u (h + 1)); con = ofBits binary64 (word u (h + 2)) })
+readingOn u h = readingOf (record { sz = sizeFrom (sizeOn u h); con = ofBits binary64 (bitsOn u h) })
 
 -- "answers 64 and 32 are handles 61 and 58"
 abbrev pub floatHandle : ℕ → ℕ → FloatMeet → ℕ
@@ -104,4 +104,4 @@ floatHandle a b FloatMeet-variants.Double = floatBot
 
 -- "the shared alias or 4,294,967,295"
 abbrev pub sharedAlias : ℕ → ℕ → ℕ
-sharedAlias x y = cond (eqb x y) x 4294967295
+sharedAlias x y = cond (eqb x y) x largestAlias

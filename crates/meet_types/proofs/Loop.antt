@@ -4,17 +4,18 @@ use mathlib.Core.List.{List, _++_}
 use Prim.Native.Nat.{ℕ, _+_, _-_, _*_, _≤_, _<_, max}
 use native.Mathlib.Omega.{arith}
 use lib.ListN.{length, take, getD, set}
-use Rattle.words.specs.Made.{Grown, Segments, Ran}
+use Rattle.words.specs.Made.{Grown}
+use Rattle.words.specs.Ran.{Segments, Ran}
 use Rattle.words.specs.declared.Interned.{Interned}
 use Rattle.words.specs.declared.Interned.the-variants.{At, Full}
 use Rattle.words.proofs.Extend.{Extends}
-use Rattle.wellformed.specs.Entry.{every}
-use Rattle.call.specs.Handles.{word}
+use Rattle.words.specs.Columns.{every, word}
 use Rattle.parts.specs.Parts.{Part, All, Ready}
 use Rattle.parts.proofs.Good.{good-adds}
 use Rattle.parts.proofs.Left.{every-zero, every-next, every-at}
 use Rattle.parts.proofs.Grew.{grew-kept}
-use Rattle.meet.specs.Meet.{Many, meetEach, meet, Met}
+use Rattle.meet.specs.Meet.{Many, meetEach, meetWithin}
+use Rattle.meet.specs.Met.{Met}
 use Rattle.meet.proofs.Grows.{meet-grows, each-grows}
 use Rattle.meet.proofs.Nice.{meet-nice}
 use Rattle.meet.proofs.InTurn.{Sequence, InTurn, turn-begin, turn-part, turn-ready, turn-stop, turn-on, turn-end, turn-segments}
@@ -23,12 +24,12 @@ use Rattle.meet.proofs.InTurn.{Sequence, InTurn, turn-begin, turn-part, turn-re
 pub pairs : (s n p q : ℕ) (u : List ℕ) → Sequence n
 unfolding meetEach every
 pairs s n p q u = record {
-  step = λ k i w. meet k w (word u (p + s * i)) (word u (q + s * i));
-  rest = λ k i w. meetEach (meet k) w (every s (n - i) (p + s * i) u) (every s (n - i) (q + s * i) u);
+  step = λ k i w. meetWithin k w (word u (p + s * i)) (word u (q + s * i));
+  rest = λ k i w. meetEach (meetWithin k) w (every s (n - i) (p + s * i) u) (every s (n - i) (q + s * i) u);
   next = λ k i w more. rw (every-next s n p i u more, every-next s n q i u more);
   last = λ k w. let z : n - n ≡ 0 = omega arith in rw z;
   step-grows = λ k i w. meet-grows k w (word u (p + s * i)) (word u (q + s * i));
-  rest-grows = λ k i w. each-grows (meet k) (meet-grows k) w (every s (n - i) (p + s * i) u) (every s (n - i) (q + s * i) u);
+  rest-grows = λ k i w. each-grows (meetWithin k) (meet-grows k) w (every s (n - i) (p + s * i) u) (every s (n - i) (q + s * i) u);
 }
 
 -- after i of n parts
@@ -55,7 +56,7 @@ module _ {s : ℕ} {old new : List ℕ} {used a b n p₀ q₀ : ℕ} {now parts 
   w = take v (old ++ now)
 
   abbrev every-part : (k : ℕ) → Many
-  every-part k = meetEach (meet k) w₀ (every s n p₀ w₀) (every s n q₀ w₀)
+  every-part k = meetEach (meetWithin k) w₀ (every s n p₀ w₀) (every s n q₀ w₀)
 
   whole : (k : ℕ) → pairs s n p₀ q₀ w₀ .rest k 0 w₀ ≡ every-part k
   unfolding pairs

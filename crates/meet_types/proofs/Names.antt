@@ -11,9 +11,8 @@ use lib.ListN.{length}
 use Rattle.words.specs.Words.{sizeOf}
 use Rattle.words.proofs.Walk.{size-pos}
 use Rattle.words.proofs.Sizes.{struct-size, fref-size}
-use Rattle.wellformed.specs.Entry.{every}
-use Rattle.call.specs.Handles.{word, kindOn, countOn}
-use Rattle.parts.specs.Parts.{Good, Part, Name, All}
+use Rattle.words.specs.Columns.{every, word, kindOn, countOn}
+use Rattle.parts.specs.Parts.{Good, Part, NameAt, All}
 use Rattle.parts.proofs.Parts.{no-fields, of-struct, of-fref}
 use Rattle.later.specs.Later.{Later}
 use Rattle.later.proofs.Later.{part-inside}
@@ -24,12 +23,12 @@ use Rattle.meet_rules.specs.Rules.{namedRule, structRule}
 abbrev pub Whole : List ℕ → ℕ → Type 0
 Whole u h = (1 ≤ h) × (h + sizeOf (word u h) ≤ length u)
 
-name-whole : {u : List ℕ} → Good u → {k h : ℕ} → Name u k h → Whole u h
+name-whole : {u : List ℕ} → Good u → {k h : ℕ} → NameAt u k h → Whole u h
 name-whole {u} g {k} {h} n =
     let p : Part u k 256 0 0 h = record { entry = n .entry; earlier = n .earlier; least = omega arith; most = omega (arith, n .kind); shallow = omega arith } in
     part-inside g p
 
-names-whole : {u : List ℕ} → Good u → (k : ℕ) (hs : List ℕ) → All (Name u k) hs → All (Whole u) hs
+names-whole : {u : List ℕ} → Good u → (k : ℕ) (hs : List ℕ) → All (NameAt u k) hs → All (Whole u) hs
 names-whole g k [] a = tt
 names-whole g k (h ∷ hs) a = (name-whole g (a .0), names-whole g k hs (a .1))
 

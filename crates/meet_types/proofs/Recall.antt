@@ -8,13 +8,14 @@ use native.Mathlib.Omega.{arith}
 use lib.Dec.{eqb}
 use lib.ListN.{length, take}
 use lib.Seq.{take-all}
-use Rattle.words.specs.Made.{Grown, there, make, Segments, Ran, Runs}
+use Rattle.words.specs.Made.{Grown, there, make}
+use Rattle.words.specs.Ran.{Segments, Ran, Runs}
 use Rattle.words.specs.declared.Interned.{Interned}
 use Rattle.words.specs.declared.Interned.the-variants.{At, Full}
 use Rattle.words.proofs.Extend.{Extends}
 use Rattle.words.proofs.Placed.{make-extends}
 use Rattle.words.proofs.Room.{fitted, fit-front, overflowed}
-use Rattle.call.specs.Handles.{kindOn, countOn}
+use Rattle.words.specs.Columns.{kindOn, countOn}
 use Rattle.parts.specs.Parts.{Part, Ready}
 use Rattle.parts.proofs.Good.{part-below}
 use Rattle.parts.proofs.Grew.{grew-none, grew-there}
@@ -30,7 +31,8 @@ use Rattle.memo.proofs.Lines.{recalled}
 use Rattle.meet_rules.specs.Rules.{typeRule, pairRule, ruleFor, structRule}
 use Rattle.meet_rules.specs.declared.Rule.the-variants.{Structs}
 use Rattle.meet_fields.specs.Fields.{meetFields}
-use Rattle.meet.specs.Meet.{Many, structOf, followStruct, meetStruct, follow, meet, Met, MetStruct}
+use Rattle.meet.specs.Meet.{Many, meetStructOf, followStruct, meetStruct, follow, meetWithin}
+use Rattle.meet.specs.Met.{Met, MetStruct}
 use Rattle.meet_types.specs.Remembered.{pairKey, Settled, Remembers, Remembered}
 use Rattle.meet.proofs.Grows.{struct-grows}
 use Rattle.meet_types.proofs.Names.{either}
@@ -74,7 +76,7 @@ remembered-memory {old} {now} {v = v} s m alias h ran = remembered-entry s m (me
 
 -- a struct was made
 pub remembered-fields : {old now memo : List ℕ} {v : ℕ} → Segments old now v → Remembers (take v (old ++ now)) memo → (a b : ℕ) (hs : List ℕ) {now₂ : List ℕ} {o : Interned} → Ran v (meetFields a b hs (take v (old ++ now))) (old ++ now) (old ++ now₂) o → Remembered old now₂ o memo
-remembered-fields {old} {now} {v = v} s m a b hs ran = let p : Many = record { words = take v (old ++ now); handles = hs } in remembered-made s m (structOf a b p) (struct-grows a b p) ran
+remembered-fields {old} {now} {v = v} s m a b hs ran = let p : Many = record { words = take v (old ++ now); handles = hs } in remembered-made s m (meetStructOf a b p) (struct-grows a b p) ran
 
 -- ---- the meet of two structs or forward references is that of two types
 
@@ -86,11 +88,11 @@ both-structs a b j k m n e pj pk =
     (λ (x : j ≡ 9). ⊎-elim (λ (y : k ≡ 8). rw (e, x, y)) (λ (y : k ≡ 9). rw (e, x, y)) (either k (pk .0) (pk .1)))
     (either j (pj .0) (pj .1))
 
-pub struct-type : (n : ℕ) (u : List ℕ) (a b : ℕ) → (8 ≤ kindOn u a) × (kindOn u a ≤ 9) → (8 ≤ kindOn u b) × (kindOn u b ≤ 9) → meet (suc n) u a b ≡ meetStruct (meet n) u a b
-unfolding meet follow meetStruct followStruct ruleFor structRule
+pub struct-type : (n : ℕ) (u : List ℕ) (a b : ℕ) → (8 ≤ kindOn u a) × (kindOn u a ≤ 9) → (8 ≤ kindOn u b) × (kindOn u b ≤ 9) → meetWithin (suc n) u a b ≡ meetStruct (meetWithin n) u a b
+unfolding meetWithin follow meetStruct followStruct ruleFor structRule
 struct-type n u a b pa pb = go (eqb a b) refl
   where
-    go : (t : Bool) → eqb a b ≡ t → follow (meet n) u a b (typeRule u a b) ≡ followStruct (meet n) u a b (structRule u a b)
+    go : (t : Bool) → eqb a b ≡ t → follow (meetWithin n) u a b (typeRule u a b) ≡ followStruct (meetWithin n) u a b (structRule u a b)
     go true e = rw e
     go false e = rw (both-structs a b (kindOn u a) (kindOn u b) (countOn u a) (countOn u b) e pa pb)
 
@@ -120,11 +122,11 @@ module _ {old new : List ℕ} {used a b : ℕ} (rd : Ready old new used 1 11 a b
         let qb : b ≡ d = omega (arith, small-b, k, ec) in
         let la : a < n = omega arith in
         let lb : b < n = omega arith in
-        let g = meet n u a b in
+        let g = meetWithin n u a b in
         let f = fitted used g (old ++ new) (old ++ new′) r (t .is n la lb) h v e in
         let q = fit-front g (old ++ new) (old ++ new′) h v f in
         let y : Later (g .words) w = rw q at x in
-        let s : meet n w a b ≡ there w h = meet-settled n u a b 33 (rd .good) (part-below n la (rd .first)) (part-below n lb (rd .second)) w y ∙ ap (there w) (sym (f .handle)) in
+        let s : meetWithin n w a b ≡ there w h = meet-settled n u a b 33 (rd .good) (part-below n la (rd .first)) (part-below n lb (rd .second)) w y ∙ ap (there w) (sym (f .handle)) in
         rw (← qa, ← qb) s;
   }
 
@@ -140,13 +142,13 @@ module _ {old new : List ℕ} {used a b : ℕ} (rd : Ready old new used 8 9 a b)
   abbrev w : List ℕ
   w = take used (old ++ new)
 
-  same : (n : ℕ) → meet (suc n) w a b ≡ meetStruct (meet n) w a b
+  same : (n : ℕ) → meetWithin (suc n) w a b ≡ meetStruct (meetWithin n) w a b
   same n = struct-type n w a b (rd .first .least, rd .first .most) (rd .second .least, rd .second .most)
 
   as-type : {new′ : List ℕ} {r : Interned} → MetStruct old new used a b new′ r → Met old new used a b new′ r
   as-type {new′} {r} t = record { is = go }
     where
-      go : (n : ℕ) → a < n → b < n → Ran used (meet n (take used (old ++ new)) a b) (old ++ new) (old ++ new′) r
+      go : (n : ℕ) → a < n → b < n → Ran used (meetWithin n (take used (old ++ new)) a b) (old ++ new) (old ++ new′) r
       go zero h l = absurd (omega arith)
       go (suc n) h l = rw (same n) (t .is n (omega arith) (omega arith))
 

@@ -9,8 +9,7 @@ use Rattle.words.specs.Words.{wordsAfter}
 use Rattle.words.specs.Made.{there}
 use Rattle.words.proofs.Walk.{size-pos}
 use Rattle.words.proofs.Sizes.{tuple-size, struct-size}
-use Rattle.wellformed.specs.Entry.{every}
-use Rattle.call.specs.Handles.{word, kindOn, depthOn, countOn}
+use Rattle.words.specs.Columns.{every, word, kindOn, depthOn, countOn, firstFlagsOn}
 use Rattle.type_integer.specs.Signed.{smaller, larger}
 use Rattle.makers.specs.Entries.{intEntry}
 use Rattle.parts.specs.Parts.{Good, Part, All}
@@ -24,9 +23,9 @@ use Rattle.meet_rules.specs.declared.Rule.the-variants.{First, Second, Bottom, 
 use Rattle.meet_rules.specs.declared.StructRule.{StructRule}
 use Rattle.meet_rules.specs.declared.StructRule.the-variants.{Former, Latter, Lowest, Fields}
 use Rattle.meet_rules.proofs.Sure.{sure-ints, sure-floats, sure-tuples, sure-structs, sure-pointers, sure-memories, sure-fields}
-use Rattle.meet_fields.specs.Fields.{eitherFinal, flagsOn, meetFields}
+use Rattle.meet_fields.specs.Fields.{eitherFinal, meetFields}
 use Rattle.meet_fields.proofs.Finals.{every-length, either-length}
-use Rattle.meet.specs.Meet.{Op, meetEach, elements, types, followStruct, meetStruct, eitherNil, follow, meet}
+use Rattle.meet.specs.Meet.{Op, meetEach, meetElements, meetFieldTypes, followStruct, meetStruct, eitherNil, follow, meetWithin}
 use Rattle.meet.proofs.Nice.{Nice, eight, each-nice, pairs, narrow, structs-nice, meet-nice}
 use Rattle.meet_types.proofs.Names.{named-at, struct-rule-same}
 
@@ -51,11 +50,11 @@ module _ (op : Op) (k : ℕ) (nice : Nice 1 11 k op) (settles : Settles 1 11 k o
       rw (e, f)
 
   -- the parts of two entries, s words apart
-  pairs-settled : (u : List ℕ) (a b s n p q : ℕ) → Good u → a ≤ k → b ≤ k → All (Part u a (depthOn u a) 1 11) (every s n p u) → All (Part u b (depthOn u b) 1 11) (every s n q u) → (v : List ℕ) → Later (meetEach op u (every s n p u) (every s n q u) .words) v
-      → meetEach op v (every s n p u) (every s n q u) ≡ record { words = v; handles = meetEach op u (every s n p u) (every s n q u) .handles }
-  pairs-settled u a b s n p q g la lb pa pb v x =
+  pairs-settled : (u : List ℕ) (a b s n m p q : ℕ) → n ≡ m → Good u → a ≤ k → b ≤ k → All (Part u a (depthOn u a) 1 11) (every s n p u) → All (Part u b (depthOn u b) 1 11) (every s m q u) → (v : List ℕ) → Later (meetEach op u (every s n p u) (every s m q u) .words) v
+      → meetEach op v (every s n p u) (every s m q u) ≡ record { words = v; handles = meetEach op u (every s n p u) (every s m q u) .handles }
+  pairs-settled u a b s n m p q same g la lb pa pb v x =
       let D = max (depthOn u a) (depthOn u b) in
-      each-settled u D (every s n p u) (every s n q u) g (all-map (λ z y. part-weak k D la (omega arith) y) (every s n p u) pa) (all-map (λ z y. part-weak k D lb (omega arith) y) (every s n q u) pb) (every-length s n p u ∙ sym (every-length s n q u)) v x
+      each-settled u D (every s n p u) (every s m q u) g (all-map (λ z y. part-weak k D la (omega arith) y) (every s n p u) pa) (all-map (λ z y. part-weak k D lb (omega arith) y) (every s m q u) pb) (every-length s n p u ∙ same ∙ sym (every-length s m q u)) v x
 
   struct-by : (u : List ℕ) (a b d : ℕ) → Good u → Part u (suc k) d 8 9 a → Part u (suc k) d 8 9 b → (r : StructRule) → structRule u a b ≡ r → (v : List ℕ) → Later u v → Later (followStruct op u a b r .words) v → followStruct op v a b r ≡ there v (followStruct op u a b r .handle)
   unfolding followStruct meetFields
@@ -72,9 +71,8 @@ module _ (op : Op) (k : ℕ) (nice : Nice 1 11 k op) (settles : Settles 1 11 k o
       let D = max (depthOn u a) (depthOn u b) in
       let la : a ≤ k = omega (arith, pa .earlier) in
       let lb : b ≤ k = omega (arith, pb .earlier) in
-      let tb : All (Part u b (depthOn u b) 1 11) (every 3 n (b + 3) u) = rw (f .2) (sb .types) in
-      let e = pairs op k nice u a b 3 n (a + 3) (b + 3) g la lb (sa .types) tb in
-      let m = types op u a b in
+      let e = pairs op k nice u a b 3 n (countOn u b) (a + 3) (b + 3) (f .2) g la lb (sa .types) (sb .types) in
+      let m = meetFieldTypes op u a b in
       let w = m .words in
       let hs = m .handles in
       let g₁ = good-adds g (e .adds) in
@@ -85,18 +83,19 @@ module _ (op : Op) (k : ℕ) (nice : Nice 1 11 k op) (settles : Settles 1 11 k o
       let ib = part-inside g pb in
       let in-a : a + (2 + 3 * n) ≤ length u = omega (arith, ia .1, struct-size (word u a) ka) in
       let in-b : b + (2 + 3 * n) ≤ length u = omega (arith, ib .1, struct-size (word u b) kb, f .2) in
-      let xs = flagsOn w (length hs) a in
-      let ys = flagsOn w (length hs) b in
+      let xs = firstFlagsOn w (length hs) a in
+      let ys = firstFlagsOn w (length hs) b in
       let same : length hs ≡ length (eitherFinal xs ys) = sym (either-length xs ys (every-length 3 (length hs) (a + 4) w ∙ sym (every-length 3 (length hs) (b + 4) w)) ∙ every-length 3 (length hs) (a + 4) w) in
       let room : a + 2 + 3 * length hs ≤ length w = omega (arith, e .long, up .long) in
       let room-b : b + 2 + 3 * length hs ≤ length w = omega (arith, e .long, up .long) in
       let y : Later w v = later-then (remake-later g₁ (length w) D 1 11 o fl a hs (eitherFinal xs ys) same (e .parts) (ia .0) room) x in
       let c : word v a ≡ word u a = z .words a (ia .0) (omega arith) in
       let ax : every 3 n (a + 3) v ≡ every 3 n (a + 3) u = later-every z 3 n (a + 3) (omega arith) (omega arith) in
-      let bx : every 3 n (b + 3) v ≡ every 3 n (b + 3) u = later-every z 3 n (b + 3) (omega arith) (omega arith) in
-      let ts : types op v a b ≡ record { words = v; handles = hs } = rw (c, ax, bx) (pairs-settled u a b 3 n (a + 3) (b + 3) g la lb (sa .types) tb v y) in
-      let fa : flagsOn v (length hs) a ≡ xs = later-every y 3 (length hs) (a + 4) (omega arith) (omega (arith, room)) in
-      let fb : flagsOn v (length hs) b ≡ ys = later-every y 3 (length hs) (b + 4) (omega arith) (omega (arith, room-b)) in
+      let c₁ : word v b ≡ word u b = z .words b (ib .0) (omega arith) in
+      let bx : every 3 (countOn u b) (b + 3) v ≡ every 3 (countOn u b) (b + 3) u = later-every z 3 (countOn u b) (b + 3) (omega arith) (omega (arith, f .2)) in
+      let ts : meetFieldTypes op v a b ≡ record { words = v; handles = hs } = rw (c, c₁, ax, bx) (pairs-settled u a b 3 n (countOn u b) (a + 3) (b + 3) (f .2) g la lb (sa .types) (sb .types) v y) in
+      let fa : firstFlagsOn v (length hs) a ≡ xs = later-every y 3 (length hs) (a + 4) (omega arith) (omega (arith, room)) in
+      let fb : firstFlagsOn v (length hs) b ≡ ys = later-every y 3 (length hs) (b + 4) (omega arith) (omega (arith, room-b)) in
       rw (ts, fa, fb) (remake-again g₁ (length w) D 1 11 o fl a hs (eitherFinal xs ys) same (e .parts) (ia .0) room v x)
 
   structs-settled : Settles 8 9 (suc k) (meetStruct op)
@@ -134,9 +133,8 @@ module _ (op : Op) (k : ℕ) (nice : Nice 1 11 k op) (settles : Settles 1 11 k o
       let in-a : a + (1 + n) ≤ length u = omega (arith, ia .1, tuple-size (word u a) (s .0)) in
       let in-b : b + (1 + n) ≤ length u = omega (arith, ib .1, tuple-size (word u b) (s .1), s .2) in
       let D = max (depthOn u a) (depthOn u b) in
-      let bt : All (Part u b (depthOn u b) 1 11) (every 1 n (b + 1) u) = rw (s .2) (tb .types) in
-      let m = elements op u a b in
-      let e = pairs op k nice u a b 1 n (a + 1) (b + 1) g la lb (ta .types) bt in
+      let m = meetElements op u a b in
+      let e = pairs op k nice u a b 1 n (countOn u b) (a + 1) (b + 1) (s .2) g la lb (ta .types) (tb .types) in
       let g₁ = good-adds g (e .adds) in
       let o : 1 ≤ D = omega (arith, deep (g .sound) pa (omega arith)) in
       let fl : D ≤ 32 = omega (arith, flat (g .sound) pa, flat (g .sound) pb) in
@@ -144,8 +142,9 @@ module _ (op : Op) (k : ℕ) (nice : Nice 1 11 k op) (settles : Settles 1 11 k o
       let y : Later (m .words) v = later-then (around-later g₁ (length (m .words)) D 1 11 o fl Tuple (length hs) hs hs (e .parts) (omega arith) refl) x in
       let c : word v a ≡ word u a = z .words a (ia .0) (omega arith) in
       let xs : every 1 n (a + 1) v ≡ every 1 n (a + 1) u = later-every z 1 n (a + 1) (omega arith) (omega arith) in
-      let ys : every 1 n (b + 1) v ≡ every 1 n (b + 1) u = later-every z 1 n (b + 1) (omega arith) (omega arith) in
-      let ts : elements op v a b ≡ record { words = v; handles = hs } = rw (c, xs, ys) (pairs-settled u a b 1 n (a + 1) (b + 1) g la lb (ta .types) bt v y) in
+      let c₁ : word v b ≡ word u b = z .words b (ib .0) (omega arith) in
+      let ys : every 1 (countOn u b) (b + 1) v ≡ every 1 (countOn u b) (b + 1) u = later-every z 1 (countOn u b) (b + 1) (omega arith) (omega (arith, s .2)) in
+      let ts : meetElements op v a b ≡ record { words = v; handles = hs } = rw (c, c₁, xs, ys) (pairs-settled u a b 1 n (countOn u b) (a + 1) (b + 1) (s .2) g la lb (ta .types) (tb .types) v y) in
       rw ts (around-again g₁ (length (m .words)) D 1 11 o fl Tuple (length hs) hs hs (e .parts) (omega arith) refl v x)
   follow-settled u a b d g pa pb Structs q v z x =
       let s = sure-structs u a b q in
@@ -188,8 +187,8 @@ module _ (op : Op) (k : ℕ) (nice : Nice 1 11 k op) (settles : Settles 1 11 k o
       rw (wa .0, wb .0, wa .1, wb .1, e) (around-again g₁ (length (t .words)) D 1 11 o fl Mem 0 (t .handle ∷ []) (alias ∷ t .handle ∷ []) (r .part, tt) (omega arith) refl v x)
 
 -- at every n above both handles
-pub meet-settled : (n : ℕ) → Settles 1 11 n (meet n)
-unfolding meet
+pub meet-settled : (n : ℕ) → Settles 1 11 n (meetWithin n)
+unfolding meetWithin
 meet-settled zero u a b d g pa pb v x = absurd (omega (arith, pa .earlier))
 meet-settled (suc n) u a b d g pa pb v x =
     let z : Later u v = later-then (later-adds g (meet-nice (suc n) u a b d g pa pb .adds)) x in
@@ -197,4 +196,4 @@ meet-settled (suc n) u a b d g pa pb v x =
     let ib = part-inside g pb in
     let ca : word v a ≡ word u a = z .words a (ia .0) (omega (arith, ia .1, size-pos (word u a))) in
     let cb : word v b ≡ word u b = z .words b (ib .0) (omega (arith, ib .1, size-pos (word u b))) in
-    rw (ca, cb) (follow-settled (meet n) n (meet-nice n) (meet-settled n) u a b d g pa pb (typeRule u a b) refl v z x)
+    rw (ca, cb) (follow-settled (meetWithin n) n (meet-nice n) (meet-settled n) u a b d g pa pb (typeRule u a b) refl v z x)

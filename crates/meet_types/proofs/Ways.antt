@@ -7,31 +7,33 @@ use native.Mathlib.Omega.{arith}
 use borrow.Author.Tests.{lt-ltb, eqb-true, eqb-false}
 use lib.Dec.{eqb, ltb}
 use lib.ListN.{length, take, getD, set}
-use Rattle.words.specs.Made.{Grown, there, make, Segments, Ran, Runs}
+use Rattle.words.specs.Made.{Grown, there, make}
+use Rattle.words.specs.Ran.{Segments, Ran, Runs}
 use Rattle.words.specs.declared.Interned.{Interned}
 use Rattle.words.specs.declared.Interned.the-variants.{At, Full}
 use Rattle.words.proofs.Extend.{Extends}
-use Rattle.wellformed.specs.Entry.{every, all, isAliasFinal}
+use Rattle.wellformed.specs.Entry.{all, isAliasFinal}
+use Rattle.words.specs.Columns.{every, word, kindOn, depthOn, countOn, firstFlagsOn}
 use Rattle.wellformed.proofs.Bools.{and-both}
-use Rattle.call.specs.Keep.{Adds}
-use Rattle.call.specs.Handles.{word, kindOn, depthOn, countOn}
+use Rattle.call.specs.Adds.{Adds}
 use Rattle.makers.specs.Entries.{tupleEntry, pointerEntry, memoryEntry}
 use Rattle.type_float.specs.Float.{isSizeWord}
 use Rattle.makers.proofs.FloatSize.{size-word}
 use Rattle.float_meet.specs.FloatRule.{floatRule}
 use Rattle.index.specs.Covers.{Covers}
-use Rattle.parts.specs.Parts.{Good, Part, Name, All, Ready}
+use Rattle.parts.specs.Parts.{Good, Part, NameAt, All, Ready}
 use Rattle.parts.proofs.Parts.{few, flat, no-fields, of-tuple, of-struct, of-fref, of-pointer, of-memory, of-float, all-map}
 use Rattle.parts.proofs.Good.{part-weak}
-use Rattle.meet_rules.specs.Names.{NamesBelow}
+use Rattle.struct_rules.specs.Below.{NamesBelow}
 use Rattle.meet_rules.specs.Rules.{typeRule, structRule, readingOn, floatHandle, sharedAlias}
 use Rattle.meet_rules.specs.declared.Rule.{Rule}
 use Rattle.meet_rules.specs.declared.Rule.the-variants.{First, Second, Bottom, Ints, Floats, Tuples, Structs, Pointers, Memories}
 use Rattle.meet_rules.specs.declared.StructRule.{StructRule}
 use Rattle.meet_rules.specs.declared.StructRule.the-variants.{Former, Latter, Lowest, Fields}
 use Rattle.meet_rules.proofs.Sure.{sure-tuples, sure-structs, sure-pointers, sure-memories, sure-floats, sure-fields}
-use Rattle.meet_fields.specs.Fields.{flagsOn, meetFields}
-use Rattle.meet.specs.Meet.{tupleOf, types, structOf, followStruct, meetStruct, eitherNil, pointerOf, memoryOf, meetInt, follow, meet, Met, MetStruct}
+use Rattle.meet_fields.specs.Fields.{meetFields}
+use Rattle.meet.specs.Meet.{tupleOf, meetFieldTypes, meetStructOf, followStruct, meetStruct, eitherNil, pointerOf, memoryOf, meetInt, follow, meetWithin}
+use Rattle.meet.specs.Met.{Met, MetStruct}
 use Rattle.meet.proofs.Grows.{meet-grows, tuple-grows, struct-grows, pointer-grows, memory-grows, structs-grow}
 use Rattle.meet.proofs.Nice.{eight, meet-nice, structs-nice, narrow}
 use Rattle.parts.proofs.Grew.{Grew, grew-none, grew-there, grew-more, grew-stop, grew-segments, grew-values, then-made, grew-covers}
@@ -51,11 +53,11 @@ module _ (old new : List ℕ) (used a b : ℕ) (rd : Ready old new used 1 11 a b
   abbrev u : List ℕ
   u = take used (old ++ new)
 
-  by-rule : (X : Rule) → r ≡ X → (new′ : List ℕ) (m : Interned) → ((k : ℕ) → a ≤ k → b ≤ k → Ran used (follow (meet k) u a b X) (old ++ new) (old ++ new′) m) → Met old new used a b new′ m
-  unfolding meet
+  by-rule : (X : Rule) → r ≡ X → (new′ : List ℕ) (m : Interned) → ((k : ℕ) → a ≤ k → b ≤ k → Ran used (follow (meetWithin k) u a b X) (old ++ new) (old ++ new′) m) → Met old new used a b new′ m
+  unfolding meetWithin
   by-rule X e new′ m f = record { is = go }
     where
-      go : (n : ℕ) → a < n → b < n → Ran used (meet n (take used (old ++ new)) a b) (old ++ new) (old ++ new′) m
+      go : (n : ℕ) → a < n → b < n → Ran used (meetWithin n (take used (old ++ new)) a b) (old ++ new) (old ++ new′) m
       go zero h l = absurd (omega arith)
       go (suc n) h l = rw (sym er ∙ e) (f n (omega arith) (omega arith))
 
@@ -114,7 +116,7 @@ module _ (old new : List ℕ) (used a b : ℕ) (rd : Ready old new used 1 11 a b
     }
 
   -- an entry around one part: `part` is what the part's meet gives, and F makes the entry of it
-  module _ (X : Rule) (e : r ≡ X) (part : ℕ → Grown) (F : Grown → Grown) (is : (k : ℕ) → follow (meet k) u a b X ≡ F (part k)) (F-grows : (g : Grown) → Extends (g .words) (F g .words))
+  module _ (X : Rule) (e : r ≡ X) (part : ℕ → Grown) (F : Grown → Grown) (is : (k : ℕ) → follow (meetWithin k) u a b X ≡ F (part k)) (F-grows : (g : Grown) → Extends (g .words) (F g .words))
       (grows : (k : ℕ) → Extends u (part k .words)) (adds : Adds u (part (max a b))) (now : List ℕ) (m : Interned) (told : (k : ℕ) → a ≤ k → b ≤ k → Ran used (part k) (old ++ new) (old ++ now) m) where
     around-full : m ≡ Full → Met old new used a b now Full
     around-full f = by-rule X e now Full (λ k ka kb. rw (is k) (grew-stop grew (part k) now m (grows k) (told k ka kb) f (F (part k)) (F-grows (part k))))
@@ -146,19 +148,19 @@ module _ (old new : List ℕ) (used a b : ℕ) (rd : Ready old new used 1 11 a b
 
     module _ (now : List ℕ) (m : Interned) (t : MetStruct old new used x y now m) where
       abbrev struct : ℕ → Grown
-      struct k = meetStruct (meet k) u x y
+      struct k = meetStruct (meetWithin k) u x y
 
-      is-pointer : (k : ℕ) → follow (meet k) u a b Pointers ≡ pointerOf (eitherNil u a b) (struct k)
+      is-pointer : (k : ℕ) → follow (meetWithin k) u a b Pointers ≡ pointerOf (eitherNil u a b) (struct k)
       unfolding follow
       is-pointer k = rw (ex, ey)
 
       struct-grown : (k : ℕ) → Extends u (struct k .words)
-      struct-grown k = structs-grow (meet k) (meet-grows k) u x y
+      struct-grown k = structs-grow (meetWithin k) (meet-grows k) u x y
 
       struct-adds : Adds u (struct (max a b))
       struct-adds =
           let k = max a b in
-          structs-nice (meet k) k (meet-nice k) u x y 33 (rd .good) (part-weak (suc k) 33 (omega arith) (omega arith) to-a) (part-weak (suc k) 33 (omega arith) (omega arith) to-b) .adds
+          structs-nice (meetWithin k) k (meet-nice k) u x y 33 (rd .good) (part-weak (suc k) 33 (omega arith) (omega arith) to-a) (part-weak (suc k) 33 (omega arith) (omega arith) to-b) .adds
 
       struct-told : (k : ℕ) → a ≤ k → b ≤ k → Ran used (struct k) (old ++ new) (old ++ now) m
       struct-told k ka kb = t .is k (omega (arith, to-a .earlier)) (omega (arith, to-b .earlier))
@@ -191,12 +193,12 @@ module _ (old new : List ℕ) (used a b : ℕ) (rd : Ready old new used 1 11 a b
 
     module _ (now : List ℕ) (m : Interned) (t : Met old new used x y now m) where
       abbrev type : ℕ → Grown
-      type k = meet k u x y
+      type k = meetWithin k u x y
 
       abbrev alias : ℕ
       alias = sharedAlias (word u (a + 1)) (word u (b + 1))
 
-      is-memory : (k : ℕ) → follow (meet k) u a b Memories ≡ memoryOf alias (type k)
+      is-memory : (k : ℕ) → follow (meetWithin k) u a b Memories ≡ memoryOf alias (type k)
       unfolding follow
       is-memory k = rw (ex, ey)
 
@@ -241,11 +243,11 @@ module _ (old new : List ℕ) (used a b : ℕ) (rd : Ready old new used 1 11 a b
       module _ (now parts : List ℕ) (v i : ℕ) (J : Going 1 old new used a b (x / 65536) (a + 1) (b + 1) now parts v i) where
         pub tuple-stop : (more : i < x / 65536) (p q : ℕ) → p ≡ getD (take used (old ++ now)) (a + 1 + i) 0 → q ≡ getD (take used (old ++ now)) (b + 1 + i) 0 → (now₂ : List ℕ) (m : Interned) → Met old now v p q now₂ m → m ≡ Full → Met old new used a b now₂ Full
         unfolding follow
-        tuple-stop more p q ep eq now₂ m t f = by-rule Tuples e now₂ Full (λ k ka kb. rw (← ex) (going-stop J more (a + 1 + i) (b + 1 + i) p q (omega arith) (omega arith) ep eq t f tupleOf tuple-grows k ka kb))
+        tuple-stop more p q ep eq now₂ m t f = by-rule Tuples e now₂ Full (λ k ka kb. rw (← sure .2, ← ex) (going-stop J more (a + 1 + i) (b + 1 + i) p q (omega arith) (omega arith) ep eq t f tupleOf tuple-grows k ka kb))
 
         pub tuple-end : x / 65536 ≤ i → i ≤ x / 65536 → (now₂ : List ℕ) (m : Interned) → Runs (λ w. make w (tupleEntry (take (x / 65536) parts) w)) old now v now₂ m → Met old new used a b now₂ m
         unfolding follow
-        tuple-end lo hi now₂ m t = by-rule Tuples e now₂ m (λ k ka kb. rw (← ex) (going-end J lo hi tupleOf tuple-grows now₂ m t k ka kb))
+        tuple-end lo hi now₂ m t = by-rule Tuples e now₂ m (λ k ka kb. rw (← sure .2, ← ex) (going-end J lo hi tupleOf tuple-grows now₂ m t k ka kb))
 
 -- the next part of a tuple
 module _ (old new : List ℕ) (used a b n : ℕ) (now parts : List ℕ) (v i : ℕ) (J : Going 1 old new used a b n (a + 1) (b + 1) now parts v i) (more : i < n) (p q : ℕ) (ep : p ≡ getD (take used (old ++ now)) (a + 1 + i) 0) (eq : q ≡ getD (take used (old ++ now)) (b + 1 + i) 0) where
@@ -262,7 +264,7 @@ module _ (old new : List ℕ) (used a b n : ℕ) (now parts : List ℕ) (v i : �
 -- ---- a struct's meet
 
 -- names that stand before h
-names-fit : (u : List ℕ) (h : ℕ) → h < 1048576 → (hs : List ℕ) → All (Name u h) hs → all (λ x. ltb x 1048576) hs ≡ true
+names-fit : (u : List ℕ) (h : ℕ) → h < 1048576 → (hs : List ℕ) → All (NameAt u h) hs → all (λ x. ltb x 1048576) hs ≡ true
 unfolding all
 names-fit u h l [] a = refl
 names-fit u h l (x ∷ hs) a = and-both (ltb x 1048576) (all (λ y. ltb y 1048576) hs) (lt-ltb x 1048576 (omega (arith, a .0 .earlier))) (names-fit u h l hs (a .1))
@@ -293,7 +295,7 @@ module _ (old new : List ℕ) (used a b : ℕ) (rd : Ready old new used 8 9 a b)
     abbrev w : List ℕ
     w = take used (old ++ new)
 
-    by-struct : (X : StructRule) → r ≡ X → (new′ : List ℕ) (m : Interned) → ((k : ℕ) → a ≤ k → b ≤ k → Ran used (followStruct (meet k) w a b X) (old ++ new) (old ++ new′) m) → MetStruct old new used a b new′ m
+    by-struct : (X : StructRule) → r ≡ X → (new′ : List ℕ) (m : Interned) → ((k : ℕ) → a ≤ k → b ≤ k → Ran used (followStruct (meetWithin k) w a b X) (old ++ new) (old ++ new′) m) → MetStruct old new used a b new′ m
     unfolding meetStruct
     by-struct X e new′ m f = record { is = λ k ka kb. rw (sym er ∙ e) (f k ka kb) }
 
@@ -330,14 +332,14 @@ module _ (old new : List ℕ) (used a b : ℕ) (rd : Ready old new used 8 9 a b)
         module _ (now parts : List ℕ) (v i : ℕ) (J : Going 3 old new used a b (x / 65536) (a + 3) (b + 3) now parts v i) where
           pub struct-stop : (more : i < x / 65536) (p q : ℕ) → p ≡ getD (take used (old ++ now)) (a + 3 + 3 * i) 0 → q ≡ getD (take used (old ++ now)) (b + 3 + 3 * i) 0 → (now₂ : List ℕ) (m : Interned) → Met old now v p q now₂ m → m ≡ Full → MetStruct old new used a b now₂ Full
           unfolding followStruct
-          struct-stop more p q ep eq now₂ m t f = by-struct Fields e now₂ Full (λ k ka kb. rw (← ex) (going-stop J more (a + 3 + 3 * i) (b + 3 + 3 * i) p q refl refl ep eq t f (structOf a b) (struct-grows a b) k ka kb))
+          struct-stop more p q ep eq now₂ m t f = by-struct Fields e now₂ Full (λ k ka kb. rw (← sure-structures .2, ← ex) (going-stop J more (a + 3 + 3 * i) (b + 3 + 3 * i) p q refl refl ep eq t f (meetStructOf a b) (struct-grows a b) k ka kb))
 
           pub struct-end : x / 65536 ≤ i → i ≤ x / 65536 → (now₂ : List ℕ) (m : Interned) → Runs (meetFields a b (take (x / 65536) parts)) old now v now₂ m → MetStruct old new used a b now₂ m
           unfolding followStruct
-          struct-end lo hi now₂ m t = by-struct Fields e now₂ m (λ k ka kb. rw (← ex) (going-end J lo hi (structOf a b) (struct-grows a b) now₂ m t k ka kb))
+          struct-end lo hi now₂ m t = by-struct Fields e now₂ m (λ k ka kb. rw (← sure-structures .2, ← ex) (going-end J lo hi (meetStructOf a b) (struct-grows a b) now₂ m t k ka kb))
 
           -- the aliases of a are still there
-          pub struct-values : all isAliasFinal (flagsOn (take v (old ++ now)) (x / 65536) a) ≡ true
+          pub struct-values : all isAliasFinal (firstFlagsOn (take v (old ++ now)) (x / 65536) a) ≡ true
           struct-values = grew-values (J .turn .grew) (rd .first) (sure-structures .0) x ex
 
 -- the next field of a struct

@@ -6,18 +6,18 @@ use lib.ListN.{length}
 use Rattle.words.specs.Made.{there}
 use Rattle.words.specs.declared.Interned.{Interned}
 use Rattle.words.specs.declared.Interned.the-variants.{Full}
-use Rattle.memo.specs.Memo.{Lines}
+use Rattle.memo.specs.Memo.{Lines, answers}
 use Rattle.later.specs.Later.{Later}
 use Rattle.later.specs.Right.{RightAfter}
-use Rattle.meet.specs.Meet.{meet}
+use Rattle.meet.specs.Meet.{meetWithin}
 
--- two handles below 1,048,576 as one number
+-- two handles as one number
 abbrev pub pairKey : ℕ → ℕ → ℕ
-pairKey a b = a * 1048576 + b
+pairKey a b = a * answers + b
 
 -- the meet of the two handles of this key gives h, in u and in all used words that come later, and appends nothing
 pub record Settled (u : List ℕ) (key h : ℕ) : Type 0 where
-  pub is : (v : List ℕ) → Later u v → (a b : ℕ) → b < 1048576 → key ≡ pairKey a b → (n : ℕ) → a < n → b < n → meet n v a b ≡ there v h
+  pub is : (v : List ℕ) → Later u v → (a b : ℕ) → b < answers → key ≡ pairKey a b → (n : ℕ) → a < n → b < n → meetWithin n v a b ≡ there v h
 
 -- each line is a pair and the settled answer to it
 abbrev pub Remembers : List ℕ → List ℕ → Type 0

@@ -5,27 +5,33 @@ use meet_rules::Rule;
 use meet_rules::StructRule;
 use memo::Recalled;
 use words::Interned;
+use words::columns;
+use words::fresh;
+use words::kinds;
+use words::limits;
 ghost use mathlib.Core.Path.{_≡_};
 ghost use mathlib.Core.List.{_++_};
 ghost use Prim.Native.Nat.{_<_};
 ghost use lib.ListN.{take};
 ghost use Rattle.index.specs.Covers.{Covers};
 ghost use Rattle.parts.specs.Parts.{Ready};
-ghost use Rattle.meet.specs.Meet.{Met, MetStruct};
+ghost use Rattle.meet.specs.Met.{Met, MetStruct};
 ghost use Rattle.meet_types.specs.Remembered.{pairKey, Remembers, Remembered};
+ghost use Rattle.wellformed.specs.Form.{longestAllowed};
+ghost use Rattle.words.specs.Kinds.{Bot, Struct, Fref, lastKind};
 
 // The key under which a pair is remembered.
 fn pair_key(a: usize, b: usize) -> u64
-    requires { ⌜ (a < 1048576) × (b < 1048576) ⌝ }
+    requires { ⌜ (a < longestAllowed) × (b < longestAllowed) ⌝ }
     ensures { λ r. ⌜ r ≡ pairKey a b ⌝ }
 {
-    (a as u64) * 1048576 + (b as u64)
+    (a as u64) * memo::ANSWERS + (b as u64)
 }
 
 // The same for two types, by the rule that decides; 0, under which nothing is remembered, where no part is met, and for structs, which the struct's
 // meet remembers.
 fn meet_key(rule: Rule, a: usize, b: usize) -> u64
-    requires { ⌜ (a < 1048576) × (b < 1048576) ⌝ }
+    requires { ⌜ (a < longestAllowed) × (b < longestAllowed) ⌝ }
     ensures { λ r. ⌜ ((r ≡ 0 → ⊥) → r ≡ pairKey a b) ⌝ }
 {
     match rule {
@@ -43,7 +49,7 @@ pub fn meet_type(
     memo: &mut [u64],
     index: &[u64],
 ) -> Interned
-    requires { ⌜ Ready (now old) (now new) used 1 11 a b ⌝ }
+    requires { ⌜ Ready (now old) (now new) used Bot lastKind a b ⌝ }
     requires { ⌜ Remembers (take used (now old ++ now new)) (now memo) ⌝ }
     requires { ⌜ Covers (take used (now old ++ now new)) (now index) ⌝ }
     ensures { λ r. ⌜ Met (now (old .entry)) (now (new .entry)) used a b (now (new .exit)) r ⌝ }
@@ -58,16 +64,16 @@ pub fn meet_type(
     match rule {
         Rule::First => Interned::At(a, used),
         Rule::Second => Interned::At(b, used),
-        Rule::Bottom => Interned::At(5, used),
-        Rule::Ints => meet_rules::meet_int(&*old, new, used, a, b, &*index),
-        Rule::Floats => Interned::At(meet_rules::meet_float(&*old, new, used, a, b), used),
+        Rule::Bottom => Interned::At(fresh::BOT, used),
+        Rule::Ints => meet_answers::meet_int(&*old, new, used, a, b, &*index),
+        Rule::Floats => Interned::At(meet_answers::meet_float(&*old, new, used, a, b), used),
         Rule::Structs => meet_struct(&*old, new, used, a, b, memo, &*index),
         Rule::Pointers => {
-            let x = words::word(&*old, new, used, a + 1) as usize;
-            let y = words::word(&*old, new, used, b + 1) as usize;
+            let x = words::word(&*old, new, used, a + columns::TARGET) as usize;
+            let y = words::word(&*old, new, used, b + columns::TARGET) as usize;
             let nil = wellformed::larger(
-                words::word(&*old, new, used, a + 2),
-                words::word(&*old, new, used, b + 2),
+                words::word(&*old, new, used, a + columns::NIL),
+                words::word(&*old, new, used, b + columns::NIL),
             );
             let m = meet_struct(&*old, new, used, x, y, memo, &*index);
             match m {
@@ -80,11 +86,11 @@ pub fn meet_type(
         }
         Rule::Memories => {
             let alias = meet_rules::shared_alias(
-                words::word(&*old, new, used, a + 1),
-                words::word(&*old, new, used, b + 1),
+                words::word(&*old, new, used, a + columns::ALIAS),
+                words::word(&*old, new, used, b + columns::ALIAS),
             );
-            let x = words::word(&*old, new, used, a + 2) as usize;
-            let y = words::word(&*old, new, used, b + 2) as usize;
+            let x = words::word(&*old, new, used, a + columns::INNER) as usize;
+            let y = words::word(&*old, new, used, b + columns::INNER) as usize;
             let m = meet_type(&*old, new, used, x, y, memo, &*index);
             match m {
                 Interned::At(h, v) => {
@@ -95,13 +101,13 @@ pub fn meet_type(
             }
         }
         Rule::Tuples => {
-            let n = (words::word(&*old, new, used, a) / 65536) as usize;
-            let mut parts = [0u64; 255];
+            let n = (words::word(&*old, new, used, a) / kinds::COUNT) as usize;
+            let mut parts = [0u64; limits::MOST_COUNTED];
             let mut v = used;
             let mut i: usize = 0;
             while i < n {
-                let x = words::word(&*old, new, used, a + 1 + i) as usize;
-                let y = words::word(&*old, new, used, b + 1 + i) as usize;
+                let x = words::word(&*old, new, used, a + columns::ELEMENTS + i) as usize;
+                let y = words::word(&*old, new, used, b + columns::ELEMENTS + i) as usize;
                 let m = meet_type(&*old, new, v, x, y, memo, &*index);
                 match m {
                     Interned::At(h, w) => {
@@ -129,30 +135,40 @@ fn meet_struct(
     memo: &mut [u64],
     index: &[u64],
 ) -> Interned
-    requires { ⌜ Ready (now old) (now new) used 8 9 a b ⌝ }
+    requires { ⌜ Ready (now old) (now new) used Struct Fref a b ⌝ }
     requires { ⌜ Remembers (take used (now old ++ now new)) (now memo) ⌝ }
     requires { ⌜ Covers (take used (now old ++ now new)) (now index) ⌝ }
     ensures { λ r. ⌜ MetStruct (now (old .entry)) (now (new .entry)) used a b (now (new .exit)) r ⌝ }
     ensures { λ r. ⌜ Remembered (now (old .entry)) (now (new .exit)) r (now (memo .exit)) ⌝ }
 {
-    let rule = meet_rules::struct_rule(&*old, new, used, a, b);
+    let rule = struct_rules::struct_rule(&*old, new, used, a, b);
     match rule {
         StructRule::Former => Interned::At(a, used),
         StructRule::Latter => Interned::At(b, used),
-        StructRule::Lowest => Interned::At(20, used),
+        StructRule::Lowest => Interned::At(fresh::STRUCT_BOT, used),
         StructRule::Fields => {
             let key = pair_key(a, b);
             let line = memo::recall(memo, key);
             if let Recalled::Is(h) = line {
                 return Interned::At(h as usize, used);
             }
-            let n = (words::word(&*old, new, used, a) / 65536) as usize;
-            let mut types = [0u64; 255];
+            let n = (words::word(&*old, new, used, a) / kinds::COUNT) as usize;
+            let mut types = [0u64; limits::MOST_COUNTED];
             let mut v = used;
             let mut i: usize = 0;
             while i < n {
-                let x = words::word(&*old, new, used, a + 3 + 3 * i) as usize;
-                let y = words::word(&*old, new, used, b + 3 + 3 * i) as usize;
+                let x = words::word(
+                    &*old,
+                    new,
+                    used,
+                    a + columns::FIELD_TYPES + columns::FIELD * i,
+                ) as usize;
+                let y = words::word(
+                    &*old,
+                    new,
+                    used,
+                    b + columns::FIELD_TYPES + columns::FIELD * i,
+                ) as usize;
                 let m = meet_type(&*old, new, v, x, y, memo, &*index);
                 match m {
                     Interned::At(h, w) => {

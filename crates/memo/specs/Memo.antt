@@ -1,4 +1,4 @@
--- A memory of answers: one word a line, key * 1048576 + answer. A word of 0 is an empty line, a key of 0 is none. Which line a key gets is the code's
+-- A memory of answers: one word a line, key × 2 to the 20 + answer. A word of 0 is an empty line, a key of 0 is none. Which line a key gets is the code's
 -- business: what a memory is right for does not depend on it.
 use mathlib.Core.Path.{_≡_}
 use mathlib.Core.Logic.{_⊎_}
@@ -10,11 +10,15 @@ use Rattle.words.specs.declared.Interned.the-variants.{At, Full}
 use Rattle.memo.specs.declared.Recalled.{Recalled}
 use Rattle.memo.specs.declared.Recalled.the-variants.{Is}
 
+-- an answer is a handle, below 2 to the 20: no store has more words
+abbrev pub answers : ℕ
+answers = 1048576
+
 -- line i has this key and this answer
 pub record Line (memo : List ℕ) (i key answer : ℕ) : Type 0 where
   pub some : (key ≡ 0 → ⊥)
-  pub fits : answer < 1048576
-  pub word : getD memo i 0 ≡ key * 1048576 + answer
+  pub fits : answer < answers
+  pub word : getD memo i 0 ≡ key * answers + answer
 
 -- P holds of every line that has a key
 pub record Lines (P : ℕ → ℕ → Type 0) (memo : List ℕ) : Type 0 where

@@ -8,6 +8,14 @@ ghost use Prim.Native.Nat.{_<_, _≤_};
 ghost use lib.ListN.{length};
 ghost use Rattle.memo.specs.Memo.{Tells, Noted, Learned};
 
+// A line is key × ANSWERS + answer: an answer is a handle, below 2 to the 20, and a key is below 2 to the 44, so that both fit a word.
+pub const ANSWERS: u64 = 1048576;
+
+const KEYS: u64 = 17592186044416;
+
+// How many lines are looked at for a key.
+const LOOKED_AT: usize = 64;
+
 pub enum Recalled {
     Is(u64),
     Nothing,
@@ -22,7 +30,7 @@ fn home(lines: usize, key: u64) -> usize
     if key < lines as u64 {
         return key as usize;
     }
-    if key < 1048576 {
+    if key < ANSWERS {
         return (key % (lines as u64)) as usize;
     }
     index::slot(lines, index::stir(key))
@@ -32,10 +40,10 @@ fn home(lines: usize, key: u64) -> usize
 fn probes(lines: usize) -> usize
     ensures { λ r. ⌜ r ≤ lines ⌝ }
 {
-    if lines < 64 {
+    if lines < LOOKED_AT {
         return lines;
     }
-    64
+    LOOKED_AT
 }
 
 // The line behind line i.
@@ -67,8 +75,8 @@ pub fn recall(memo: &[u64], key: u64) -> Recalled
         if line == 0 {
             return Recalled::Nothing;
         }
-        if line / 1048576 == key {
-            return Recalled::Is(line % 1048576);
+        if line / ANSWERS == key {
+            return Recalled::Is(line % ANSWERS);
         }
         i = after(lines, i);
         n -= 1;
@@ -86,7 +94,7 @@ fn free(memo: &[u64], key: u64) -> usize
     let mut n = probes(lines);
     while 0 < n {
         let line = memo[i];
-        if line == 0 || line / 1048576 == key {
+        if line == 0 || line / ANSWERS == key {
             return i;
         }
         i = after(lines, i);
@@ -105,14 +113,14 @@ pub fn note(memo: &mut [u64], key: u64, answer: u64)
     if key == 0 {
         return;
     }
-    if 17592186044416 <= key {
+    if KEYS <= key {
         return;
     }
-    if 1048576 <= answer {
+    if ANSWERS <= answer {
         return;
     }
     let i = free(memo, key);
-    memo[i] = key * 1048576 + answer;
+    memo[i] = key * ANSWERS + answer;
 }
 
 // The same for the handle that an operation answers, on the answer's way through.

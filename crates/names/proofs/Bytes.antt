@@ -8,7 +8,7 @@ use borrow.Author.Tests.{not-true, not-false, ltb-true, ltb-false}
 use lib.ListN.{length, take, drop, getD, length-append, List·getD-append, List·getD-eq-default}
 use lib.Seq.{getD-append-add}
 use lib.Dec.{ltb}
-use Rattle.names.specs.Name.{number, wrapped}
+use Rattle.names.specs.Name.{ofBytes, wrapped}
 
 -- the closing bracket is the byte after the text's, and the others are as they were
 at-end : (text : List ℕ) (i : ℕ) → i ≡ length text → 93 ≡ getD (text ++ (93 ∷ [])) i 0
@@ -63,6 +63,6 @@ length-most text true = omega (arith, length-wrapped text true refl)
 length-most text false = omega (arith, length-plain text false refl)
 
 -- a text that is no array's is the name
-pub plain-word : (text : List ℕ) (wrap : Bool) (at r : ℕ) → not wrap ≡ true → r ≡ number (take 8 (drop at text)) → r ≡ number (take 8 (drop at (wrapped wrap text)))
+pub plain-word : (text : List ℕ) (wrap : Bool) (at r : ℕ) → not wrap ≡ true → r ≡ ofBytes (take 8 (drop at text)) → r ≡ ofBytes (take 8 (drop at (wrapped wrap text)))
 unfolding wrapped
 plain-word text wrap at r w is = rw (not-true wrap w) is

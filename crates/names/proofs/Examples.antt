@@ -2,14 +2,14 @@
 use mathlib.Core.Path.{_≡_, refl}
 use mathlib.Core.Bool.{true, false}
 use mathlib.Core.List.{[], _∷_}
-use Rattle.names.specs.Name.{number, packed, nameEntry, wrapped}
+use Rattle.names.specs.Name.{ofBytes, packed, nameEntry, wrapped}
 
 -- "$TOP"
 pub top-name : nameEntry (wrapped false (36 ∷ 84 ∷ 79 ∷ 80 ∷ [])) ≡ 262144 ∷ 1347376164 ∷ []
-unfolding number packed nameEntry wrapped
+unfolding ofBytes packed nameEntry wrapped
 top-name = refl
 
 -- "u8" in brackets
 pub array-name : nameEntry (wrapped true (117 ∷ 56 ∷ [])) ≡ 262144 ∷ 1563981147 ∷ []
-unfolding number packed nameEntry wrapped
+unfolding ofBytes packed nameEntry wrapped
 array-name = refl

@@ -6,9 +6,9 @@ use Prim.Native.Nat.{ℕ, zero, suc, _+_, _-_, _*_, _/_, _%_, _≤_, _<_}
 use native.Mathlib.Omega.{arith}
 use lib.ListN.{length, take, drop, getD}
 use lib.Seq.{drop-drop}
-use Rattle.words.specs.Table.{Sized}
+use Rattle.words.specs.Ran.{HasSize}
 use Rattle.words.proofs.Sizes.{name-size}
-use Rattle.names.specs.Name.{number, packed, nameEntry, wrapped}
+use Rattle.names.specs.Name.{ofBytes, packed, nameEntry, wrapped}
 use Rattle.names.proofs.Bytes.{length-most}
 
 length-packed : (k : ℕ) (bs : List ℕ) → length (packed k bs) ≡ k
@@ -17,13 +17,13 @@ length-packed zero bs = refl
 length-packed (suc k) bs = ap suc (length-packed k (drop 8 bs))
 
 -- word i has the bytes from 8 × i on
-packed-word : (k i : ℕ) (bs : List ℕ) → i < k → getD (packed k bs) i 0 ≡ number (take 8 (drop (8 * i) bs))
+packed-word : (k i : ℕ) (bs : List ℕ) → i < k → getD (packed k bs) i 0 ≡ ofBytes (take 8 (drop (8 * i) bs))
 unfolding packed
 packed-word zero i bs h = absurd (omega arith)
 packed-word (suc k) zero bs h = refl
 packed-word (suc k) (suc i) bs h =
     let n : 8 + 8 * i ≡ 8 * suc i = omega arith in
-    packed-word k i (drop 8 bs) (omega arith) ∙ ap (λ (l : List ℕ). number (take 8 l)) (drop-drop (8 * i) 8 bs ∙ ap (λ (m : ℕ). drop m bs) n)
+    packed-word k i (drop 8 bs) (omega arith) ∙ ap (λ (l : List ℕ). ofBytes (take 8 l)) (drop-drop (8 * i) 8 bs ∙ ap (λ (m : ℕ). drop m bs) n)
 
 pub name-length : (bs : List ℕ) → length (nameEntry bs) ≡ 1 + (length bs + 7) / 8
 unfolding nameEntry
@@ -41,16 +41,16 @@ pub head-word : (bs : List ℕ) (i n : ℕ) → i ≡ 0 → n ≡ length bs → 
 unfolding nameEntry
 head-word bs i n z is = rw z (omega arith)
 
-pub later-word : (bs : List ℕ) (i w : ℕ) → (i ≡ 0 → ⊥) → i < length (nameEntry bs) → w ≡ number (take 8 (drop (8 * (i - 1)) bs)) → w ≡ getD (nameEntry bs) i 0
+pub later-word : (bs : List ℕ) (i w : ℕ) → (i ≡ 0 → ⊥) → i < length (nameEntry bs) → w ≡ ofBytes (take 8 (drop (8 * (i - 1)) bs)) → w ≡ getD (nameEntry bs) i 0
 unfolding nameEntry
 later-word bs zero w ne h is = absurd (ne refl)
 later-word bs (suc i) w ne h is =
     let k : suc i - 1 ≡ i = omega arith in
     let m : i < (length bs + 7) / 8 = omega (arith, length-packed ((length bs + 7) / 8) bs) in
-    is ∙ ap (λ (n : ℕ). number (take 8 (drop (8 * n) bs))) k ∙ sym (packed-word ((length bs + 7) / 8) i bs m)
+    is ∙ ap (λ (n : ℕ). ofBytes (take 8 (drop (8 * n) bs))) k ∙ sym (packed-word ((length bs + 7) / 8) i bs m)
 
 -- an entry of a name has as many words as its head says
-pub name-sized : (bs : List ℕ) → Sized (nameEntry bs)
+pub name-sized : (bs : List ℕ) → HasSize (nameEntry bs)
 name-sized bs =
     let w = getD (nameEntry bs) 0 0 in
     let e : 65536 * length bs ≡ w = head-word bs 0 (length bs) refl refl in

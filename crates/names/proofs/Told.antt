@@ -9,7 +9,8 @@ use lib.Bits.{bitXor}
 use lib.ListN.{length, take, drop, getD, set}
 use Rattle.words.specs.Words.{eqs}
 use Rattle.words.specs.Table.{findIn}
-use Rattle.words.specs.Made.{make, Segments, Ran}
+use Rattle.words.specs.Made.{make}
+use Rattle.words.specs.Ran.{Segments, Ran}
 use Rattle.words.specs.declared.Found.{Found}
 use Rattle.words.specs.declared.Found.the-variants.{Nothing}
 use Rattle.words.specs.declared.Interned.the-variants.{At, Full}

@@ -6,21 +6,32 @@ use lib.ListN.{length, take, drop}
 use Rattle.words.specs.Kinds.{Name}
 use Rattle.words.specs.Words.{headOf}
 
--- the number that some bytes are, "lowest first"
-unfoldable pub number : List ℕ → ℕ
-number [] = 0
-number (b ∷ bs) = b + 256 * number bs
+-- the number that some bytes are, "lowest first": each byte counts 256 times as much as the one before it
+unfoldable pub ofBytes : List ℕ → ℕ
+ofBytes [] = 0
+ofBytes (b ∷ bs) = b + 256 * ofBytes bs
 
 -- k words of bytes, "eight a word, lowest first, zero fill"
 unfoldable pub packed : ℕ → List ℕ → List ℕ
 packed zero bs = []
-packed (suc k) bs = number (take 8 bs) ∷ packed k (drop 8 bs)
+packed (suc k) bs = ofBytes (take 8 bs) ∷ packed k (drop 8 bs)
 
 -- a name's entry: the head, and "n bytes, eight a word"
 unfoldable pub nameEntry : List ℕ → List ℕ
 nameEntry bs = headOf Name 0 (length bs) ∷ packed ((length bs + 7) / 8) bs
 
+-- for the functions alone, no definition uses it: what they take at most, so that no sum runs over; a name has at most 255 bytes where one is made
+abbrev pub longestText : ℕ
+longestText = 65535
+
+-- the bytes of "[" and "]"
+abbrev pub openBracket : ℕ
+openBracket = 91
+
+abbrev pub closeBracket : ℕ
+closeBracket = 93
+
 -- the name that a lent text stands for: the text, or, for an array type's name, the text in brackets
 unfoldable pub wrapped : Bool → List ℕ → List ℕ
-wrapped true text = 91 ∷ (text ++ (93 ∷ []))
+wrapped true text = openBracket ∷ (text ++ (closeBracket ∷ []))
 wrapped false text = text

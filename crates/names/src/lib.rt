@@ -9,14 +9,21 @@ ghost use lib.ListN.{length, take, drop, getD};
 ghost use lib.Seq.{slice};
 ghost use Rattle.words.specs.Words.{sizeOf, eqs, fills};
 ghost use Rattle.words.specs.Table.{rows, firstOf, findIn, starts};
-ghost use Rattle.words.specs.Made.{make, Segments, Runs};
+ghost use Rattle.words.specs.Made.{make};
+ghost use Rattle.words.specs.Ran.{Segments, Runs};
 ghost use Rattle.index.specs.Digest.{hashFrom, bucketOf};
 ghost use Rattle.index.specs.Covers.{indexedTo, Covers, Tail};
-ghost use Rattle.names.specs.Name.{number, nameEntry, wrapped};
+ghost use Rattle.names.specs.Name.{ofBytes, nameEntry, wrapped, longestText};
+use words::kinds;
+
+// The bytes of "[" and "]".
+const OPEN_BRACKET: u64 = 91;
+
+const CLOSE_BRACKET: u64 = 93;
 
 // A name's number of bytes.
 pub fn name_len(text: &[u8], wrap: bool) -> usize
-    requires { ⌜ length (now text) ≤ 65535 ⌝ }
+    requires { ⌜ length (now text) ≤ longestText ⌝ }
     ensures { λ r. ⌜ r ≡ length (wrapped wrap (now (text .entry))) ⌝ }
 {
     if wrap {
@@ -50,10 +57,10 @@ fn byte_at(text: &[u8], wrap: bool, i: usize) -> u64
         return text_at(&*text, i);
     }
     if i == 0 {
-        return 91;
+        return OPEN_BRACKET;
     }
     if i - 1 == text.len() {
-        return 93;
+        return CLOSE_BRACKET;
     }
     text_at(&*text, i - 1)
 }
@@ -61,7 +68,7 @@ fn byte_at(text: &[u8], wrap: bool, i: usize) -> u64
 // Four bytes of a text that has them, from a position on, as a number.
 fn four(text: &[u8], at: usize) -> u64
     requires { ⌜ at + 4 ≤ length (now text) ⌝ }
-    ensures { λ r. ⌜ (r ≡ number (take 4 (drop at (now (text .entry))))) × (r < 4294967296) ⌝ }
+    ensures { λ r. ⌜ (r ≡ ofBytes (take 4 (drop at (now (text .entry))))) × (r < 4294967296) ⌝ }
 {
     let low = wide(text[at]) + 256 * wide(text[at + 1]);
     let high = wide(text[at + 2]) + 256 * wide(text[at + 3]);
@@ -71,15 +78,15 @@ fn four(text: &[u8], at: usize) -> u64
 // The same for eight bytes. They are written out and not counted, so that a processor reads them as one word.
 fn eight(text: &[u8], at: usize) -> u64
     requires { ⌜ at + 8 ≤ length (now text) ⌝ }
-    ensures { λ r. ⌜ r ≡ number (take 8 (drop at (now (text .entry)))) ⌝ }
+    ensures { λ r. ⌜ r ≡ ofBytes (take 8 (drop at (now (text .entry)))) ⌝ }
 {
     four(&*text, at) + 4294967296 * four(&*text, at + 4)
 }
 
 // Eight bytes of a name, from a position on, as a word.
 fn name_word(text: &[u8], wrap: bool, at: usize) -> u64
-    requires { ⌜ at ≤ 65536 ⌝ }
-    ensures { λ r. ⌜ r ≡ number (take 8 (drop at (wrapped wrap (now (text .entry))))) ⌝ }
+    requires { ⌜ at ≤ longestText + 1 ⌝ }
+    ensures { λ r. ⌜ r ≡ ofBytes (take 8 (drop at (wrapped wrap (now (text .entry))))) ⌝ }
 {
     if !wrap {
         if at + 8 <= text.len() {
@@ -97,7 +104,7 @@ fn name_word(text: &[u8], wrap: bool, at: usize) -> u64
 
 // The number of words of a name's entry.
 fn name_size(text: &[u8], wrap: bool) -> usize
-    requires { ⌜ length (now text) ≤ 65535 ⌝ }
+    requires { ⌜ length (now text) ≤ longestText ⌝ }
     ensures { λ r. ⌜ r ≡ length (nameEntry (wrapped wrap (now (text .entry)))) ⌝ }
 {
     1 + (name_len(&*text, wrap) + 7) / 8
@@ -105,19 +112,19 @@ fn name_size(text: &[u8], wrap: bool) -> usize
 
 // A word of a name's entry.
 fn entry_word(text: &[u8], wrap: bool, i: usize) -> u64
-    requires { ⌜ length (now text) ≤ 65535 ⌝ }
+    requires { ⌜ length (now text) ≤ longestText ⌝ }
     requires { ⌜ i < length (nameEntry (wrapped wrap (now text))) ⌝ }
     ensures { λ r. ⌜ r ≡ getD (nameEntry (wrapped wrap (now (text .entry)))) i 0 ⌝ }
 {
     if i == 0 {
-        return 65536 * name_len(&*text, wrap) as u64;
+        return kinds::COUNT * name_len(&*text, wrap) as u64;
     }
     name_word(&*text, wrap, 8 * (i - 1))
 }
 
 // Whether an entry is that of a name. The length and the head come first, so that other entries are passed over quickly.
 fn same_name(e: &[u64], text: &[u8], wrap: bool) -> bool
-    requires { ⌜ length (now text) ≤ 65535 ⌝ }
+    requires { ⌜ length (now text) ≤ longestText ⌝ }
     ensures { λ r. ⌜ r ≡ eqs (now (e .entry)) (nameEntry (wrapped wrap (now (text .entry)))) ⌝ }
 {
     if e.len() != name_size(&*text, wrap) {
@@ -143,7 +150,7 @@ fn look_name(
     wrap: bool,
 ) -> words::Found
     requires { ⌜ (to ≤ length (now words)) × (base + length (now words) < 2 ^ 63) × (fills 0 (slice from to (now words)) ≡ true) ⌝ }
-    requires { ⌜ length (now text) ≤ 65535 ⌝ }
+    requires { ⌜ length (now text) ≤ longestText ⌝ }
     ensures { λ r. ⌜ r ≡ firstOf (rows (base + from) 0 (slice from to (now (words .entry)))) (nameEntry (wrapped wrap (now (text .entry)))) ⌝ }
 {
     let mut at = from;
@@ -159,7 +166,7 @@ fn look_name(
 
 // The hash of a name's entry.
 fn name_hash(text: &[u8], wrap: bool) -> u64
-    requires { ⌜ length (now text) ≤ 65535 ⌝ }
+    requires { ⌜ length (now text) ≤ longestText ⌝ }
     ensures { λ r. ⌜ r ≡ hashFrom 0 (nameEntry (wrapped wrap (now (text .entry)))) ⌝ }
 {
     let n = name_size(&*text, wrap);
@@ -174,7 +181,7 @@ fn name_hash(text: &[u8], wrap: bool) -> u64
 
 fn name_bucket(half: usize, text: &[u8], wrap: bool) -> usize
     requires { ⌜ 0 < half ⌝ }
-    requires { ⌜ length (now text) ≤ 65535 ⌝ }
+    requires { ⌜ length (now text) ≤ longestText ⌝ }
     ensures { λ r. ⌜ (r ≡ bucketOf half (nameEntry (wrapped wrap (now (text .entry))))) × (r < half) ⌝ }
 {
     index::slot(half, name_hash(&*text, wrap))
@@ -183,7 +190,7 @@ fn name_bucket(half: usize, text: &[u8], wrap: bool) -> usize
 // Whether the entry at a handle is that of a name.
 fn is_name_at(old: &[u64], new: &[u64], used: usize, at: usize, text: &[u8], wrap: bool) -> bool
     requires { ⌜ Segments (now old) (now new) used × (starts (take used (now old ++ now new)) at ≡ true) ⌝ }
-    requires { ⌜ length (now text) ≤ 65535 ⌝ }
+    requires { ⌜ length (now text) ≤ longestText ⌝ }
     ensures { λ r. ⌜ r ≡ eqs (take (sizeOf (getD (take used (now (old .entry) ++ now (new .entry))) at 0)) (drop at (take used (now (old .entry) ++ now (new .entry))))) (nameEntry (wrapped wrap (now (text .entry)))) ⌝ }
 {
     if at < old.len() {
@@ -205,7 +212,7 @@ fn search_name(
     index: &[u64],
 ) -> words::Found
     requires { ⌜ Segments (now old) (now new) used ⌝ }
-    requires { ⌜ length (now text) ≤ 65535 ⌝ }
+    requires { ⌜ length (now text) ≤ longestText ⌝ }
     requires { ⌜ Covers (take used (now old ++ now new)) (now index) ⌝ }
     ensures { λ r. ⌜ r ≡ findIn (take (indexedTo (now (index .entry))) (take used (now (old .entry) ++ now (new .entry)))) (nameEntry (wrapped wrap (now (text .entry)))) ⌝ }
 {
@@ -237,7 +244,7 @@ fn rest_name(
     wrap: bool,
 ) -> words::Found
     requires { ⌜ Segments (now old) (now new) used × Tail (now old) (take used (now old ++ now new)) from ⌝ }
-    requires { ⌜ length (now text) ≤ 65535 ⌝ }
+    requires { ⌜ length (now text) ≤ longestText ⌝ }
     ensures { λ r. ⌜ r ≡ firstOf (rows from 0 (drop from (take used (now (old .entry) ++ now (new .entry))))) (nameEntry (wrapped wrap (now (text .entry)))) ⌝ }
 {
     if old.len() <= from {
@@ -267,7 +274,7 @@ pub fn find_name(
     index: &[u64],
 ) -> words::Found
     requires { ⌜ Segments (now old) (now new) used ⌝ }
-    requires { ⌜ length (now text) ≤ 65535 ⌝ }
+    requires { ⌜ length (now text) ≤ longestText ⌝ }
     requires { ⌜ Covers (take used (now old ++ now new)) (now index) ⌝ }
     ensures { λ r. ⌜ r ≡ findIn (take used (now (old .entry) ++ now (new .entry))) (nameEntry (wrapped wrap (now (text .entry)))) ⌝ }
 {
@@ -287,7 +294,7 @@ pub fn find_name(
 
 // Fills the first words of `dst` with a name's entry.
 fn write_name(dst: &mut [u64], text: &[u8], wrap: bool)
-    requires { ⌜ length (now text) ≤ 65535 ⌝ }
+    requires { ⌜ length (now text) ≤ longestText ⌝ }
     requires { ⌜ length (nameEntry (wrapped wrap (now text))) ≤ length (now dst) ⌝ }
     ensures { λ _. ⌜ now (dst .exit) ≡ nameEntry (wrapped wrap (now (text .entry))) ++ drop (length (nameEntry (wrapped wrap (now (text .entry))))) (now (dst .entry)) ⌝ }
 {
@@ -309,7 +316,7 @@ pub fn intern_name(
     index: &[u64],
 ) -> words::Interned
     requires { ⌜ Segments (now old) (now new) used ⌝ }
-    requires { ⌜ length (now text) ≤ 65535 ⌝ }
+    requires { ⌜ length (now text) ≤ longestText ⌝ }
     requires { ⌜ Covers (take used (now old ++ now new)) (now index) ⌝ }
     ensures { λ r. ⌜ Runs (λ u. make u (nameEntry (wrapped wrap (now (text .entry))))) (now (old .entry)) (now (new .entry)) used (now (new .exit)) r ⌝ }
 {

@@ -9,7 +9,8 @@ use lib.Dec.{eqb}
 use lib.ListN.{length, take, drop, getD, length-drop}
 use lib.Seq.{slice, take-add, take-take, length-take-le, getD-take, getD-drop}
 use Rattle.words.specs.Words.{sizeOf, fills}
-use Rattle.words.specs.Table.{Row, isAt, entries, starts, Sized}
+use Rattle.words.specs.Table.{Row, isAt, entries, starts}
+use Rattle.words.specs.Ran.{HasSize}
 use Rattle.words.proofs.Walk.{size-pos, next, inside}
 use Rattle.words.proofs.Kept.{entries-append, fills-more}
 use Rattle.bitset.specs.Bitset.{bitAt, also}
@@ -56,7 +57,7 @@ module _ (ws : List ℕ) (used : ℕ) (bits : List ℕ) (at : ℕ) (high : used 
     abbrev e : List ℕ
     e = take (sizeOf (getD ws at 0)) (drop at ws)
 
-    e-sized : Sized e
+    e-sized : HasSize e
     e-sized = length-take-le (sizeOf (getD ws at 0)) (drop at ws) (omega (arith, mark-inside, length-drop at ws)) ∙ ap sizeOf (sym (getD-take (sizeOf (getD ws at 0)) (drop at ws) 0 0 (size-pos (getD ws at 0)) ∙ getD-drop at ws 0 0 ∙ ap (λ (k : ℕ). getD ws k 0) (add-zero at)))
 
     pub mark-more : (n : ℕ) (bits′ : List ℕ) → n ≡ sizeOf (getD ws at 0) → bitAt bits′ ≡ also at (bitAt bits) → Marked ws used bits′ (at + n)

@@ -13,7 +13,7 @@ use Rattle.wellformed.specs.Form.{wellFormed, usedWords}
 use Rattle.wellformed.proofs.Before.{tests}
 use Rattle.index.specs.Covers.{indexedTo, Covers}
 use Rattle.call.specs.Call.{Reply, left}
-use Rattle.call.specs.Steps.{usedOf, Open}
+use Rattle.call.specs.Steps.{usedOf, Marked}
 use Rattle.call.specs.Keep.{Keeps}
 use Rattle.call.proofs.Keep.{well-sound}
 use Rattle.later.proofs.Keeps.{later-keeps}
@@ -46,7 +46,7 @@ module _ (ws : List ℕ) (ok : wellFormed ws ≡ true) where
   used-within = tests ws ok .within
 
 module _ {ws index memory : List ℕ} (o : OpenStore ws index memory) (k : ℕ) (is : k ≡ marksSize (length ws)) where
-  pub marked-rows : Open ws (take k index) (getD ws 0 0)
+  pub marked-rows : Marked ws (take k index) (getD ws 0 0)
   marked-rows = record { within = tests ws (o .well) .within; marks = rw is (o .whole .marks) }
 
   pub lent-covers : Covers (take (getD ws 0 0) ws) (take (length index - k) (drop k index))

@@ -7,19 +7,19 @@ use Prim.Native.Nat.{ℕ, _+_, _*_, _/_, _≤_}
 use lib.Dec.{ltb}
 use lib.ListN.{length, take, drop}
 use Rattle.words.specs.Table.{starts}
-use Rattle.bitset.specs.Bitset.{bitAt}
+use Rattle.bitset.specs.Bitset.{wordBits, bitAt}
 use Rattle.wellformed.specs.Form.{wellFormed, usedWords}
 use Rattle.index.specs.Covers.{Opened}
 use Rattle.call.specs.declared.Done.{Done}
 use Rattle.call.specs.declared.Done.the-variants.{Accepted}
-use Rattle.call.specs.Call.{Reply, accepted, _when_, _∣_, replyAfter}
+use Rattle.call.specs.Call.{Reply, accepted, _when_, _otherwise_, replyAfter}
 use Rattle.lent_memory.specs.Memory.{Right}
 
 -- ---- the index: first a bit for each word of the list, which marks where entries start, then the chains (index/specs/Chains.antt)
 
 -- how many words the bits take, for a list of n words
 abbrev pub marksSize : ℕ → ℕ
-marksSize n = n / 64 + 1
+marksSize n = n / wordBits + 1
 
 -- how many words the index has to have
 abbrev pub indexSize : ℕ → ℕ
@@ -46,9 +46,9 @@ pub record OpenStore (ws index memory : List ℕ) : Type 0 where
 
 -- ---- opening
 
--- row 1, and row 11: "a lent output too short", for an index that is
+-- row 1, and row 11, "output shorter than the answer", for an index that is too short
 abbrev pub openReply : List ℕ → ℕ → Reply
-openReply ws n = replyAfter (1 when not (wellFormed ws) ∣ 11 when ltb n (indexSize (length ws))) accepted
+openReply ws n = replyAfter (1 when not (wellFormed ws) otherwise 11 when ltb n (indexSize (length ws))) accepted
 
 -- an accepted store is open; a refused call changes no word
 pub record Opening (ws index memory index′ memory′ : List ℕ) (r : Done) : Type 0 where

@@ -13,8 +13,8 @@ ghost use Prim.Native.Nat.{_*_, _≤_, _<_};
 ghost use lib.ListN.{length, take, drop};
 ghost use Rattle.words.specs.Words.{fills};
 ghost use Rattle.words.specs.Table.{starts};
-ghost use Rattle.bitset.specs.Bitset.{bitAt};
-ghost use Rattle.wellformed.specs.Form.{wellFormed};
+ghost use Rattle.bitset.specs.Bitset.{bitAt, wordBits};
+ghost use Rattle.wellformed.specs.Form.{wellFormed, longestAllowed};
 ghost use Rattle.call.specs.Call.{left, made, told, done};
 ghost use Rattle.every_call.specs.Run.{run};
 ghost use Rattle.making.specs.Making.{appended};
@@ -26,15 +26,15 @@ ghost use Rattle.opened.specs.Steps.{Stale};
 
 // How many words of an index mark the entries of a list of n words.
 fn marks_size(n: usize) -> usize
-    requires { ⌜ n ≤ 1048576 ⌝ }
-    ensures { λ r. ⌜ (r ≡ marksSize n) × (r ≤ 16385) ⌝ }
+    requires { ⌜ n ≤ longestAllowed ⌝ }
+    ensures { λ r. ⌜ (r ≡ marksSize n) × (r ≤ marksSize longestAllowed) ⌝ }
 {
-    n / 64 + 1
+    n / bitset::WORD_BITS + 1
 }
 
 // Marks the entries from `from` on.
 fn mark_from(words: &[u64], from: usize, used: usize, bits: &mut [u64])
-    requires { ⌜ (from ≤ used) × (used ≤ length (now words)) × (used < 64 * length (now bits)) ⌝ }
+    requires { ⌜ (from ≤ used) × (used ≤ length (now words)) × (used < wordBits * length (now bits)) ⌝ }
     requires { ⌜ (fills 0 (drop 1 (take from (now words))) ≡ true) × (1 ≤ from) × (fills 0 (drop 1 (take used (now words))) ≡ true) × (bitAt (now bits) ≡ starts (take from (now words))) ⌝ }
     ensures { λ _. ⌜ bitAt (now (bits .exit)) ≡ starts (take used (now (words .entry))) ⌝ }
 {
@@ -73,6 +73,7 @@ pub fn open(words: &[u64], index: &mut [u64], memory: &mut [u64]) -> Done
     }
     let n = words.len();
     let k = marks_size(n);
+    // behind the bits the two halves of the chains, a word for each word of the list
     if index.len() < k + 2 * n {
         return Done::Refused(11);
     }

@@ -1,4 +1,4 @@
-// The operations of `Ty` on an opened store: see opened_types.
+// The operations of `Ty` on an opened store: see opened_types. "Above" is the way that isa goes: where a isa b, b is above a.
 use asking::Asking;
 use call::Answer;
 use call::Made;
@@ -9,7 +9,7 @@ ghost use Rattle.call.specs.Call.{left, made, told};
 ghost use Rattle.every_call.specs.Run.{run, meet, isa, dual, glb, lub, join, is_final, make_ro};
 ghost use Rattle.opened.specs.OpenStore.{OpenStore};
 
-// The lowest type above both.
+// The merge of two types: of types that reach no memory type and no forward reference the lowest type above both.
 pub fn meet(words: &mut [u64], index: &mut [u64], memory: &mut [u64], a: u64, b: u64) -> Made
     requires { ⌜ OpenStore (now words) (now index) (now memory) ⌝ }
     ensures { λ r. ⌜ left (made r) (now (words .exit)) ≡ run (meet a b) (now (words .entry)) ⌝ }
@@ -18,7 +18,7 @@ pub fn meet(words: &mut [u64], index: &mut [u64], memory: &mut [u64], a: u64, b:
     opened::make(words, index, memory, Making::Meet(a, b))
 }
 
-// Whether b is above a: whether their meet would be b.
+// Whether a isa b: whether their meet would be b.
 pub fn isa(words: &[u64], index: &[u64], memory: &mut [u64], a: u64, b: u64) -> Answer
     requires { ⌜ OpenStore (now words) (now index) (now memory) ⌝ }
     ensures { λ r. ⌜ left (told r) (now (words .entry)) ≡ run (isa a b) (now (words .entry)) ⌝ }
@@ -27,7 +27,7 @@ pub fn isa(words: &[u64], index: &[u64], memory: &mut [u64], a: u64, b: u64) -> 
     opened::ask(words, index, memory, Asking::Isa(a, b))
 }
 
-// The lattice upside down.
+// The type turned over: Bot for Top, the ends of an Int changed, and so on through the parts.
 pub fn dual(words: &mut [u64], index: &mut [u64], memory: &mut [u64], a: u64) -> Made
     requires { ⌜ OpenStore (now words) (now index) (now memory) ⌝ }
     ensures { λ r. ⌜ left (made r) (now (words .exit)) ≡ run (dual a) (now (words .entry)) ⌝ }
@@ -36,7 +36,7 @@ pub fn dual(words: &mut [u64], index: &mut [u64], memory: &mut [u64], a: u64) ->
     opened::make(words, index, memory, Making::Walk(Walk::Dual, a))
 }
 
-// A fixed lower type.
+// The fixed type that the Rust calls its greatest lower bound, and that stands above it: Bot, the Int of all numbers, and so on through the parts.
 pub fn glb(words: &mut [u64], index: &mut [u64], memory: &mut [u64], a: u64) -> Made
     requires { ⌜ OpenStore (now words) (now index) (now memory) ⌝ }
     ensures { λ r. ⌜ left (made r) (now (words .exit)) ≡ run (glb a) (now (words .entry)) ⌝ }
@@ -45,7 +45,7 @@ pub fn glb(words: &mut [u64], index: &mut [u64], memory: &mut [u64], a: u64) -> 
     opened::make(words, index, memory, Making::Walk(Walk::Glb, a))
 }
 
-// A fixed upper type.
+// The fixed type that the Rust calls its least upper bound, and that stands below it: Top, the Int of no number, and so on through the parts.
 pub fn lub(words: &mut [u64], index: &mut [u64], memory: &mut [u64], a: u64) -> Made
     requires { ⌜ OpenStore (now words) (now index) (now memory) ⌝ }
     ensures { λ r. ⌜ left (made r) (now (words .exit)) ≡ run (lub a) (now (words .entry)) ⌝ }
@@ -54,7 +54,7 @@ pub fn lub(words: &mut [u64], index: &mut [u64], memory: &mut [u64], a: u64) -> 
     opened::make(words, index, memory, Making::Walk(Walk::Lub, a))
 }
 
-// The highest type below both.
+// The dual of the meet of the duals: of types that reach no memory type and no forward reference the highest type below both.
 pub fn join(words: &mut [u64], index: &mut [u64], memory: &mut [u64], a: u64, b: u64) -> Made
     requires { ⌜ OpenStore (now words) (now index) (now memory) ⌝ }
     ensures { λ r. ⌜ left (made r) (now (words .exit)) ≡ run (join a b) (now (words .entry)) ⌝ }
@@ -72,7 +72,7 @@ pub fn is_final(words: &[u64], index: &[u64], memory: &mut [u64], a: u64) -> Ans
     opened::ask(words, index, memory, Asking::IsFinal(a))
 }
 
-// The type with every field final; a field that was not final has its type made read-only too.
+// The read-only form: every field of a struct final, and so on through the types of the fields that were not; other types themselves.
 pub fn make_ro(words: &mut [u64], index: &mut [u64], memory: &mut [u64], a: u64) -> Made
     requires { ⌜ OpenStore (now words) (now index) (now memory) ⌝ }
     ensures { λ r. ⌜ left (made r) (now (words .exit)) ≡ run (make_ro a) (now (words .entry)) ⌝ }

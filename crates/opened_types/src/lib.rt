@@ -9,7 +9,7 @@ ghost use Rattle.call.specs.Call.{left, made, told};
 ghost use Rattle.every_call.specs.Run.{run, kind, get_bool, get_int, make_int, get_float, make_float, get_tuple, get_str, get_struct, make_ary, make_struct_fref, get_mem_ptr, get_mem};
 ghost use Rattle.opened.specs.OpenStore.{OpenStore};
 
-// The kind of a type, which the Rust's casts stand for.
+// The kind of a type, which stands for the Rust's casts.
 pub fn kind(words: &[u64], index: &[u64], memory: &mut [u64], h: u64) -> Answer
     requires { ⌜ OpenStore (now words) (now index) (now memory) ⌝ }
     ensures { λ r. ⌜ left (told r) (now (words .entry)) ≡ run (kind h) (now (words .entry)) ⌝ }

@@ -6,13 +6,13 @@ use native.Mathlib.Omega.{arith}
 use lib.ListN.{length}
 use Rattle.words.specs.declared.Interned.{Interned}
 use Rattle.parts.specs.Parts.{Ready, ReadyOne}
-use Rattle.meet.specs.Meet.{Met}
+use Rattle.meet.specs.Met.{Met}
 use Rattle.walk_rules.specs.declared.Walk.{Walk}
 use Rattle.walk.specs.Walked.{Walked}
-use Rattle.make_ro.specs.ReadOnly.{MadeRo}
+use Rattle.make_ro.specs.MadeRo.{MadeRo}
 use Rattle.make_ro.specs.Remembered.{Remembered}
 use Rattle.join.specs.Join.{joinOf}
-use Rattle.words.specs.Made.{Runs}
+use Rattle.words.specs.Ran.{Runs}
 use Rattle.own_memory.specs.declared.Operation.{Operation}
 use Rattle.own_memory.specs.declared.Operation.the-variants.{Meet, Walk as OfWalk, MakeRo, Join}
 use Rattle.own_memory.specs.Done.{Asked, Done, KnowsAfter}

@@ -1,21 +1,28 @@
 // The operations that walk, with a memory of their own: blank at the start, gone at the end. A small type asks a few lines and no more. Else its size goes by the store, since blanking
 // a memory must cost little beside row 1, which reads the whole store: up to 4,096 words a line for each word, and so a line of its own for each type; above that 8,192 lines.
 //
-// Each range of sizes is a function of its own, so that a call on a small store or type does not set up the frame that a large memory needs.
+// Each range of sizes is a function of its own; the compiler puts them into `sized`, which is apart from its callers, so that only a walk without a lent memory sets up the frame that a large one needs.
 use walk_rules::Walk;
 use words::Interned;
+use words::kinds;
 ghost use mathlib.Core.Path.{_≡_};
 ghost use mathlib.Core.List.{_++_};
 ghost use Prim.Native.Nat.{ℕ, _+_, _≤_};
 ghost use lib.ListN.{length, take, getD};
 ghost use Rattle.index.specs.Covers.{Covers};
-ghost use Rattle.words.specs.Made.{Runs};
+ghost use Rattle.words.specs.Ran.{Runs};
 ghost use Rattle.parts.specs.Parts.{Ready, ReadyOne};
 ghost use Rattle.join.specs.Join.{joinOf};
-ghost use Rattle.finals.specs.Final.{Finals};
-ghost use Rattle.finals.specs.Known.{Knows};
+ghost use Rattle.finals.specs.Known.{Knows, Finals};
 ghost use Rattle.own_memory.specs.declared.Operation.the-variants.{Meet, MakeRo};
 ghost use Rattle.own_memory.specs.Done.{Asked, Done, KnowsAfter};
+ghost use Rattle.words.specs.Kinds.{Bot, lastKind};
+ghost use Rattle.wellformed.specs.Form.{longestAllowed};
+
+// The lines of a small type's memory, as many as small::is_small counts; and the longest list whose memory stands in a frame of its own.
+const FEW_LINES: usize = small::MOST_TYPES;
+
+const SHORT_LIST: usize = 512;
 
 // An operation on a type, with its other operand.
 pub enum Operation {
@@ -131,10 +138,10 @@ fn sized(
     ensures { λ r. ⌜ KnowsAfter op (now (old .entry)) (now (new .exit)) r (now (known .exit)) ⌝ }
 {
     if few {
-        let mut memo = [0u64; 16];
+        let mut memo = [0u64; FEW_LINES];
         return operate(op, old, new, used, a, &mut memo, known, index);
     }
-    if old.len() + new.len() <= 512 {
+    if old.len() + new.len() <= SHORT_LIST {
         return up_to_512(op, old, new, used, a, known, index);
     }
     large(op, old, new, used, a, known, index)
@@ -156,7 +163,7 @@ pub fn run(
     ensures { λ r. ⌜ Done op (now (old .entry)) (now (new .entry)) used a (now (new .exit)) r ⌝ }
     ensures { λ r. ⌜ KnowsAfter op (now (old .entry)) (now (new .exit)) r (now (known .exit)) ⌝ }
 {
-    if words::word(old, new, used, a) % 256 < 7 {
+    if words::word(old, new, used, a) % kinds::DEPTH < kinds::FIRST_WITH_PARTS {
         let mut none = [0u64; 0];
         return operate(op, old, new, used, a, &mut none, known, index);
     }
@@ -166,12 +173,12 @@ pub fn run(
 
 // A meet that nothing is appended for: the used words are lent to be read, and there is no word behind them.
 pub fn ask(old: &[u64], new: &mut [u64], used: usize, a: usize, b: usize, index: &[u64]) -> Interned
-    requires { ⌜ Ready (now old) (now new) used 1 11 a b ⌝ }
+    requires { ⌜ Ready (now old) (now new) used Bot lastKind a b ⌝ }
     requires { ⌜ Covers (take used (now old ++ now new)) (now index) ⌝ }
     ensures { λ r. ⌜ Done (Meet b) (now (old .entry)) (now (new .entry)) used a (now (new .exit)) r ⌝ }
 {
     let mut known = [0u64; 0];
-    if words::word(old, new, used, a) % 256 < 7 {
+    if words::word(old, new, used, a) % kinds::DEPTH < kinds::FIRST_WITH_PARTS {
         let mut none = [0u64; 0];
         return operate(
             Operation::Meet(b),
@@ -199,7 +206,7 @@ pub fn ask(old: &[u64], new: &mut [u64], used: usize, a: usize, b: usize, index:
 
 // Whether both operands are small.
 fn both_small(old: &[u64], new: &[u64], used: usize, a: usize, b: usize) -> bool
-    requires { ⌜ (length (now old) ≤ used) × (used ≤ length (now old) + length (now new)) × (used ≤ 1048576) ⌝ }
+    requires { ⌜ (length (now old) ≤ used) × (used ≤ length (now old) + length (now new)) × (used ≤ longestAllowed) ⌝ }
 {
     if small::is_small(old, new, used, a) {
         return small::is_small(old, new, used, b);
@@ -216,7 +223,7 @@ pub fn join(
     b: usize,
     index: &[u64],
 ) -> Interned
-    requires { ⌜ Ready (now old) (now new) used 1 11 a b ⌝ }
+    requires { ⌜ Ready (now old) (now new) used Bot lastKind a b ⌝ }
     requires { ⌜ Covers (take used (now old ++ now new)) (now index) ⌝ }
     ensures { λ r. ⌜ Runs (λ u. joinOf u a b) (now (old .entry)) (now (new .entry)) used (now (new .exit)) r ⌝ }
 {
@@ -234,7 +241,7 @@ pub fn join(
     )
 }
 
-// The set of types that are known to be final is kept in `bits`, a bit for each word of the store, whatever they held.
+// The set of types that are known to be final is kept in `bits`, whatever they held: a bit for each word of the store, as far as they go. With fewer, types behind them are not remembered.
 pub fn is_final(old: &[u64], new: &[u64], used: usize, a: usize, bits: &mut [u64]) -> bool
     requires { ⌜ ReadyOne (now old) (now new) used a ⌝ }
     ensures { λ r. ⌜ Finals (take used (now (old .entry) ++ now (new .entry))) a r ⌝ }
@@ -243,12 +250,12 @@ pub fn is_final(old: &[u64], new: &[u64], used: usize, a: usize, bits: &mut [u64
     finals::is_final(old, new, used, a, bits)
 }
 
-// Whether make_ro walks at most one struct of a type with this head: it is neither struct nor pointer, or its parts have no parts.
+// Whether make_ro is known to walk at most one struct of a type with this head: its kind is below struct, or its parts have no parts.
 fn is_flat(head: u64) -> bool {
-    if head % 256 < 8 {
+    if head % kinds::DEPTH < kinds::STRUCT {
         return true;
     }
-    head / 256 % 256 <= 2
+    head / kinds::DEPTH % kinds::DEPTH <= 2
 }
 
 // As with is_final, `bits` may hold anything.

@@ -9,15 +9,15 @@ use lib.Dec.{eqb, leb}
 use lib.ListN.{drop}
 use Rattle.words.specs.Kinds.{lastKind}
 use Rattle.words.specs.Words.{kindOf, depthOf}
-use Rattle.words.specs.Table.{Row, entries, starts, In}
+use Rattle.words.specs.Table.{Row, entries, starts, RowIn}
 use Rattle.bitset.specs.Bitset.{nowhere}
 use Rattle.wellformed.specs.Entry.{kind, depth, count, mostOf, deepestAllowed, namesIn, typesIn, isName, takes, kindIn, kindAt, all, deepest, depthFor, valuesOk, okEntry}
 use Rattle.wellformed.specs.Form.{headsAt}
 use Rattle.wellformed.proofs.Bools.{and-left, and-right}
 use Rattle.wellformed.proofs.Before.{Checked, checked}
-use Rattle.call.specs.Handles.{word}
-use Rattle.call.specs.Keep.{Sound}
-use Rattle.parts.specs.Parts.{Part, Name, All}
+use Rattle.words.specs.Columns.{word}
+use Rattle.call.specs.Adds.{Sound}
+use Rattle.parts.specs.Parts.{Part, NameAt, All}
 use Rattle.words.proofs.Handles.{row-starts}
 
 -- ---- the tests, one by one
@@ -86,14 +86,14 @@ module _ (start : ℕ → Bool) (u : List ℕ) where
 
   -- names are of kind 0
   module _ (top : ℕ) (earlier : (h : ℕ) → start h ≡ true → (h < top) × (starts u h ≡ true)) where
-    name : (h : ℕ) → kindAt (headsAt start u) isName h ≡ true → Name u top h
+    name : (h : ℕ) → kindAt (headsAt start u) isName h ≡ true → NameAt u top h
     name h k =
         let z = eqb-true (kindOf (headsAt start u h)) 0 k in
         let t = there h (omega arith) in
         let e = earlier h (t .0) in
         record { entry = e .1; earlier = e .0; kind = rw (t .1) at z }
 
-    pub names : (hs : List ℕ) → all (kindAt (headsAt start u) isName) hs ≡ true → All (Name u top) hs
+    pub names : (hs : List ℕ) → all (kindAt (headsAt start u) isName) hs ≡ true → All (NameAt u top) hs
     unfolding all
     names [] k = tt
     names (h ∷ hs) k =
@@ -102,7 +102,7 @@ module _ (start : ℕ → Bool) (u : List ℕ) where
 
 -- ---- an entry of sound used words
 
-pub row-checked : (u : List ℕ) → Sound u → (r : Row) → In r (entries u) → Checked (λ h. starts u h ≡ true) u r
+pub row-checked : (u : List ℕ) → Sound u → (r : Row) → RowIn r (entries u) → Checked (λ h. starts u h ≡ true) u r
 unfolding entries nowhere
 row-checked u s r m =
     checked (λ h. starts u h ≡ true) u 1 0 (drop 1 u) nowhere

@@ -11,7 +11,8 @@ use Rattle.words.specs.Words.{wordsAfter, sizeOf, fills, kindOf, depthOf}
 use Rattle.words.specs.Table.{Row, rows, entries, starts, isAt, findIn}
 use Rattle.words.specs.declared.Found.{Found}
 use Rattle.words.specs.declared.Found.the-variants.{At, Nothing}
-use Rattle.words.specs.Made.{Grown, make, Segments}
+use Rattle.words.specs.Made.{Grown, make}
+use Rattle.words.specs.Ran.{Segments}
 use Rattle.words.proofs.Alike.{eqs-eq}
 use Rattle.words.proofs.Grow.{rows-append, found-in}
 use Rattle.words.proofs.Placed.{make-there, make-new as made-new}
@@ -21,11 +22,11 @@ use Rattle.wellformed.specs.Entry.{kind, depth, typesIn}
 use Rattle.wellformed.specs.Fresh.{freshWords}
 use Rattle.wellformed.specs.Form.{wellFormed, usedWords}
 use Rattle.wellformed.proofs.Before.{tests}
-use Rattle.call.specs.Handles.{word, kindOn}
-use Rattle.call.specs.Keep.{Fitting, Adds}
+use Rattle.words.specs.Columns.{word, kindOn}
+use Rattle.call.specs.Adds.{Fitting, Adds}
 use Rattle.call.proofs.Sound.{make-adds, adds-none, adds-then, in-used, start-used}
 use Rattle.call.proofs.Keep.{well-sound}
-use Rattle.parts.specs.Parts.{Good, Part, Name, All, Ready, ReadyOne}
+use Rattle.parts.specs.Parts.{Good, Part, NameAt, All, Ready, ReadyOne}
 use Rattle.words.proofs.Handles.{at-more, row-starts}
 use Rattle.parts.proofs.Spot.{entry-head}
 use Rattle.parts.proofs.Parts.{types-earlier, flat}
@@ -157,7 +158,7 @@ module _ {u : List ℕ} {g : Grown} (good : Good u) (a : Adds u g) where
       let e = adds-head h (p .entry) in
       record { entry = adds-starts h (p .entry); earlier = p .earlier; least = rw e (p .least); most = rw e (p .most); shallow = rw e (p .shallow) }
 
-  pub name-adds : {k h : ℕ} → Name u k h → Name (g .words) k h
+  pub name-adds : {k h : ℕ} → NameAt u k h → NameAt (g .words) k h
   name-adds {h = h} p = record { entry = adds-starts h (p .entry); earlier = p .earlier; kind = rw (adds-head h (p .entry)) (p .kind) }
 
 -- ---- an answer that grew the store is no old handle

@@ -7,16 +7,17 @@ use native.Mathlib.Omega.{arith}
 use lib.ListN.{length, take, drop, length-append, take-append-drop}
 use lib.Seq.{length-take-le, take-take}
 use Rattle.words.specs.Words.{fills, kindOf, countOf}
-use Rattle.words.specs.Made.{Grown, there, Segments, Ran}
+use Rattle.words.specs.Made.{Grown, there}
+use Rattle.words.specs.Ran.{Segments, Ran}
 use Rattle.words.specs.declared.Interned.{Interned}
 use Rattle.words.specs.declared.Interned.the-variants.{At, Full}
 use Rattle.words.proofs.Extend.{Extends, ext-take}
 use Rattle.words.proofs.Room.{Fit, fit, fitted, fit-front, fit-length, then, stop}
 use Rattle.index.specs.Covers.{Covers}
 use Rattle.index.proofs.Keep.{covers-more}
-use Rattle.wellformed.specs.Entry.{every, all, isAliasFinal}
-use Rattle.call.specs.Handles.{word, kindOn, countOn}
-use Rattle.call.specs.Keep.{Adds}
+use Rattle.wellformed.specs.Entry.{all, isAliasFinal}
+use Rattle.words.specs.Columns.{every, word, kindOn, countOn}
+use Rattle.call.specs.Adds.{Adds}
 use Rattle.call.proofs.Sound.{adds-none, adds-then}
 use Rattle.parts.specs.Parts.{Good, Part}
 use Rattle.parts.proofs.Parts.{of-struct}

@@ -4,8 +4,7 @@ use mathlib.Core.List.{List, _∷_}
 use Prim.Native.Nat.{ℕ, zero, suc, _+_, _-_, _*_, _<_}
 use native.Mathlib.Omega.{arith}
 use native.Mathlib.Nat.{sub-zero}
-use Rattle.wellformed.specs.Entry.{every}
-use Rattle.call.specs.Handles.{word}
+use Rattle.words.specs.Columns.{every, word}
 use Rattle.parts.specs.Parts.{All}
 
 pub every-zero : (s n p : ℕ) (u : List ℕ) → every s (n - 0) (p + s * 0) u ≡ every s n p u

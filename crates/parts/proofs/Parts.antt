@@ -8,14 +8,15 @@ use borrow.Author.Tests.{ne-eqb}
 use lib.Dec.{eqb}
 use lib.ListN.{getD}
 use Rattle.words.specs.Words.{kindOf, depthOf, countOf}
-use Rattle.words.specs.Table.{Row, entries, starts, In}
-use Rattle.wellformed.specs.Entry.{kind, depth, count, mostOf, every, namesIn, typesIn, isType, isStruct, takes, kindIn, kindAt, isFlag, isAlias, isAliasFinal, floatOk, all, deepest, valuesOk}
+use Rattle.words.specs.Table.{Row, entries, starts, RowIn}
+use Rattle.wellformed.specs.Entry.{kind, depth, count, mostOf, namesIn, typesIn, isType, isStruct, takes, kindIn, kindAt, isFlag, isAlias, isAliasFinal, floatOk, all, deepest, valuesOk}
+use Rattle.words.specs.Columns.{every, word, kindOn, depthOn, countOn}
 use Rattle.wellformed.specs.Form.{headsAt}
 use Rattle.wellformed.proofs.Sizes.{tuple-in, struct-in, fref-name, int-2, float-2, pointer-2, memory-2}
-use Rattle.call.specs.Handles.{word, kindOn, depthOn, countOn}
-use Rattle.call.specs.Keep.{Sound, Ends}
+use Rattle.call.specs.Keep.{Ends}
+use Rattle.call.specs.Adds.{Sound}
 use Rattle.words.proofs.Handles.{at-row}
-use Rattle.parts.specs.Parts.{Part, Name, All}
+use Rattle.parts.specs.Parts.{Part, NameAt, All}
 use Rattle.parts.proofs.Spot.{entry-head, row-sized, row-word, row-every}
 use Rattle.parts.proofs.Checked.{Tested, tested, parts, names, row-checked}
 
@@ -24,8 +25,8 @@ pub record TupleAt (u : List ℕ) (a : ℕ) : Type 0 where
   pub types : All (Part u a (depthOn u a) 1 11) (every 1 (countOn u a) (a + 1) u)
 
 pub record StructAt (u : List ℕ) (a : ℕ) : Type 0 where
-  pub name : Name u a (word u (a + 1))
-  pub names : All (Name u a) (every 3 (countOn u a) (a + 2) u)
+  pub name : NameAt u a (word u (a + 1))
+  pub names : All (NameAt u a) (every 3 (countOn u a) (a + 2) u)
   pub types : All (Part u a (depthOn u a) 1 11) (every 3 (countOn u a) (a + 3) u)
   pub values : all isAliasFinal (every 3 (countOn u a) (a + 4) u) ≡ true
 
@@ -49,7 +50,7 @@ most-le k = go (eqb k 0 || eqb k 7 || eqb k 8)
     go true = omega arith
     go false = omega arith
 
-module _ (u : List ℕ) (s : Sound u) (r : Row) (m : In r (entries u)) where
+module _ (u : List ℕ) (s : Sound u) (r : Row) (m : RowIn r (entries u)) where
   abbrev a : ℕ
   a = r .at
 
@@ -99,7 +100,7 @@ module _ (u : List ℕ) (s : Sound u) (r : Row) (m : In r (entries u)) where
         let ty : all (kindAt (headsAt start u) (kindIn low high)) (typesIn e) ≡ true = rw (is, p) at (t .typed) in
         parts start u low high a (depthOn u a) h earlier (typesIn e) ty (above (omega (arith, q)) .1)
 
-    names-of : All (Name u a) (namesIn e)
+    names-of : All (NameAt u a) (namesIn e)
     names-of = names start u a earlier (namesIn e) (t .named)
 
   -- its types are earlier entries, whatever its kind
@@ -127,7 +128,7 @@ module _ (u : List ℕ) (s : Sound u) (r : Row) (m : In r (entries u)) where
       let k = is 8 q in
       let c = ap countOf head in
       let l = struct-in e (row-sized u s r m) k in
-      let ns : All (Name u a) (getD e 1 0 ∷ every 3 (count e) 2 e) = rw k at names-of 8 q in
+      let ns : All (NameAt u a) (getD e 1 0 ∷ every 3 (count e) 2 e) = rw k at names-of 8 q in
       let ts : All (Part u a (depthOn u a) 1 11) (every 3 (count e) 3 e) = rw k at (types-of 8 q 1 11 (omega arith) (omega arith) refl) in
       let vs : all isAliasFinal (every 3 (count e) 4 e) ≡ true = rw k at (t .values) in
       record {
@@ -137,11 +138,11 @@ module _ (u : List ℕ) (s : Sound u) (r : Row) (m : In r (entries u)) where
         values = rw (row-every u s r m 3 (countOn u a) 4 (a + 4) refl (omega (arith, l, c)), c) vs;
       }
 
-  row-fref : kindOn u a ≡ 9 → Name u a (word u (a + 1))
+  row-fref : kindOn u a ≡ 9 → NameAt u a (word u (a + 1))
   unfolding namesIn
   row-fref q =
       let k = is 9 q in
-      let ns : All (Name u a) (getD e 1 0 ∷ []) = rw k at names-of 9 q in
+      let ns : All (NameAt u a) (getD e 1 0 ∷ []) = rw k at names-of 9 q in
       rw (row-word u s r m 1 (fref-name e (row-sized u s r m) k)) (ns .0)
 
   row-pointer : kindOn u a ≡ 10 → PointerAt u a
@@ -180,7 +181,7 @@ module _ (u : List ℕ) (s : Sound u) (r : Row) (m : In r (entries u)) where
 -- ---- the entry of a part
 
 module _ {u : List ℕ} (s : Sound u) {top d low high h : ℕ} (p : Part u top d low high h) where
-  abbrev found : (r : Row) × (In r (entries u)) × (r .at ≡ h)
+  abbrev found : (r : Row) × (RowIn r (entries u)) × (r .at ≡ h)
   found = at-row (entries u) h (p .entry)
 
   pub few : countOn u h ≤ 255
@@ -203,7 +204,7 @@ module _ {u : List ℕ} (s : Sound u) {top d low high h : ℕ} (p : Part u top d
   pub of-struct : kindOn u h ≡ 8 → StructAt u h
   of-struct = rw (found .2) at (row-struct u s (found .0) (found .1))
 
-  pub of-fref : kindOn u h ≡ 9 → Name u h (word u (h + 1))
+  pub of-fref : kindOn u h ≡ 9 → NameAt u h (word u (h + 1))
   of-fref = rw (found .2) at (row-fref u s (found .0) (found .1))
 
   pub of-pointer : kindOn u h ≡ 10 → PointerAt u h

@@ -9,20 +9,20 @@ use native.Mathlib.Nat.{add-zero}
 use lib.ListN.{length, take, drop, getD, length-drop}
 use lib.Seq.{length-take-le, getD-take, getD-drop}
 use Rattle.words.specs.Words.{sizeOf, fills}
-use Rattle.words.specs.Table.{Row, rows, entries, Sized, In}
+use Rattle.words.specs.Table.{Row, rows, entries, RowIn}
+use Rattle.words.specs.Ran.{HasSize}
 use Rattle.words.proofs.Walk.{size-pos, long}
-use Rattle.wellformed.specs.Entry.{every}
-use Rattle.call.specs.Handles.{word}
-use Rattle.call.specs.Keep.{Sound}
+use Rattle.words.specs.Columns.{every, word}
+use Rattle.call.specs.Adds.{Sound}
 use Rattle.words.proofs.Handles.{rows-bound}
 
 -- ---- words
 
 -- a row's first word stands at its handle
-past : (x w at k : ℕ) (l : List ℕ) (r : Row) → In r (rows (suc at) k l) → getD l (r .at - suc at) 0 ≡ x → getD (w ∷ l) (r .at - at) 0 ≡ x
+past : (x w at k : ℕ) (l : List ℕ) (r : Row) → RowIn r (rows (suc at) k l) → getD l (r .at - suc at) 0 ≡ x → getD (w ∷ l) (r .at - at) 0 ≡ x
 past x w at k l r i e = let q : r .at - at ≡ suc (r .at - suc at) = omega (arith, rows-bound (suc at) k l r i .0) in rw q e
 
-rows-head : (at k : ℕ) (l : List ℕ) (r : Row) → In r (rows at k l) → getD l (r .at - at) 0 ≡ getD (r .words) 0 0
+rows-head : (at k : ℕ) (l : List ℕ) (r : Row) → RowIn r (rows at k l) → getD l (r .at - at) 0 ≡ getD (r .words) 0 0
 unfolding rows
 rows-head at zero [] r m = absurd (List·Memᴰ·not-nil m)
 rows-head at (suc k) [] r m = absurd (List·Memᴰ·not-nil m)
@@ -30,11 +30,11 @@ rows-head at zero (w ∷ l) r m =
     let k = pred (sizeOf w) in
     ⊎-elim
     (λ (e : r ≡ record { at = at; words = take (sizeOf w) (w ∷ l) }). let z : at - at ≡ 0 = omega arith in rw (e, z) (sym (getD-take (sizeOf w) (w ∷ l) 0 0 (size-pos w))))
-    (λ (i : In r (rows (suc at) k l)). past (getD (r .words) 0 0) w at k l r i (rows-head (suc at) k l r i))
+    (λ (i : RowIn r (rows (suc at) k l)). past (getD (r .words) 0 0) w at k l r i (rows-head (suc at) k l r i))
     (List·Memᴰ·cases-cons m)
 rows-head at (suc k) (w ∷ l) r m = past (getD (r .words) 0 0) w at k l r m (rows-head (suc at) k l r m)
 
-pub entry-head : (u : List ℕ) (r : Row) → In r (entries u) → word u (r .at) ≡ getD (r .words) 0 0
+pub entry-head : (u : List ℕ) (r : Row) → RowIn r (entries u) → word u (r .at) ≡ getD (r .words) 0 0
 unfolding entries
 entry-head u r m =
     let q : 1 + (r .at - 1) ≡ r .at = omega (arith, rows-bound 1 0 (drop 1 u) r m .0) in
@@ -45,10 +45,10 @@ record Spot (at : ℕ) (l : List ℕ) (r : Row) : Type 0 where
   pub off : ℕ
   pub is : r .at ≡ at + off
   pub words : r .words ≡ take (length (r .words)) (drop off l)
-  pub sized : Sized (r .words)
+  pub sized : HasSize (r .words)
   pub inside : off + length (r .words) ≤ length l
 
-spot : (at k : ℕ) (l : List ℕ) (r : Row) → fills k l ≡ true → In r (rows at k l) → Spot at l r
+spot : (at k : ℕ) (l : List ℕ) (r : Row) → fills k l ≡ true → RowIn r (rows at k l) → Spot at l r
 unfolding fills rows
 spot at zero [] r f i = absurd (List·Memᴰ·not-nil i)
 spot at (suc k) [] r f i = absurd (List·Memᴰ·not-nil i)
@@ -68,12 +68,12 @@ spot at (suc k) (w ∷ l) r f i =
     let s = spot (suc at) k l r f i in
     record { off = suc (s .off); is = s .is ∙ omega arith; words = s .words; sized = s .sized; inside = omega (arith, s .inside) }
 
-module _ (u : List ℕ) (s : Sound u) (r : Row) (m : In r (entries u)) where
+module _ (u : List ℕ) (s : Sound u) (r : Row) (m : RowIn r (entries u)) where
   here : Spot 1 (drop 1 u) r
   unfolding entries
   here = spot 1 0 (drop 1 u) r (s .full) m
 
-  pub row-sized : Sized (r .words)
+  pub row-sized : HasSize (r .words)
   row-sized = here .sized
 
   pub row-long : 0 < length (r .words)

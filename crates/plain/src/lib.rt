@@ -12,11 +12,13 @@ ghost use Rattle.call.specs.Call.{left, made, told};
 ghost use Rattle.every_call.specs.Run.{run};
 ghost use Rattle.making.specs.Making.{appended};
 ghost use Rattle.asking.specs.Asking.{asked};
+ghost use Rattle.wellformed.specs.Form.{longestAllowed};
+ghost use Rattle.bitset.specs.Bitset.{wordBits};
 
 // ---- calls that append
 
 fn append_in(words: &mut [u64], bits: &mut [u64], making: Making, list: &[u64], text: &[u8]) -> Made
-    requires { ⌜ min (length (now words)) 1048576 ≤ 64 * length (now bits) ⌝ }
+    requires { ⌜ min (length (now words)) longestAllowed ≤ wordBits * length (now bits) ⌝ }
     ensures { λ r. ⌜ left (made r) (now (words .exit)) ≡ run (appended making (now (list .entry)) (now (text .entry))) (now (words .entry)) ⌝ }
 {
     let used = call::begin(words, bits);
@@ -35,15 +37,15 @@ fn append_in(words: &mut [u64], bits: &mut [u64], making: Making, list: &[u64], 
 pub fn append(words: &mut [u64], making: Making, list: &[u64], text: &[u8]) -> Made
     ensures { λ r. ⌜ left (made r) (now (words .exit)) ≡ run (appended making (now (list .entry)) (now (text .entry))) (now (words .entry)) ⌝ }
 {
-    if words.len() <= 4096 {
-        let mut bits = [0u64; 64];
+    if words.len() <= wellformed::SMALL_LIST {
+        let mut bits = [0u64; wellformed::SMALL_MARKS];
         return append_in(words, &mut bits, making, list, text);
     }
-    if words.len() <= 65536 {
-        let mut bits = [0u64; 1024];
+    if words.len() <= wellformed::MIDDLE_LIST {
+        let mut bits = [0u64; wellformed::MIDDLE_MARKS];
         return append_in(words, &mut bits, making, list, text);
     }
-    let mut bits = [0u64; 16384];
+    let mut bits = [0u64; wellformed::LARGE_MARKS];
     append_in(words, &mut bits, making, list, text)
 }
 
@@ -57,7 +59,7 @@ pub fn make(words: &mut [u64], making: Making) -> Made
 // ---- calls that read
 
 fn ask_in(words: &[u64], bits: &mut [u64], asking: Asking) -> Answer
-    requires { ⌜ min (length (now words)) 1048576 ≤ 64 * length (now bits) ⌝ }
+    requires { ⌜ min (length (now words)) longestAllowed ≤ wordBits * length (now bits) ⌝ }
     ensures { λ r. ⌜ left (told r) (now (words .entry)) ≡ run (asked asking) (now (words .entry)) ⌝ }
 {
     let used = call::begin(words, bits);
@@ -76,14 +78,14 @@ fn ask_in(words: &[u64], bits: &mut [u64], asking: Asking) -> Answer
 pub fn ask(words: &[u64], asking: Asking) -> Answer
     ensures { λ r. ⌜ left (told r) (now (words .entry)) ≡ run (asked asking) (now (words .entry)) ⌝ }
 {
-    if words.len() <= 4096 {
-        let mut bits = [0u64; 64];
+    if words.len() <= wellformed::SMALL_LIST {
+        let mut bits = [0u64; wellformed::SMALL_MARKS];
         return ask_in(words, &mut bits, asking);
     }
-    if words.len() <= 65536 {
-        let mut bits = [0u64; 1024];
+    if words.len() <= wellformed::MIDDLE_LIST {
+        let mut bits = [0u64; wellformed::MIDDLE_MARKS];
         return ask_in(words, &mut bits, asking);
     }
-    let mut bits = [0u64; 16384];
+    let mut bits = [0u64; wellformed::LARGE_MARKS];
     ask_in(words, &mut bits, asking)
 }

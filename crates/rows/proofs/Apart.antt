@@ -6,7 +6,8 @@ use Prim.Native.Nat.{ℕ, _+_, _-_, _≤_, _<_}
 use native.Mathlib.Omega.{arith}
 use borrow.Author.Tests.{le-leb, lt-leb, not-true, not-false}
 use lib.ListN.{getD}
-use Rattle.wellformed.specs.Entry.{every, all}
+use Rattle.wellformed.specs.Entry.{all}
+use Rattle.words.specs.Columns.{every}
 use Rattle.rows.specs.Tests.{atMost}
 use Rattle.makers.proofs.Fields.{every-first}
 

@@ -12,8 +12,8 @@ use lib.Seq.{length-take-le}
 use Rattle.words.specs.Table.{starts}
 use Rattle.bitset.specs.Bitset.{bitAt}
 use Rattle.wellformed.specs.Entry.{kindIn, kindAt, all, deepest}
-use Rattle.call.specs.Steps.{Open}
-use Rattle.call.specs.Handles.{word, kindOn}
+use Rattle.call.specs.Steps.{Marked}
+use Rattle.words.specs.Columns.{word, kindOn}
 use Rattle.names.specs.Name.{wrapped}
 use Rattle.makers.specs.Makers.{neverNil, aryRows}
 use Rattle.rows.proofs.Column.{deeper, flat, unknown, known}
@@ -46,7 +46,7 @@ module _ (u : List ℕ) (body k : ℕ) (is : k ≡ kindOn u body) where
 
 -- ---- the rows
 
-module _ (ws bits : List ℕ) (used : ℕ) (o : Open ws bits used) (len la body ba : ℕ) (text : List ℕ) (t : Bool) (is : t ≡ all (bitAt bits) (len ∷ body ∷ [])) where
+module _ (ws bits : List ℕ) (used : ℕ) (o : Marked ws bits used) (len la body ba : ℕ) (text : List ℕ) (t : Bool) (is : t ≡ all (bitAt bits) (len ∷ body ∷ [])) where
   abbrev u : List ℕ
   u = take used ws
 

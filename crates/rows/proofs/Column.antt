@@ -11,8 +11,9 @@ use lib.ListN.{length, take}
 use Rattle.words.specs.Table.{starts}
 use Rattle.bitset.specs.Bitset.{bitAt}
 use Rattle.wellformed.specs.Entry.{kindIn, isName, kindAt, all, deepest}
-use Rattle.call.specs.Steps.{Open}
-use Rattle.call.specs.Handles.{word, tooDeep, typesRows}
+use Rattle.call.specs.Steps.{Marked}
+use Rattle.call.specs.Handles.{tooDeep, typesRows}
+use Rattle.words.specs.Columns.{word}
 use Rattle.makers.specs.Makers.{tupleRows, frefRows, partRows}
 
 -- kind 0 alone
@@ -35,7 +36,7 @@ pub flat : (u hs : List ℕ) (d : ℕ) → d ≡ deepest (word u) hs → d ≤ 3
 flat u hs d is h = le-ltb 32 (1 + deepest (word u) hs) (omega arith)
 
 -- handles that start entries
-module _ (ws bits : List ℕ) (used : ℕ) (o : Open ws bits used) (hs : List ℕ) (t : Bool) (is : t ≡ all (bitAt bits) hs) where
+module _ (ws bits : List ℕ) (used : ℕ) (o : Marked ws bits used) (hs : List ℕ) (t : Bool) (is : t ≡ all (bitAt bits) hs) where
   same : all (starts (take used ws)) hs ≡ t
   same = sym (rw (o .marks) at is)
 
@@ -45,7 +46,7 @@ module _ (ws bits : List ℕ) (used : ℕ) (o : Open ws bits used) (hs : List �
   pub known : not t ≡ false → all (starts (take used ws)) hs ≡ true
   known y = same ∙ not-false t y
 
-module _ (ws bits : List ℕ) (used : ℕ) (o : Open ws bits used) where
+module _ (ws bits : List ℕ) (used : ℕ) (o : Marked ws bits used) where
   abbrev u : List ℕ
   u = take used ws
 

@@ -8,8 +8,8 @@ use lib.ListN.{length, take}
 use Rattle.words.specs.Table.{starts}
 use Rattle.bitset.specs.Bitset.{bitAt}
 use Rattle.wellformed.specs.Entry.{kindIn, isName, isType, kindAt, all, deepest}
-use Rattle.call.specs.Steps.{Open}
-use Rattle.call.specs.Handles.{word}
+use Rattle.call.specs.Steps.{Marked}
+use Rattle.words.specs.Columns.{word}
 use Rattle.makers.specs.Entries.{fieldNames, fieldTypes, fieldAliases, fieldFinals}
 use Rattle.makers.specs.Makers.{structRows}
 use Rattle.rows.specs.Tests.{atMost, anyNot}
@@ -49,7 +49,7 @@ module _ (u names types : List ℕ) (name : ℕ) where
 
 -- ---- the rows
 
-module _ (ws bits : List ℕ) (used : ℕ) (o : Open ws bits used) (name : ℕ) (fs : List ℕ) (s : Bool)
+module _ (ws bits : List ℕ) (used : ℕ) (o : Marked ws bits used) (name : ℕ) (fs : List ℕ) (s : Bool)
     (is : s ≡ anyNot (all (bitAt bits) (name ∷ [])) (all (bitAt bits) (fieldNames fs)) (all (bitAt bits) (fieldTypes fs))) where
   abbrev u : List ℕ
   u = take used ws

@@ -1,12 +1,16 @@
 // The tests that turn a maker's call back, on a store that row 1 has passed. Each gives the number of its first row that applies, or 0.
+use words::columns;
+use words::kinds;
+use words::limits;
 ghost use mathlib.Core.Path.{_≡_};
 ghost use mathlib.Core.List.{_∷_, []};
 ghost use Prim.Native.Nat.{_<_, _≤_};
 ghost use lib.ListN.{length, take};
 ghost use Rattle.bitset.specs.Bitset.{bitAt};
-ghost use Rattle.wellformed.specs.Entry.{kindIn, kindAt, isName, isType, every, all};
-ghost use Rattle.call.specs.Steps.{Open};
-ghost use Rattle.call.specs.Handles.{word, typesRows};
+ghost use Rattle.wellformed.specs.Entry.{kindIn, kindAt, isName, isType, all};
+ghost use Rattle.words.specs.Columns.{every, word};
+ghost use Rattle.call.specs.Steps.{Marked};
+ghost use Rattle.call.specs.Handles.{typesRows};
 ghost use Rattle.rows.specs.Tests.{atMost, anyNot};
 ghost use Rattle.makers.specs.Entries.{fieldCount, fieldNames, fieldTypes};
 ghost use Rattle.makers.specs.Makers.{tupleRows, frefRows, partRows, structRows, neverNil, aryRows};
@@ -14,49 +18,49 @@ ghost use Rattle.makers.specs.Makers.{tupleRows, frefRows, partRows, structRows
 // ---- types
 
 pub fn types_rows(words: &[u64], used: usize, bits: &[u64], hs: &[u64]) -> u8
-    requires { ⌜ Open (now words) (now bits) used ⌝ }
+    requires { ⌜ Marked (now words) (now bits) used ⌝ }
     ensures { λ r. ⌜ r ≡ typesRows (now (hs .entry)) (take used (now (words .entry))) ⌝ }
 {
     if !call::all_start(&*bits, &*hs) {
-        return 2;
+        return 2; // a handle starts no entry
     }
     let none = [0u64; 0];
-    if !call::all_kinds(&none, &*words, used, &*hs, 1, 11) {
-        return 3;
+    if !call::all_kinds(&none, &*words, used, &*hs, kinds::BOT, kinds::MEM) {
+        return 3; // of a kind that the call does not take
     }
     0
 }
 
 pub fn tuple_rows(words: &[u64], used: usize, bits: &[u64], types: &[u64]) -> u8
-    requires { ⌜ Open (now words) (now bits) used ⌝ }
+    requires { ⌜ Marked (now words) (now bits) used ⌝ }
     ensures { λ r. ⌜ r ≡ tupleRows (now (types .entry)) (take used (now (words .entry))) ⌝ }
 {
     if !call::all_start(&*bits, &*types) {
-        return 2;
+        return 2; // a handle starts no entry
     }
     let none = [0u64; 0];
-    if !call::all_kinds(&none, &*words, used, &*types, 1, 11) {
-        return 3;
+    if !call::all_kinds(&none, &*words, used, &*types, kinds::BOT, kinds::MEM) {
+        return 3; // of a kind that the call does not take
     }
-    if types.len() > 255 {
-        return 5;
+    if types.len() > limits::MOST_COUNTED {
+        return 5; // too many elements
     }
-    if call::deep(&none, &*words, used, &*types) > 31 {
-        return 6;
+    if call::deep(&none, &*words, used, &*types) > limits::DEEPEST_WITHIN {
+        return 6; // too deep
     }
     0
 }
 
 pub fn fref_rows(words: &[u64], used: usize, bits: &[u64], name: u64) -> u8
-    requires { ⌜ Open (now words) (now bits) used ⌝ }
+    requires { ⌜ Marked (now words) (now bits) used ⌝ }
     ensures { λ r. ⌜ r ≡ frefRows name (take used (now (words .entry))) ⌝ }
 {
     if !call::all_start(&*bits, &[name]) {
-        return 2;
+        return 2; // a handle starts no entry
     }
     let none = [0u64; 0];
-    if !call::all_kinds(&none, &*words, used, &[name], 0, 0) {
-        return 3;
+    if !call::all_kinds(&none, &*words, used, &[name], kinds::NAME, kinds::NAME) {
+        return 3; // of a kind that the call does not take
     }
     0
 }
@@ -71,21 +75,21 @@ pub fn part_rows(
     high: u64,
     taken: bool,
 ) -> u8
-    requires { ⌜ Open (now words) (now bits) used ⌝ }
+    requires { ⌜ Marked (now words) (now bits) used ⌝ }
     ensures { λ r. ⌜ r ≡ partRows (kindIn low high) taken h (take used (now (words .entry))) ⌝ }
 {
     if !call::all_start(&*bits, &[h]) {
-        return 2;
+        return 2; // a handle starts no entry
     }
     let none = [0u64; 0];
     if !call::all_kinds(&none, &*words, used, &[h], low, high) {
-        return 3;
+        return 3; // of a kind that the call does not take
     }
     if !taken {
-        return 4;
+        return 4; // a value that the maker does not take
     }
-    if call::deep(&none, &*words, used, &[h]) > 31 {
-        return 6;
+    if call::deep(&none, &*words, used, &[h]) > limits::DEEPEST_WITHIN {
+        return 6; // too deep
     }
     0
 }
@@ -97,12 +101,12 @@ fn fields_start(bits: &[u64], fields: &[u64], p: usize) -> bool
     ensures { λ r. ⌜ r ≡ all (bitAt (now (bits .entry))) (every 4 (fieldCount (now (fields .entry))) p (now (fields .entry))) ⌝ }
 {
     let mut at = p;
-    let mut j = fields.len() / 4;
+    let mut j = fields.len() / columns::LENT_FIELD;
     while 0 < j {
         if !bitset::contains(&*bits, fields[at]) {
             return false;
         }
-        at += 4;
+        at += columns::LENT_FIELD;
         j -= 1;
     }
     true
@@ -114,12 +118,12 @@ fn fields_kind(words: &[u64], used: usize, fields: &[u64], p: usize, low: u64, h
 {
     let none = [0u64; 0];
     let mut at = p;
-    let mut j = fields.len() / 4;
+    let mut j = fields.len() / columns::LENT_FIELD;
     while 0 < j {
         if !call::all_kinds(&none, &*words, used, &[fields[at]], low, high) {
             return false;
         }
-        at += 4;
+        at += columns::LENT_FIELD;
         j -= 1;
     }
     true
@@ -130,12 +134,12 @@ fn fields_most(fields: &[u64], p: usize, most: u64) -> bool
     ensures { λ r. ⌜ r ≡ all (atMost most) (every 4 (fieldCount (now (fields .entry))) p (now (fields .entry))) ⌝ }
 {
     let mut at = p;
-    let mut j = fields.len() / 4;
+    let mut j = fields.len() / columns::LENT_FIELD;
     while 0 < j {
         if fields[at] > most {
             return false;
         }
-        at += 4;
+        at += columns::LENT_FIELD;
         j -= 1;
     }
     true
@@ -148,10 +152,10 @@ fn struct_unknown(bits: &[u64], name: u64, fields: &[u64]) -> bool
     if !call::all_start(&*bits, &[name]) {
         return true;
     }
-    if !fields_start(&*bits, &*fields, 0) {
+    if !fields_start(&*bits, &*fields, columns::LENT_NAME) {
         return true;
     }
-    !fields_start(&*bits, &*fields, 1)
+    !fields_start(&*bits, &*fields, columns::LENT_TYPE)
 }
 
 // Whether row 3 applies.
@@ -160,40 +164,54 @@ fn struct_unfit(words: &[u64], used: usize, name: u64, fields: &[u64]) -> bool
     ensures { λ r. ⌜ r ≡ anyNot (all (kindAt (word (take used (now (words .entry)))) isName) (name ∷ [])) (all (kindAt (word (take used (now (words .entry)))) isName) (fieldNames (now (fields .entry)))) (all (kindAt (word (take used (now (words .entry)))) isType) (fieldTypes (now (fields .entry)))) ⌝ }
 {
     let none = [0u64; 0];
-    if !call::all_kinds(&none, &*words, used, &[name], 0, 0) {
+    if !call::all_kinds(&none, &*words, used, &[name], kinds::NAME, kinds::NAME) {
         return true;
     }
-    if !fields_kind(&*words, used, &*fields, 0, 0, 0) {
+    if !fields_kind(
+        &*words,
+        used,
+        &*fields,
+        columns::LENT_NAME,
+        kinds::NAME,
+        kinds::NAME,
+    ) {
         return true;
     }
-    !fields_kind(&*words, used, &*fields, 1, 1, 11)
+    !fields_kind(
+        &*words,
+        used,
+        &*fields,
+        columns::LENT_TYPE,
+        kinds::BOT,
+        kinds::MEM,
+    )
 }
 
 pub fn struct_rows(words: &[u64], used: usize, bits: &[u64], name: u64, fields: &[u64]) -> u8
-    requires { ⌜ Open (now words) (now bits) used ⌝ }
+    requires { ⌜ Marked (now words) (now bits) used ⌝ }
     ensures { λ r. ⌜ r ≡ structRows name (now (fields .entry)) (take used (now (words .entry))) ⌝ }
 {
     if struct_unknown(&*bits, name, &*fields) {
-        return 2;
+        return 2; // a handle starts no entry
     }
     if struct_unfit(&*words, used, name, &*fields) {
-        return 3;
+        return 3; // of a kind that the call does not take
     }
-    if fields.len() % 4 != 0 {
+    if fields.len() % columns::LENT_FIELD != 0 {
         return 4; // an unfinished field
     }
-    if !fields_most(&*fields, 2, 4294967295) {
-        return 4;
+    if !fields_most(&*fields, columns::LENT_ALIAS, limits::LARGEST_ALIAS) {
+        return 4; // a value that the maker does not take
     }
-    if !fields_most(&*fields, 3, 1) {
-        return 4;
+    if !fields_most(&*fields, columns::LENT_FINAL, limits::LARGEST_FLAG) {
+        return 4; // a value that the maker does not take
     }
-    if fields.len() / 4 > 255 {
+    if fields.len() / columns::LENT_FIELD > limits::MOST_COUNTED {
         return 5; // too many fields
     }
     let none = [0u64; 0];
-    if makers::fields_deep(&none, &*words, used, &*fields) > 31 {
-        return 6;
+    if makers::fields_deep(&none, &*words, used, &*fields) > limits::DEEPEST_WITHIN {
+        return 6; // too deep
     }
     0
 }
@@ -206,10 +224,10 @@ fn never_nil(words: &[u64], used: usize, body: u64) -> bool
     ensures { λ r. ⌜ r ≡ neverNil (take used (now (words .entry))) body ⌝ }
 {
     let none = [0u64; 0];
-    if call::kind_on(&none, &*words, used, body) != 10 {
+    if call::kind_on(&none, &*words, used, body) != kinds::MEM_PTR {
         return false;
     }
-    words::word(&none, &*words, used, body as usize + 2) == 0
+    words::word(&none, &*words, used, body as usize + columns::NIL) == 0
 }
 
 pub fn ary_rows(
@@ -222,33 +240,33 @@ pub fn ary_rows(
     body_alias: u64,
     text: &[u8],
 ) -> u8
-    requires { ⌜ Open (now words) (now bits) used ⌝ }
+    requires { ⌜ Marked (now words) (now bits) used ⌝ }
     ensures { λ r. ⌜ r ≡ aryRows len «len_alias» body «body_alias» (now (text .entry)) (take used (now (words .entry))) ⌝ }
 {
     if !call::all_start(&*bits, &[len, body]) {
-        return 2;
+        return 2; // a handle starts no entry
     }
     let none = [0u64; 0];
-    if !call::all_kinds(&none, &*words, used, &[len], 5, 5) {
-        return 3;
+    if !call::all_kinds(&none, &*words, used, &[len], kinds::INT, kinds::INT) {
+        return 3; // of a kind that the call does not take
     }
-    if !call::all_kinds(&none, &*words, used, &[body], 1, 11) {
-        return 3;
+    if !call::all_kinds(&none, &*words, used, &[body], kinds::BOT, kinds::MEM) {
+        return 3; // of a kind that the call does not take
     }
-    if len_alias > 4294967295 {
-        return 4;
+    if len_alias > limits::LARGEST_ALIAS {
+        return 4; // a value that the maker does not take
     }
-    if body_alias > 4294967295 {
-        return 4;
+    if body_alias > limits::LARGEST_ALIAS {
+        return 4; // a value that the maker does not take
     }
-    if text.len() > 253 {
-        return 5;
+    if text.len() > limits::LONGEST_TEXT {
+        return 5; // a name that is too long
     }
-    if call::deep(&none, &*words, used, &[len, body]) > 31 {
-        return 6;
+    if call::deep(&none, &*words, used, &[len, body]) > limits::DEEPEST_WITHIN {
+        return 6; // too deep
     }
     if never_nil(&*words, used, body) {
-        return 10;
+        return 10; // a body that is never nil
     }
     0
 }

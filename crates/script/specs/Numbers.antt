@@ -1,4 +1,4 @@
--- What a word of a script says as a number: "Numbers are decimal (negative ones as two's complement words) or 0x hex".
+-- What a word of a script says as a number: decimal, a negative one as its two's complement word, or 0x hex.
 -- A word is the list of its bytes.
 use mathlib.Core.Bool.{Bool, true, cond, _&&_}
 use mathlib.Core.List.{List, [], _∷_}
@@ -12,12 +12,37 @@ use Rattle.script.specs.declared.values.Value.the-variants.{Is, Bad}
 abbrev pub between : ℕ → ℕ → ℕ → Bool
 between low high b = leb low b && leb b high
 
--- what a byte says as a digit: `0` to `9`, then `A` to `F` and `a` to `f`; 16 where it is none
+-- the bytes that numbers are written with
+abbrev pub digit0 : ℕ
+digit0 = 48
+
+abbrev pub digit9 : ℕ
+digit9 = 57
+
+abbrev pub largeA : ℕ
+largeA = 65
+
+abbrev pub largeF : ℕ
+largeF = 70
+
+abbrev pub smallA : ℕ
+smallA = 97
+
+abbrev pub smallF : ℕ
+smallF = 102
+
+abbrev pub dash : ℕ
+dash = 45
+
+abbrev pub smallX : ℕ
+smallX = 120
+
+-- what a byte says as a digit: `0` to `9`, then `A` to `F` and `a` to `f`, of which `A` and `a` say 10; 16 where it is none
 unfoldable pub digitOf : ℕ → ℕ
 digitOf b =
-    cond (between 48 57 b) (b - 48)
-    (cond (between 65 70 b) (b - 55)
-    (cond (between 97 102 b) (b - 87) 16))
+    cond (between digit0 digit9 b) (b - digit0)
+    (cond (between largeA largeF b) (b - (largeA - 10))
+    (cond (between smallA smallF b) (b - (smallA - 10)) 16))
 
 -- each byte is a digit of the base
 unfoldable pub allDigits : ℕ → List ℕ → Bool
@@ -46,6 +71,6 @@ negativeOf Bad = Bad
 -- `-` and a magnitude; `0x` and 1 to 16 hex digits; else 1 to 20 decimal digits
 unfoldable pub numberOf : List ℕ → Value
 numberOf word =
-    cond (eqb (getD word 0 0) 45) (negativeOf (unsignedOf 10 20 (drop 1 word)))
-    (cond (eqb (getD word 0 0) 48 && eqb (getD word 1 0) 120) (unsignedOf 16 16 (drop 2 word))
+    cond (eqb (getD word 0 0) dash) (negativeOf (unsignedOf 10 20 (drop 1 word)))
+    (cond (eqb (getD word 0 0) digit0 && eqb (getD word 1 0) smallX) (unsignedOf 16 16 (drop 2 word))
     (unsignedOf 10 20 word))

@@ -7,7 +7,8 @@ use native.Mathlib.Omega.{arith}
 use borrow.Author.Tests.{not-true, not-false}
 use lib.ListN.{length, take, drop, getD}
 use Rattle.words.specs.Words.{fills}
-use Rattle.words.specs.Made.{make, Ran}
+use Rattle.words.specs.Made.{make}
+use Rattle.words.specs.Ran.{Ran}
 use Rattle.words.specs.declared.Found.{Found}
 use Rattle.words.specs.declared.Interned.{Interned}
 use Rattle.index.specs.Covers.{Opened}

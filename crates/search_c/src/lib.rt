@@ -9,9 +9,10 @@ ghost use Prim.Native.Nat.{_≤_};
 ghost use lib.ListN.{length, take, drop};
 ghost use Rattle.words.specs.Words.{fills};
 ghost use Rattle.words.specs.Table.{findIn};
-ghost use Rattle.words.specs.Made.{make, Segments};
+ghost use Rattle.words.specs.Made.{make};
+ghost use Rattle.words.specs.Ran.{Segments};
 ghost use Rattle.index.specs.Covers.{Covers, Opened};
-ghost use Rattle.names.specs.Name.{nameEntry};
+ghost use Rattle.names.specs.Name.{nameEntry, longestText};
 ghost use Rattle.search_c.specs.Handle.{ofFound, ofInterned, Ready, Left};
 
 // A handle, 0 for nothing.
@@ -87,7 +88,7 @@ pub extern "C" fn bench_intern_name(
     index: &[u64],
 ) -> u64
     requires { ⌜ Segments [] (now words) used ⌝ }
-    requires { ⌜ length (now name) ≤ 65535 ⌝ }
+    requires { ⌜ length (now name) ≤ longestText ⌝ }
     requires { ⌜ Covers (take used (now words)) (now index) ⌝ }
     ensures { λ r. ⌜ Left used (make (take used (now (words .entry))) (nameEntry (now (name .entry)))) (now (words .entry)) (now (words .exit)) r ⌝ }
 {

@@ -6,10 +6,11 @@ use Prim.Native.Nat.{ℕ, suc, _+_, _*_, _/_, _≤_}
 use native.Mathlib.Omega.{arith}
 use borrow.Author.Tests.{le-leb, leb-true}
 use lib.ListN.{length, getD}
-use Rattle.wellformed.specs.Entry.{every, all, isFlag, isAlias, isAliasFinal}
+use Rattle.wellformed.specs.Entry.{all, isFlag, isAlias, isAliasFinal}
+use Rattle.words.specs.Columns.{every, word}
 use Rattle.wellformed.proofs.Bools.{and-left, and-right, and-both}
-use Rattle.call.specs.Handles.{word}
-use Rattle.makers.specs.Entries.{fieldCount, fieldNames, fieldTypes, fieldAliases, fieldFinals, ValuesFit}
+use Rattle.makers.specs.Entries.{fieldCount, fieldNames, fieldTypes, fieldAliases, fieldFinals}
+use Rattle.makers.specs.Fit.{ValuesFit}
 use Rattle.makers.proofs.Fields.{every-shift}
 use Rattle.structs.specs.Remade.{fieldsWith}
 

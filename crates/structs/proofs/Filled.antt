@@ -9,11 +9,13 @@ use native.Mathlib.Numerals.{add-one}
 use borrow.Rule.Slice.PartMut.{putMid}
 use lib.ListN.{length, take, drop, getD, drop-of-length-le}
 use lib.Seq.{drop-cons}
-use Rattle.words.specs.Made.{make, Ran}
+use Rattle.words.specs.Made.{make}
+use Rattle.words.specs.Ran.{Ran}
 use Rattle.words.specs.declared.Interned.{Interned}
-use Rattle.wellformed.specs.Entry.{every, all, isFlag, isAliasFinal}
-use Rattle.call.specs.Handles.{word}
-use Rattle.makers.specs.Entries.{ValuesFit, structEntry}
+use Rattle.wellformed.specs.Entry.{all, isFlag, isAliasFinal}
+use Rattle.words.specs.Columns.{every, word}
+use Rattle.makers.specs.Entries.{structEntry}
+use Rattle.makers.specs.Fit.{ValuesFit}
 use Rattle.makers.proofs.Built.{front-of}
 use Rattle.makers.proofs.Fields.{put-at}
 use Rattle.structs.specs.Remade.{fieldsWith, remake}

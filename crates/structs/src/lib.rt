@@ -1,14 +1,25 @@
 // A struct made again with other types and finals, on a store that row 1 has passed.
 use words::Interned;
+use words::columns;
+use words::limits;
 ghost use mathlib.Core.Path.{_≡_};
 ghost use mathlib.Core.Bool.{true};
 ghost use mathlib.Core.List.{_++_};
 ghost use Prim.Native.Nat.{_+_, _*_, _≤_, _<_};
 ghost use lib.ListN.{length, take, drop};
 ghost use Rattle.index.specs.Covers.{Covers};
-ghost use Rattle.words.specs.Made.{Segments, Runs};
-ghost use Rattle.wellformed.specs.Entry.{every, all, isFlag, isAliasFinal};
+ghost use Rattle.words.specs.Ran.{Segments, Runs};
+ghost use Rattle.wellformed.specs.Entry.{all, isFlag, isAliasFinal, mostCounted};
+ghost use Rattle.words.specs.Columns.{every, firstField, firstFlagsOn};
 ghost use Rattle.structs.specs.Remade.{fieldsWith, remake};
+ghost use Rattle.wellformed.specs.Form.{longestAllowed};
+
+// The words of few lent fields, and of the most.
+const FEW_FIELDS: usize = 8;
+
+const FEW_LENT: usize = columns::LENT_FIELD * FEW_FIELDS;
+
+const MOST_LENT: usize = columns::LENT_FIELD * limits::MOST_COUNTED;
 
 // Fills the first words of `dst` with the fields whose words stand from p on, with these types and finals.
 fn fields_with(
@@ -21,16 +32,19 @@ fn fields_with(
     finals: &[u64],
 )
     requires { ⌜ (length (now old) ≤ used) × (used ≤ length (now old) + length (now new)) ⌝ }
-    requires { ⌜ (length (now types) ≤ 255) × (length (now types) ≡ length (now finals)) × (4 * length (now types) ≤ length (now dst)) × (p ≤ 1048578) ⌝ }
+    requires { ⌜ (length (now types) ≤ mostCounted) × (length (now types) ≡ length (now finals)) × (4 * length (now types) ≤ length (now dst)) × (p ≤ firstField longestAllowed) ⌝ }
     ensures { λ _. ⌜ now (dst .exit) ≡ fieldsWith (take used (now (old .entry) ++ now (new .entry))) p (now (types .entry)) (now (finals .entry)) ++ drop (4 * length (now (types .entry))) (now (dst .entry)) ⌝ }
 {
     let n = types.len();
     let mut i = 0;
     while i < n {
-        let at = p + 3 * i;
+        let at = p + columns::FIELD * i;
         let name = words::word(&*old, &*new, used, at);
-        let alias = words::word(&*old, &*new, used, at + 2) / 2;
-        words::write(&mut dst[4 * i..], &[name, types[i], alias, finals[i]]);
+        let alias = words::word(&*old, &*new, used, at + columns::FLAGS) / 2;
+        words::write(
+            &mut dst[columns::LENT_FIELD * i..],
+            &[name, types[i], alias, finals[i]],
+        );
         i += 1;
     }
 }
@@ -47,15 +61,30 @@ fn made_again_in(
     index: &[u64],
 ) -> Interned
     requires { ⌜ Segments (now old) (now new) used ⌝ }
-    requires { ⌜ (length (now types) ≤ 255) × (length (now types) ≡ length (now finals)) × (4 * length (now types) ≤ length (now fields)) × (a ≤ 1048576) ⌝ }
-    requires { ⌜ (all isAliasFinal (every 3 (length (now types)) (a + 4) (take used (now old ++ now new))) ≡ true) × (all isFlag (now finals) ≡ true) ⌝ }
+    requires { ⌜ (length (now types) ≤ mostCounted) × (length (now types) ≡ length (now finals)) × (4 * length (now types) ≤ length (now fields)) × (a ≤ longestAllowed) ⌝ }
+    requires { ⌜ (all isAliasFinal (firstFlagsOn (take used (now old ++ now new)) (length (now types)) a) ≡ true) × (all isFlag (now finals) ≡ true) ⌝ }
     requires { ⌜ Covers (take used (now old ++ now new)) (now index) ⌝ }
     ensures { λ r. ⌜ Runs (remake a (now (types .entry)) (now (finals .entry))) (now (old .entry)) (now (new .entry)) used (now (new .exit)) r ⌝ }
 {
     let n = types.len();
-    fields_with(fields, &*old, new, used, a + 2, &*types, &*finals);
-    let name = words::word(&*old, new, used, a + 1);
-    makers::structure(&*old, new, used, name, &fields[..4 * n], &*index)
+    fields_with(
+        fields,
+        &*old,
+        new,
+        used,
+        a + columns::FIELDS,
+        &*types,
+        &*finals,
+    );
+    let name = words::word(&*old, new, used, a + columns::NAME);
+    makers::structure(
+        &*old,
+        new,
+        used,
+        name,
+        &fields[..columns::LENT_FIELD * n],
+        &*index,
+    )
 }
 
 // Makes the struct at a again with these types and finals. Few fields are given few words, since all of them are cleared at each call.
@@ -69,15 +98,15 @@ pub fn made_again(
     index: &[u64],
 ) -> Interned
     requires { ⌜ Segments (now old) (now new) used ⌝ }
-    requires { ⌜ (length (now types) ≤ 255) × (length (now types) ≡ length (now finals)) × (a ≤ 1048576) ⌝ }
-    requires { ⌜ (all isAliasFinal (every 3 (length (now types)) (a + 4) (take used (now old ++ now new))) ≡ true) × (all isFlag (now finals) ≡ true) ⌝ }
+    requires { ⌜ (length (now types) ≤ mostCounted) × (length (now types) ≡ length (now finals)) × (a ≤ longestAllowed) ⌝ }
+    requires { ⌜ (all isAliasFinal (firstFlagsOn (take used (now old ++ now new)) (length (now types)) a) ≡ true) × (all isFlag (now finals) ≡ true) ⌝ }
     requires { ⌜ Covers (take used (now old ++ now new)) (now index) ⌝ }
     ensures { λ r. ⌜ Runs (remake a (now (types .entry)) (now (finals .entry))) (now (old .entry)) (now (new .entry)) used (now (new .exit)) r ⌝ }
 {
-    if types.len() <= 8 {
-        let mut few = [0u64; 32];
+    if types.len() <= FEW_FIELDS {
+        let mut few = [0u64; FEW_LENT];
         return made_again_in(&*old, new, used, a, &*types, &*finals, &mut few, &*index);
     }
-    let mut many = [0u64; 1020];
+    let mut many = [0u64; MOST_LENT];
     made_again_in(&*old, new, used, a, &*types, &*finals, &mut many, &*index)
 }

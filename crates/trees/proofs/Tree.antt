@@ -1,6 +1,7 @@
 -- Types as trees, and the order in which meet is the least upper bound. Assumes nothing.
 --
--- A class is a group of types with a highest and a lowest one, hi and lo: all, Top and Bot; ctl, XCtrl and Ctrl; f64 and f32, the float sizes -64 and 64, -32 and 32;
+-- Which way is up: t ⊑ s is t isa s, and s is above t; Bot is above all types and Top below all. The names hi and lo are document 01's way to speak (a high range, Top and Bot): lo is above hi.
+-- A class is a group of types between two, hi and lo: all, Top and Bot; ctl, XCtrl and Ctrl; f64 and f32, the float sizes -64 and 64, -32 and 32;
 -- stc, $TOP and $BOT. Other types are Ints, by the keys of their ends, and nodes: a shape, flags (a pointer's nil, the finals of a struct's fields), and parts.
 use mathlib.Core.Path.{_≡_, refl, ap, ap₂}
 use mathlib.Core.Logic.{_⊎_, inl, inr}

@@ -12,15 +12,15 @@ use Rattle.type_float.specs.declared.Reading.the-variants.{Constant, Siz
 abbrev pub sizeFrom : ℕ → ℤ
 sizeFrom w = pos w -ℤ pos 64
 
--- the word that is stored for a size
+-- for the functions alone: the word that is stored for a size
 abbrev pub wordOf : ℤ → ℕ
 wordOf sz = natAbs (sz +ℤ pos 64)
 
--- the words of the five sizes
+-- for the functions alone: the words of the five sizes, each sz + 64
 abbrev pub isSizeWord : ℕ → Bool
 isSizeWord w = eqb w 0 || eqb w 32 || eqb w 64 || eqb w 96 || eqb w 128
 
--- the sizes: 0, ±32, ±64
+-- for the functions alone: the sizes 0, ±32, ±64
 abbrev pub isSize : ℤ → Bool
 isSize sz = eqb (natAbs sz) 0 || eqb (natAbs sz) 32 || eqb (natAbs sz) 64
 
@@ -28,7 +28,7 @@ isSize sz = eqb (natAbs sz) 0 || eqb (natAbs sz) 32 || eqb (natAbs sz) 64
 abbrev pub readingOf : Float → Reading
 readingOf f = cond (eqb (natAbs (f .sz)) 0) (Constant (f .con)) (Sized (f .sz))
 
--- a constant's value, and 0.0 for a size
+-- for the functions alone: a constant's value, and 0.0 for a size
 abbrev pub valueOf : Reading → F64
 valueOf (Constant x) = x
 valueOf (Sized sz) = ofBits binary64 0

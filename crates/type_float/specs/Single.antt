@@ -7,6 +7,6 @@ use lib.Ieee.{Float as F64, fits, isNan, ofBits, binary32, binary64}
 abbrev pub holdsSingle : F64 → Bool
 holdsSingle x = fits binary32 x && not (isNan x)
 
--- of the double with these bits
+-- for the functions alone: of the double with these bits
 unfoldable pub isSingle : ℕ → Bool
 isSingle bits = holdsSingle (ofBits binary64 bits)

@@ -6,6 +6,9 @@ ghost use lib.Ieee.{nanBits, binary64, ofBits};
 ghost use Rattle.type_float.specs.Float.{sizeFrom, wordOf, isSizeWord, isSize, readingOf, valueOf};
 ghost use Rattle.type_float.specs.Single.{isSingle};
 
+// An entry keeps a float's size plus 64.
+const SIZE_ZERO: i64 = 64;
+
 // A float's size and constant.
 pub struct Float {
     pub sz: i8,
@@ -41,7 +44,7 @@ pub fn float_of(size: u64, bits: u64) -> Float
     ensures { λ r. ⌜ (r .sz ≡ sizeFrom size) × (r .con ≡ ofBits binary64 bits) ⌝ }
 {
     Float {
-        sz: (size as i64 - 64) as i8,
+        sz: (size as i64 - SIZE_ZERO) as i8,
         con: double(bits),
     }
 }
@@ -51,7 +54,7 @@ pub fn size_word(sz: i8) -> u64
     requires { ⌜ isSize sz ≡ true ⌝ }
     ensures { λ r. ⌜ r ≡ wordOf sz ⌝ }
 {
-    (sz as i64 + 64) as u64
+    (sz as i64 + SIZE_ZERO) as u64
 }
 
 // The bits of a constant, given beside it for a NaN: only a NaN differs from itself.

@@ -1,5 +1,5 @@
 // The makers of `Types`. Each call takes any words whatever as the store and any numbers as its arguments; what it answers and what it leaves
-// is `run` of the call (every_call/specs/Run.antt), which is its definition in makers/specs/Makers.antt. A handle or a number is a 64-bit word, a signed number a two's
+// is `run` of the call (every_call/specs/Run.antt; of fresh `freshCall`), which is its definition in makers/specs/Makers.antt. A handle or a number is a 64-bit word, a signed number a two's
 // complement one.
 use asking::Asking;
 use call::Answer;
@@ -18,7 +18,7 @@ pub fn fresh(words: &mut [u64]) -> Done
     fresh_store::fresh(words)
 }
 
-// The kind of a type, which the Rust's casts stand for.
+// The kind of a type, which stands for the Rust's casts.
 pub fn kind(words: &[u64], h: u64) -> Answer
     ensures { λ r. ⌜ left (told r) (now (words .entry)) ≡ run (kind h) (now (words .entry)) ⌝ }
 {

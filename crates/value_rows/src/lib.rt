@@ -1,4 +1,5 @@
 // The tests of rows 4 and 5 on values, which read no store. Each gives the number of the row, or 0.
+use words::limits;
 ghost use mathlib.Core.Path.{_≡_};
 ghost use mathlib.Core.Bool.{not};
 ghost use lib.Dec.{ltb};
@@ -10,7 +11,7 @@ ghost use Rattle.makers.specs.Entries.{storedSize};
 pub fn float_rows(sz: u64, bits: u64) -> u8
     ensures { λ r. ⌜ r ≡ (4 when not (floatOk (storedSize sz) bits)) ⌝ }
 {
-    let size = std::num::wrapping_add_u64(sz, 64);
+    let size = std::num::wrapping_add_u64(sz, wellformed::SIZE_ZERO);
     if !wellformed::float_ok(size, bits) {
         return 4;
     }
@@ -20,7 +21,7 @@ pub fn float_rows(sz: u64, bits: u64) -> u8
 pub fn str_rows(text: &[u8]) -> u8
     ensures { λ r. ⌜ r ≡ (5 when ltb mostCounted (length (now (text .entry)))) ⌝ }
 {
-    if text.len() > 255 {
+    if text.len() > limits::MOST_COUNTED {
         return 5;
     }
     0
@@ -29,7 +30,7 @@ pub fn str_rows(text: &[u8]) -> u8
 pub fn bool_rows(value: u64) -> u8
     ensures { λ r. ⌜ r ≡ (4 when not (isFlag value)) ⌝ }
 {
-    if value > 1 {
+    if value > limits::LARGEST_FLAG {
         return 4;
     }
     0

@@ -6,17 +6,17 @@ use lib.Dec.{eqb}
 use Rattle.words.specs.Made.{there, make}
 use Rattle.words.proofs.Extend.{Extends, ext-same, ext-then}
 use Rattle.words.proofs.Placed.{make-extends}
-use Rattle.call.specs.Handles.{word, kindOn}
+use Rattle.words.specs.Columns.{word, kindOn}
 use Rattle.makers.specs.Entries.{intEntry, floatEntry}
 use Rattle.structs.specs.Remade.{remake}
 use Rattle.meet.specs.Meet.{Many}
 use Rattle.meet.proofs.Grows.{tuple-grows, pointer-grows, memory-grows}
-use Rattle.walk_rules.specs.Tables.{formFor, intOf, floatOf, nilOf, fieldsOf}
+use Rattle.walk_rules.specs.Tables.{formFor, intOf, floatOf, nilOf, walkFields}
 use Rattle.walk_rules.specs.declared.Walk.{Walk}
 use Rattle.walk_rules.specs.declared.Walk.the-variants.{Dual, Glb, Lub}
 use Rattle.walk_rules.specs.declared.Form.{Form}
-use Rattle.walk_rules.specs.declared.Form.the-variants.{Is, Ints, Floats, Tuples, Fields, Pointers, Memories}
-use Rattle.walk.specs.Walked.{Op₁, walkEach, elements, types, structOf, followForm, walkWithin}
+use Rattle.walk_rules.specs.declared.Form.the-variants.{Is, AnInt, AFloat, ATuple, AStruct, APointer, AMemory}
+use Rattle.walk.specs.Walk.{Op₁, walkEach, walkElements, walkFieldTypes, walkStructOf, followForm, walkWithin}
 
 abbrev pub Grows₁ : Op₁ → Type 0
 Grows₁ op = (u : List ℕ) (a : ℕ) → Extends u (op u a .words)
@@ -35,8 +35,8 @@ float-grows Dual a u = go (eqb (word u (a + 1)) 64)
 float-grows Glb a u = ext-same u
 float-grows Lub a u = ext-same u
 
-pub struct-grows : (w : Walk) (a : ℕ) (m : Many) → Extends (m .words) (structOf w a m .words)
-unfolding fieldsOf remake
+pub struct-grows : (w : Walk) (a : ℕ) (m : Many) → Extends (m .words) (walkStructOf w a m .words)
+unfolding walkFields remake
 struct-grows w a m = make-extends (m .words) _
 
 module _ (w : Walk) (op : Op₁) (grows : Grows₁ op) where
@@ -48,14 +48,14 @@ module _ (w : Walk) (op : Op₁) (grows : Grows₁ op) where
   follow-grows : (u : List ℕ) (a : ℕ) (f : Form) → Extends u (followForm w op u a f .words)
   unfolding followForm
   follow-grows u a (Is h) = ext-same u
-  follow-grows u a Ints = int-grows w a u
-  follow-grows u a Floats = float-grows w a u
-  follow-grows u a Tuples = ext-then u (elements op u a .words) _ (each-grows u _) (tuple-grows (elements op u a))
-  follow-grows u a Fields = ext-then u (types op u a .words) _ (each-grows u _) (struct-grows w a (types op u a))
-  follow-grows u a Pointers =
+  follow-grows u a AnInt = int-grows w a u
+  follow-grows u a AFloat = float-grows w a u
+  follow-grows u a ATuple = ext-then u (walkElements op u a .words) _ (each-grows u _) (tuple-grows (walkElements op u a))
+  follow-grows u a AStruct = ext-then u (walkFieldTypes op u a .words) _ (each-grows u _) (struct-grows w a (walkFieldTypes op u a))
+  follow-grows u a APointer =
       let s = op u (word u (a + 1)) in
       ext-then u (s .words) _ (grows u (word u (a + 1))) (pointer-grows (nilOf w (word u (a + 2))) s)
-  follow-grows u a Memories =
+  follow-grows u a AMemory =
       let t = op u (word u (a + 2)) in
       ext-then u (t .words) _ (grows u (word u (a + 2))) (memory-grows (word u (a + 1)) t)
 

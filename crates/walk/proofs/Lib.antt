@@ -5,3 +5,4 @@ pub mod Settled
 pub mod Recall
 pub mod Loop
 pub mod Ways
+pub mod Any

@@ -4,12 +4,12 @@ use mathlib.Core.List.{List, _++_}
 use Prim.Native.Nat.{ℕ, _+_, _-_, _*_, _≤_, _<_}
 use native.Mathlib.Omega.{arith}
 use lib.ListN.{length, take, getD, set}
-use Rattle.words.specs.Made.{Grown, Segments, Ran}
+use Rattle.words.specs.Made.{Grown}
+use Rattle.words.specs.Ran.{Segments, Ran}
 use Rattle.words.specs.declared.Interned.{Interned}
 use Rattle.words.specs.declared.Interned.the-variants.{At, Full}
 use Rattle.words.proofs.Extend.{Extends}
-use Rattle.wellformed.specs.Entry.{every}
-use Rattle.call.specs.Handles.{word}
+use Rattle.words.specs.Columns.{every, word}
 use Rattle.parts.specs.Parts.{Part, All, ReadyOne}
 use Rattle.parts.proofs.Good.{good-adds}
 use Rattle.parts.proofs.Left.{every-zero, every-next, every-at}
@@ -17,7 +17,8 @@ use Rattle.parts.proofs.Grew.{grew-kept}
 use Rattle.meet.specs.Meet.{Many}
 use Rattle.meet.proofs.InTurn.{Sequence, InTurn, turn-begin, turn-part, turn-ready, turn-stop, turn-on, turn-end, turn-segments}
 use Rattle.walk_rules.specs.declared.Walk.{Walk}
-use Rattle.walk.specs.Walked.{walkEach, walkWithin, Walked}
+use Rattle.walk.specs.Walked.{Walked}
+use Rattle.walk.specs.Walk.{walkEach, walkWithin}
 use Rattle.walk.proofs.Grows.{walk-grows, each-grows}
 use Rattle.walk.proofs.Nice.{walk-nice}
 

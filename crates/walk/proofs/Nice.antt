@@ -10,8 +10,8 @@ use lib.Dec.{eqb}
 use lib.ListN.{length}
 use Rattle.words.specs.Words.{kindOf, countOf}
 use Rattle.words.specs.Made.{there, make}
-use Rattle.wellformed.specs.Entry.{every, floatOk}
-use Rattle.call.specs.Handles.{word, kindOn, depthOn, countOn}
+use Rattle.wellformed.specs.Entry.{floatOk}
+use Rattle.words.specs.Columns.{every, word, kindOn, depthOn, countOn}
 use Rattle.call.proofs.Sound.{adds-none, adds-then}
 use Rattle.type_float.proofs.Size.{each-word}
 use Rattle.makers.specs.Entries.{intEntry, floatEntry}
@@ -23,14 +23,14 @@ use Rattle.parts.proofs.Good.{bot-part, top-part, ctrl-part, xctrl-part, struct
 use Rattle.meet_fields.proofs.Finals.{every-length}
 use Rattle.meet.proofs.Made.{tuple-answers, struct-answers, pointer-answers, memory-answers, answer-late}
 use Rattle.meet.proofs.Nice.{EachAnswers, late-on, wide, narrow}
-use Rattle.walk_rules.specs.Tables.{formFor, intOf, floatOf, nilOf, finalsOf, fieldsOf}
+use Rattle.walk_rules.specs.Tables.{formFor, intOf, floatOf, nilOf, finalsOf, walkFields}
 use Rattle.walk_rules.specs.declared.Walk.{Walk}
 use Rattle.walk_rules.specs.declared.Walk.the-variants.{Dual, Glb, Lub}
 use Rattle.walk_rules.specs.declared.Form.{Form}
-use Rattle.walk_rules.specs.declared.Form.the-variants.{Is, Ints, Floats, Tuples, Fields, Pointers, Memories}
+use Rattle.walk_rules.specs.declared.Form.the-variants.{Is, AnInt, AFloat, ATuple, AStruct, APointer, AMemory}
 use Rattle.walk_rules.proofs.Sure.{form-ints, form-floats, form-tuples, form-fields, form-pointers, form-memories, form-is, Known, is-bot, is-top, is-ctrl, is-xctrl, is-struct-top, is-struct-bot, is-itself}
-use Rattle.walk_rules.proofs.Finals.{finals-length, finals-flags, nil-flag}
-use Rattle.walk.specs.Walked.{Op₁, walkEach, elements, types, structOf, followForm, walkWithin}
+use Rattle.walk_fields.proofs.Finals.{finals-length, finals-flags, nil-flag}
+use Rattle.walk.specs.Walk.{Op₁, walkEach, walkElements, walkFieldTypes, walkStructOf, followForm, walkWithin}
 
 -- an operation that gives good answers on handles below k
 pub record Nice₁ (k : ℕ) (op : Op₁) : Type 0 where
@@ -117,12 +117,12 @@ module _ (op : Op₁) (k : ℕ) (nice : Nice₁ k op) where
       record { adds = e .adds; parts = e .parts; long = e .long ∙ every-length s n p u; new = e .new }
 
   module _ (w : Walk) (u : List ℕ) (a d : ℕ) (g : Good u) where
-    fields-answers : Part u (suc k) d 8 9 a → kindOn u a ≡ 8 → Answers u d 8 9 (structOf w a (types op u a))
-    unfolding fieldsOf
+    fields-answers : Part u (suc k) d 8 9 a → kindOn u a ≡ 8 → Answers u d 8 9 (walkStructOf w a (walkFieldTypes op u a))
+    unfolding walkFields
     fields-answers p q =
         let sa = of-struct (g .sound) p q in
         let e = each-part u a 3 (countOn u a) (a + 3) g (omega (arith, p .earlier)) (sa .types) in
-        let m = types op u a in
+        let m = walkFieldTypes op u a in
         let v = m .words in
         let hs = m .handles in
         let g₁ = good-adds g (e .adds) in
@@ -137,25 +137,25 @@ module _ (op : Op₁) (k : ℕ) (nice : Nice₁ k op) where
     follow-types : Part u (suc k) d 1 11 a → (f : Form) → formFor w a (kindOn u a) ≡ f → Answers u d 1 11 (followForm w op u a f)
     unfolding followForm
     follow-types p (Is h) q = known-answers u (suc k) a d h g p (form-is w a (kindOn u a) h q)
-    follow-types p Ints q = int-answers w u (suc k) a d g p (form-ints w a (kindOn u a) q)
-    follow-types p Floats q = float-answers w u (suc k) a d g p (form-floats w a (kindOn u a) q)
-    follow-types p Tuples q =
+    follow-types p AnInt q = int-answers w u (suc k) a d g p (form-ints w a (kindOn u a) q)
+    follow-types p AFloat q = float-answers w u (suc k) a d g p (form-floats w a (kindOn u a) q)
+    follow-types p ATuple q =
         let ta = of-tuple (g .sound) p (form-tuples w a (kindOn u a) q) in
         let e = each-part u a 1 (countOn u a) (a + 1) g (omega (arith, p .earlier)) (ta .types) in
-        let m = elements op u a in
+        let m = walkElements op u a in
         tuple-answers (e .adds) (good-adds g (e .adds)) (length (m .words)) (depthOn u a) (deep (g .sound) p (omega arith)) (flat (g .sound) p) d (p .shallow)
         (m .handles) (e .parts) (e .new) (omega (arith, few (g .sound) p, e .long))
-    follow-types p Fields q =
+    follow-types p AStruct q =
         let k8 = form-fields w a (kindOn u a) q in
         wide (fields-answers (narrow 8 9 p (omega (arith, k8)) (omega (arith, k8))) k8)
-    follow-types p Pointers q =
+    follow-types p APointer q =
         let ta = of-pointer (g .sound) p (form-pointers w a (kindOn u a) q) in
         let x = word u (a + 1) in
         let s = op u x in
         let r = nice .structs u x (depthOn u a) g (part-weak k (depthOn u a) (omega (arith, p .earlier)) (omega arith) (ta .to)) in
         pointer-answers (r .adds) (good-adds g (r .adds)) (length (s .words)) (depthOn u a) (deep (g .sound) p (omega arith)) (flat (g .sound) p) d (p .shallow)
         (s .handle) (nilOf w (word u (a + 2))) (r .part) (answer-late r) (nil-flag w (word u (a + 2)) (ta .flag))
-    follow-types p Memories q =
+    follow-types p AMemory q =
         let ta = of-memory (g .sound) p (form-memories w a (kindOn u a) q (p .most)) in
         let x = word u (a + 2) in
         let s = op u x in
@@ -167,12 +167,12 @@ module _ (op : Op₁) (k : ℕ) (nice : Nice₁ k op) where
     follow-structs : Part u (suc k) d 8 9 a → (f : Form) → formFor w a (kindOn u a) ≡ f → Answers u d 8 9 (followForm w op u a f)
     unfolding followForm
     follow-structs p (Is h) q = known-structs u (suc k) a d h g p (form-is w a (kindOn u a) h q)
-    follow-structs p Ints q = absurd (omega (arith, form-ints w a (kindOn u a) q, p .least))
-    follow-structs p Floats q = absurd (omega (arith, form-floats w a (kindOn u a) q, p .least))
-    follow-structs p Tuples q = absurd (omega (arith, form-tuples w a (kindOn u a) q, p .least))
-    follow-structs p Fields q = fields-answers p (form-fields w a (kindOn u a) q)
-    follow-structs p Pointers q = absurd (omega (arith, form-pointers w a (kindOn u a) q, p .most))
-    follow-structs p Memories q = absurd (omega (arith, form-memories w a (kindOn u a) q (omega (arith, p .most)), p .most))
+    follow-structs p AnInt q = absurd (omega (arith, form-ints w a (kindOn u a) q, p .least))
+    follow-structs p AFloat q = absurd (omega (arith, form-floats w a (kindOn u a) q, p .least))
+    follow-structs p ATuple q = absurd (omega (arith, form-tuples w a (kindOn u a) q, p .least))
+    follow-structs p AStruct q = fields-answers p (form-fields w a (kindOn u a) q)
+    follow-structs p APointer q = absurd (omega (arith, form-pointers w a (kindOn u a) q, p .most))
+    follow-structs p AMemory q = absurd (omega (arith, form-memories w a (kindOn u a) q (omega (arith, p .most)), p .most))
 
 pub walk-nice : (w : Walk) (n : ℕ) → Nice₁ n (walkWithin w n)
 unfolding walkWithin

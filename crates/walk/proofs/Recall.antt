@@ -15,7 +15,8 @@ use Rattle.memo.specs.declared.Recalled.{Recalled}
 use Rattle.memo.specs.declared.Recalled.the-variants.{Is as Recalled·Is}
 use Rattle.memo.proofs.Lines.{recalled}
 use Rattle.walk_rules.specs.declared.Walk.{Walk}
-use Rattle.walk.specs.Walked.{walkWithin, Walked}
+use Rattle.walk.specs.Walked.{Walked}
+use Rattle.walk.specs.Walk.{walkWithin}
 use Rattle.walk.specs.Remembered.{Settled, Remembers, Remembered}
 use Rattle.walk.proofs.Settled.{walk-settled}
 

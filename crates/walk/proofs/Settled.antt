@@ -11,8 +11,7 @@ use Rattle.words.specs.Words.{wordsAfter, sizeOf}
 use Rattle.words.specs.Made.{there, make}
 use Rattle.words.proofs.Walk.{size-pos}
 use Rattle.words.proofs.Sizes.{tuple-size, struct-size}
-use Rattle.wellformed.specs.Entry.{every}
-use Rattle.call.specs.Handles.{word, kindOn, depthOn, countOn}
+use Rattle.words.specs.Columns.{every, word, kindOn, depthOn, countOn}
 use Rattle.makers.specs.Entries.{intEntry, floatEntry}
 use Rattle.parts.specs.Parts.{Good, Part, All}
 use Rattle.parts.proofs.Parts.{flat, deep, of-tuple, of-struct, of-pointer, of-memory, all-map}
@@ -22,14 +21,14 @@ use Rattle.later.proofs.Later.{later-then, later-adds, part-inside, later-every
 use Rattle.later.proofs.Right.{Settles₁}
 use Rattle.meet_fields.proofs.Finals.{every-length}
 use Rattle.meet.proofs.Nice.{narrow}
-use Rattle.walk_rules.specs.Tables.{formFor, intOf, floatOf, nilOf, finalsOf, fieldsOf}
+use Rattle.walk_rules.specs.Tables.{formFor, intOf, floatOf, nilOf, finalsOf, walkFields}
 use Rattle.walk_rules.specs.declared.Walk.{Walk}
 use Rattle.walk_rules.specs.declared.Walk.the-variants.{Dual, Glb, Lub}
 use Rattle.walk_rules.specs.declared.Form.{Form}
-use Rattle.walk_rules.specs.declared.Form.the-variants.{Is, Ints, Floats, Tuples, Fields, Pointers, Memories}
+use Rattle.walk_rules.specs.declared.Form.the-variants.{Is, AnInt, AFloat, ATuple, AStruct, APointer, AMemory}
 use Rattle.walk_rules.proofs.Sure.{form-ints, form-floats, form-tuples, form-fields, form-pointers, form-memories}
-use Rattle.walk_rules.proofs.Finals.{finals-length}
-use Rattle.walk.specs.Walked.{Op₁, walkEach, elements, types, followForm, walkWithin}
+use Rattle.walk_fields.proofs.Finals.{finals-length}
+use Rattle.walk.specs.Walk.{Op₁, walkEach, walkElements, walkFieldTypes, followForm, walkWithin}
 use Rattle.walk.proofs.Nice.{Nice₁, each-nice, each-part, walk-nice}
 
 module _ (op : Op₁) (k : ℕ) (nice : Nice₁ k op) (settles : Settles₁ k op) where
@@ -80,16 +79,16 @@ module _ (op : Op₁) (k : ℕ) (nice : Nice₁ k op) (settles : Settles₁ k op
     float-again q Lub x = refl
 
     follow-settled : (f : Form) → formFor walk a (kindOn u a) ≡ f → Later (followForm walk op u a f .words) v → followForm walk op v a f ≡ there v (followForm walk op u a f .handle)
-    unfolding followForm wordsAfter fieldsOf
+    unfolding followForm wordsAfter walkFields
     follow-settled (Is h) q x = refl
-    follow-settled Ints q x = int-again (form-ints walk a (kindOn u a) q) walk x
-    follow-settled Floats q x = float-again (form-floats walk a (kindOn u a) q) walk x
-    follow-settled Tuples q x =
+    follow-settled AnInt q x = int-again (form-ints walk a (kindOn u a) q) walk x
+    follow-settled AFloat q x = float-again (form-floats walk a (kindOn u a) q) walk x
+    follow-settled ATuple q x =
         let k7 = form-tuples walk a (kindOn u a) q in
         let ta = of-tuple (g .sound) p k7 in
         let n = countOn u a in
         let e = each-part op k nice u a 1 n (a + 1) g (omega (arith, p .earlier)) (ta .types) in
-        let m = elements op u a in
+        let m = walkElements op u a in
         let g₁ = good-adds g (e .adds) in
         let o = deep (g .sound) p (omega arith) in
         let fl = flat (g .sound) p in
@@ -97,14 +96,14 @@ module _ (op : Op₁) (k : ℕ) (nice : Nice₁ k op) (settles : Settles₁ k op
         let c : word v a ≡ word u a = z .words a some (omega (arith, inside, tuple-size (word u a) k7)) in
         let xs : every 1 n (a + 1) v ≡ every 1 n (a + 1) u = later-every z 1 n (a + 1) (omega arith) (omega (arith, inside, tuple-size (word u a) k7)) in
         let y : Later (m .words) v = later-then (around-later g₁ (length (m .words)) (depthOn u a) 1 11 o fl Tuple (length hs) hs hs (e .parts) (omega arith) refl) x in
-        let ts : elements op v a ≡ record { words = v; handles = hs } = rw (c, xs) (each-settled u (depthOn u a) (every 1 n (a + 1) u) g (parts-below (every 1 n (a + 1) u) (ta .types)) v y) in
+        let ts : walkElements op v a ≡ record { words = v; handles = hs } = rw (c, xs) (each-settled u (depthOn u a) (every 1 n (a + 1) u) g (parts-below (every 1 n (a + 1) u) (ta .types)) v y) in
         rw ts (around-again g₁ (length (m .words)) (depthOn u a) 1 11 o fl Tuple (length hs) hs hs (e .parts) (omega arith) refl v x)
-    follow-settled Fields q x =
+    follow-settled AStruct q x =
         let k8 = form-fields walk a (kindOn u a) q in
         let sa = of-struct (g .sound) p k8 in
         let n = countOn u a in
         let e = each-part op k nice u a 3 n (a + 3) g (omega (arith, p .earlier)) (sa .types) in
-        let m = types op u a in
+        let m = walkFieldTypes op u a in
         let w = m .words in
         let g₁ = good-adds g (e .adds) in
         let up = later-adds g (e .adds) in
@@ -118,10 +117,10 @@ module _ (op : Op₁) (k : ℕ) (nice : Nice₁ k op) (settles : Settles₁ k op
         let y : Later w v = later-then (remake-later g₁ (length w) (depthOn u a) 1 11 o fl a hs (finalsOf walk vs) same (e .parts) some room) x in
         let c : word v a ≡ word u a = z .words a some (omega arith) in
         let xs : every 3 n (a + 3) v ≡ every 3 n (a + 3) u = later-every z 3 n (a + 3) (omega arith) (omega arith) in
-        let ts : types op v a ≡ record { words = v; handles = hs } = rw (c, xs) (each-settled u (depthOn u a) (every 3 n (a + 3) u) g (parts-below (every 3 n (a + 3) u) (sa .types)) v y) in
+        let ts : walkFieldTypes op v a ≡ record { words = v; handles = hs } = rw (c, xs) (each-settled u (depthOn u a) (every 3 n (a + 3) u) g (parts-below (every 3 n (a + 3) u) (sa .types)) v y) in
         let fs : every 3 (length hs) (a + 4) v ≡ every 3 (length hs) (a + 4) w = later-every y 3 (length hs) (a + 4) (omega arith) (omega (arith, room)) in
         rw (ts, fs) (remake-again g₁ (length w) (depthOn u a) 1 11 o fl a hs (finalsOf walk vs) same (e .parts) some room v x)
-    follow-settled Pointers q x =
+    follow-settled APointer q x =
         let k10 = form-pointers walk a (kindOn u a) q in
         let ta = of-pointer (g .sound) p k10 in
         let i = three-words (word u a) 10 k10 refl in
@@ -138,7 +137,7 @@ module _ (op : Op₁) (k : ℕ) (nice : Nice₁ k op) (settles : Settles₁ k op
         let y = later-then (around-later g₁ (length (s .words)) (depthOn u a) 1 11 o fl MemPtr 0 (s .handle ∷ []) (s .handle ∷ nil ∷ []) (r .part, tt) (omega arith) refl) x in
         let e : op v t ≡ there v (s .handle) = settles u t (depthOn u a) g pt v y in
         rw (a1, a2, e) (around-again g₁ (length (s .words)) (depthOn u a) 1 11 o fl MemPtr 0 (s .handle ∷ []) (s .handle ∷ nil ∷ []) (r .part, tt) (omega arith) refl v x)
-    follow-settled Memories q x =
+    follow-settled AMemory q x =
         let k11 = form-memories walk a (kindOn u a) q (p .most) in
         let ta = of-memory (g .sound) p k11 in
         let i = three-words (word u a) 11 k11 refl in

@@ -8,7 +8,7 @@ use Rattle.later.specs.Later.{Later}
 use Rattle.later.specs.Right.{RightAfter}
 use Rattle.memo.specs.Memo.{Lines}
 use Rattle.walk_rules.specs.declared.Walk.{Walk}
-use Rattle.walk.specs.Walked.{walkWithin}
+use Rattle.walk.specs.Walk.{walkWithin}
 
 -- the walk of a gives h, in u and in all used words that come later, and appends nothing
 pub record Settled (walk : Walk) (u : List ℕ) (a h : ℕ) : Type 0 where

@@ -5,14 +5,17 @@ use memo::Recalled;
 use walk_rules::Form;
 use walk_rules::Walk;
 use words::Interned;
+use words::columns;
+use words::kinds;
+use words::limits;
 ghost use mathlib.Core.Path.{_≡_};
 ghost use mathlib.Core.List.{_++_};
 ghost use lib.ListN.{take};
-ghost use Rattle.call.specs.Handles.{kindOn};
+ghost use Rattle.words.specs.Columns.{kindOn};
 ghost use Rattle.index.specs.Covers.{Covers};
 ghost use Rattle.parts.specs.Parts.{ReadyOne};
 ghost use Rattle.walk_rules.specs.Tables.{formFor};
-ghost use Rattle.walk_rules.specs.declared.Form.the-variants.{Fields};
+ghost use Rattle.walk_rules.specs.declared.Form.the-variants.{AStruct};
 ghost use Rattle.walk.specs.Walked.{Walked};
 ghost use Rattle.walk.specs.Remembered.{Remembers, Remembered};
 
@@ -22,12 +25,12 @@ fn walk_key(form: Form, a: usize) -> u64
 {
     match form {
         Form::Is(_h) => 0,
-        Form::Ints => 0,
-        Form::Floats => 0,
-        Form::Fields => a as u64,
-        Form::Pointers => a as u64,
-        Form::Memories => a as u64,
-        Form::Tuples => a as u64,
+        Form::AnInt => 0,
+        Form::AFloat => 0,
+        Form::AStruct => a as u64,
+        Form::APointer => a as u64,
+        Form::AMemory => a as u64,
+        Form::ATuple => a as u64,
     }
 }
 
@@ -46,7 +49,7 @@ pub fn walk_type(
     ensures { λ r. ⌜ Walked op (now (old .entry)) (now (new .entry)) used a (now (new .exit)) r ⌝ }
     ensures { λ r. ⌜ Remembered op (now (old .entry)) (now (new .exit)) r (now (memo .exit)) ⌝ }
 {
-    let form = walk_rules::form_of(op, &*old, new, used, a);
+    let form = walk_answers::form_of(op, &*old, new, used, a);
     let key = walk_key(form, a);
     let line = memo::recall(memo, key);
     if let Recalled::Is(h) = line {
@@ -54,15 +57,15 @@ pub fn walk_type(
     }
     match form {
         Form::Is(h) => Interned::At(h, used),
-        Form::Ints => walk_rules::int_of(op, &*old, new, used, a, &*index),
-        Form::Floats => walk_rules::float_of(op, &*old, new, used, a, &*index),
-        Form::Fields => {
+        Form::AnInt => walk_answers::int_of(op, &*old, new, used, a, &*index),
+        Form::AFloat => walk_answers::float_of(op, &*old, new, used, a, &*index),
+        Form::AStruct => {
             let r = walk_struct(op, &*old, new, used, a, memo, &*index);
             memo::noted(memo, key, r)
         }
-        Form::Pointers => {
-            let x = words::word(&*old, new, used, a + 1) as usize;
-            let nil = walk_rules::nil_of(op, words::word(&*old, new, used, a + 2));
+        Form::APointer => {
+            let x = words::word(&*old, new, used, a + columns::TARGET) as usize;
+            let nil = walk_rules::nil_of(op, words::word(&*old, new, used, a + columns::NIL));
             let m = walk_type(op, &*old, new, used, x, memo, &*index);
             match m {
                 Interned::At(h, v) => {
@@ -72,9 +75,9 @@ pub fn walk_type(
                 Interned::Full => Interned::Full,
             }
         }
-        Form::Memories => {
-            let alias = words::word(&*old, new, used, a + 1);
-            let x = words::word(&*old, new, used, a + 2) as usize;
+        Form::AMemory => {
+            let alias = words::word(&*old, new, used, a + columns::ALIAS);
+            let x = words::word(&*old, new, used, a + columns::INNER) as usize;
             let m = walk_type(op, &*old, new, used, x, memo, &*index);
             match m {
                 Interned::At(h, v) => {
@@ -84,13 +87,13 @@ pub fn walk_type(
                 Interned::Full => Interned::Full,
             }
         }
-        Form::Tuples => {
-            let n = (words::word(&*old, new, used, a) / 65536) as usize;
-            let mut parts = [0u64; 255];
+        Form::ATuple => {
+            let n = (words::word(&*old, new, used, a) / kinds::COUNT) as usize;
+            let mut parts = [0u64; limits::MOST_COUNTED];
             let mut v = used;
             let mut i: usize = 0;
             while i < n {
-                let x = words::word(&*old, new, used, a + 1 + i) as usize;
+                let x = words::word(&*old, new, used, a + columns::ELEMENTS + i) as usize;
                 let m = walk_type(op, &*old, new, v, x, memo, &*index);
                 match m {
                     Interned::At(h, w) => {
@@ -119,18 +122,23 @@ fn walk_struct(
     index: &[u64],
 ) -> Interned
     requires { ⌜ ReadyOne (now old) (now new) used a ⌝ }
-    requires { ⌜ formFor op a (kindOn (take used (now old ++ now new)) a) ≡ Fields ⌝ }
+    requires { ⌜ formFor op a (kindOn (take used (now old ++ now new)) a) ≡ AStruct ⌝ }
     requires { ⌜ Remembers op (take used (now old ++ now new)) (now memo) ⌝ }
     requires { ⌜ Covers (take used (now old ++ now new)) (now index) ⌝ }
     ensures { λ r. ⌜ Walked op (now (old .entry)) (now (new .entry)) used a (now (new .exit)) r ⌝ }
     ensures { λ r. ⌜ Remembered op (now (old .entry)) (now (new .exit)) r (now (memo .exit)) ⌝ }
 {
-    let n = (words::word(&*old, new, used, a) / 65536) as usize;
-    let mut types = [0u64; 255];
+    let n = (words::word(&*old, new, used, a) / kinds::COUNT) as usize;
+    let mut types = [0u64; limits::MOST_COUNTED];
     let mut v = used;
     let mut i: usize = 0;
     while i < n {
-        let x = words::word(&*old, new, used, a + 3 + 3 * i) as usize;
+        let x = words::word(
+            &*old,
+            new,
+            used,
+            a + columns::FIELD_TYPES + columns::FIELD * i,
+        ) as usize;
         let m = walk_type(op, &*old, new, v, x, memo, &*index);
         match m {
             Interned::At(h, w) => {
@@ -143,5 +151,5 @@ fn walk_struct(
         }
         i += 1;
     }
-    walk_rules::fields_of(op, &*old, new, v, a, &types[..n], &*index)
+    walk_fields::fields_of(op, &*old, new, v, a, &types[..n], &*index)
 }

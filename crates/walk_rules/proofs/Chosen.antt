@@ -4,12 +4,12 @@ use mathlib.Core.List.{List}
 use Prim.Native.Nat.{ℕ, _%_, _≤_, _<_}
 use borrow.Author.Tests.{eq-eqb, ne-eqb, lt-leb, le-leb}
 use lib.ListN.{getD}
-use Rattle.call.specs.Handles.{kindOn}
+use Rattle.words.specs.Columns.{kindOn}
 use Rattle.walk_rules.specs.Tables.{endOf, structForm, tupleForm, formFor}
 use Rattle.walk_rules.specs.declared.Walk.{Walk}
 use Rattle.walk_rules.specs.declared.Walk.the-variants.{Dual, Glb, Lub}
 use Rattle.walk_rules.specs.declared.Form.{Form}
-use Rattle.walk_rules.specs.declared.Form.the-variants.{Is, Ints, Floats, Fields, Pointers, Memories}
+use Rattle.walk_rules.specs.declared.Form.the-variants.{Is, AnInt, AFloat, AStruct, APointer, AMemory}
 
 -- ---- Bot, Top, Ctrl and XCtrl
 
@@ -56,7 +56,7 @@ module _ (a : ℕ) where
     pub dual-struct-bot : a ≡ 20 → Is 18 ≡ structForm Dual a
     dual-struct-bot e = rw (ne-eqb a 18 n1, eq-eqb a 20 e)
 
-    pub dual-fields : (a ≡ 20 → ⊥) → Fields ≡ structForm Dual a
+    pub dual-fields : (a ≡ 20 → ⊥) → AStruct ≡ structForm Dual a
     dual-fields n2 = rw (ne-eqb a 18 n1, ne-eqb a 20 n2)
 
 pub struct-dual : (w : Walk) (a : ℕ) → w ≡ Dual → (r : Form) → r ≡ structForm Dual a → r ≡ structForm w a
@@ -73,12 +73,12 @@ module _ (w : Walk) (a k : ℕ) where
   an-end h r e = rw (le-leb k 4 h, e)
 
   module _ (n0 : 4 < k) where
-    pub an-int : k ≡ 5 → Ints ≡ formFor w a k
+    pub an-int : k ≡ 5 → AnInt ≡ formFor w a k
     unfolding formFor
     an-int e = rw (lt-leb k 4 n0, eq-eqb k 5 e)
 
     module _ (n1 : k ≡ 5 → ⊥) where
-      pub a-float : k ≡ 6 → Floats ≡ formFor w a k
+      pub a-float : k ≡ 6 → AFloat ≡ formFor w a k
       unfolding formFor
       a-float e = rw (lt-leb k 4 n0, ne-eqb k 5 n1, eq-eqb k 6 e)
 
@@ -98,11 +98,11 @@ module _ (w : Walk) (a k : ℕ) where
             an-fref e = rw (lt-leb k 4 n0, ne-eqb k 5 n1, ne-eqb k 6 n2, ne-eqb k 7 n3, ne-eqb k 8 n4, eq-eqb k 9 e)
 
             module _ (n5 : k ≡ 9 → ⊥) where
-              pub a-pointer : k ≡ 10 → Pointers ≡ formFor w a k
+              pub a-pointer : k ≡ 10 → APointer ≡ formFor w a k
               unfolding formFor
               a-pointer e = rw (lt-leb k 4 n0, ne-eqb k 5 n1, ne-eqb k 6 n2, ne-eqb k 7 n3, ne-eqb k 8 n4, ne-eqb k 9 n5, eq-eqb k 10 e)
 
-              pub a-memory : (k ≡ 10 → ⊥) → Memories ≡ formFor w a k
+              pub a-memory : (k ≡ 10 → ⊥) → AMemory ≡ formFor w a k
               unfolding formFor
               a-memory n6 = rw (lt-leb k 4 n0, ne-eqb k 5 n1, ne-eqb k 6 n2, ne-eqb k 7 n3, ne-eqb k 8 n4, ne-eqb k 9 n5, ne-eqb k 10 n6)
 

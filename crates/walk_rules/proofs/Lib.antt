@@ -1,4 +1,3 @@
 pub mod Chosen
-pub mod Answers
-pub mod Finals
+pub mod Flags
 pub mod Sure

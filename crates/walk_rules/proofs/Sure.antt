@@ -10,7 +10,7 @@ use Rattle.walk_rules.specs.Tables.{endOf, structForm, tupleForm, formFo
 use Rattle.walk_rules.specs.declared.Walk.{Walk}
 use Rattle.walk_rules.specs.declared.Walk.the-variants.{Dual, Glb, Lub}
 use Rattle.walk_rules.specs.declared.Form.{Form}
-use Rattle.walk_rules.specs.declared.Form.the-variants.{Is, Ints, Floats, Tuples, Fields, Pointers, Memories}
+use Rattle.walk_rules.specs.declared.Form.the-variants.{Is, AnInt, AFloat, ATuple, AStruct, APointer, AMemory}
 
 -- a handle that an answer is: a fresh type, or the operand
 pub data Known (a k : ℕ) : ℕ → Type 0 where
@@ -25,12 +25,12 @@ pub data Known (a k : ℕ) : ℕ → Type 0 where
 -- what each form says
 abbrev Sure : ℕ → ℕ → Form → Type 0
 Sure a k (Is h) = Known a k h
-Sure a k Ints = k ≡ 5
-Sure a k Floats = k ≡ 6
-Sure a k Tuples = k ≡ 7
-Sure a k Fields = k ≡ 8
-Sure a k Pointers = k ≡ 10
-Sure a k Memories = k ≤ 11 → k ≡ 11
+Sure a k AnInt = k ≡ 5
+Sure a k AFloat = k ≡ 6
+Sure a k ATuple = k ≡ 7
+Sure a k AStruct = k ≡ 8
+Sure a k APointer = k ≡ 10
+Sure a k AMemory = k ≤ 11 → k ≡ 11
 
 module _ (a k : ℕ) where
   abbrev P : Form → Type 0
@@ -74,22 +74,22 @@ module _ (a k : ℕ) where
           omega arith
 
 module _ (w : Walk) (a k : ℕ) where
-  pub form-ints : formFor w a k ≡ Ints → k ≡ 5
+  pub form-ints : formFor w a k ≡ AnInt → k ≡ 5
   form-ints e = rw e at (sure a k w)
 
-  pub form-floats : formFor w a k ≡ Floats → k ≡ 6
+  pub form-floats : formFor w a k ≡ AFloat → k ≡ 6
   form-floats e = rw e at (sure a k w)
 
-  pub form-tuples : formFor w a k ≡ Tuples → k ≡ 7
+  pub form-tuples : formFor w a k ≡ ATuple → k ≡ 7
   form-tuples e = rw e at (sure a k w)
 
-  pub form-fields : formFor w a k ≡ Fields → k ≡ 8
+  pub form-fields : formFor w a k ≡ AStruct → k ≡ 8
   form-fields e = rw e at (sure a k w)
 
-  pub form-pointers : formFor w a k ≡ Pointers → k ≡ 10
+  pub form-pointers : formFor w a k ≡ APointer → k ≡ 10
   form-pointers e = rw e at (sure a k w)
 
-  pub form-memories : formFor w a k ≡ Memories → k ≤ 11 → k ≡ 11
+  pub form-memories : formFor w a k ≡ AMemory → k ≤ 11 → k ≡ 11
   form-memories e = rw e at (sure a k w)
 
   pub form-is : (h : ℕ) → formFor w a k ≡ Is h → Known a k h

@@ -10,9 +10,9 @@ use lib.ListN.{length, take, drop, getD}
 use lib.Seq.{slice}
 use lib.Dec.{eqb, leb}
 use Rattle.words.specs.Words.{sizeOf, fills, eqs}
-use Rattle.words.specs.Table.{Row, rows, entries, In}
+use Rattle.words.specs.Table.{Row, rows, entries, RowIn}
 use Rattle.bitset.specs.Bitset.{also, nowhere}
-use Rattle.words.specs.Made.{Segments}
+use Rattle.words.specs.Ran.{Segments}
 use Rattle.wellformed.specs.Fresh.{freshWords}
 use Rattle.wellformed.specs.Form.{allZero, headsAt, okRows, okEntries, wellFormed}
 use Rattle.wellformed.specs.Entry.{okEntry}
@@ -82,7 +82,7 @@ module _ (P : ℕ → Type 0) (ws : List ℕ) where
       go true e q = (omega (arith, eqb-true at h e), rw (← eqb-true at h e) p)
       go false e q = (omega (arith, before h q .0), before h q .1)
 
-  pub checked : (at k : ℕ) (l : List ℕ) (start : ℕ → Bool) → ((h : ℕ) → start h ≡ true → (h < at) × P h) → ((r : Row) → In r (rows at k l) → P (r .at)) → okRows ws start (rows at k l) ≡ true → (r : Row) → In r (rows at k l) → Checked P ws r
+  pub checked : (at k : ℕ) (l : List ℕ) (start : ℕ → Bool) → ((h : ℕ) → start h ≡ true → (h < at) × P h) → ((r : Row) → RowIn r (rows at k l) → P (r .at)) → okRows ws start (rows at k l) ≡ true → (r : Row) → RowIn r (rows at k l) → Checked P ws r
   unfolding rows okRows
   checked at zero [] start before all ok r m = absurd (List·Memᴰ·not-nil m)
   checked at (suc k) [] start before all ok r m = absurd (List·Memᴰ·not-nil m)
@@ -90,17 +90,17 @@ module _ (P : ℕ → Type 0) (ws : List ℕ) where
       let first : Row = record { at = at; words = take (sizeOf w) (w ∷ l) } in
       ⊎-elim
       (λ (e : r ≡ first). record { start = start; earlier = rw e before; ok = rw e (and-left (okEntry (headsAt start ws) (first .words)) (okRows ws (also at start) (rows (suc at) (pred (sizeOf w)) l)) ok) })
-      (λ (i : In r (rows (suc at) (pred (sizeOf w)) l)). checked (suc at) (pred (sizeOf w)) l (also at start) (one-more at start before (all first (List·Memᴰ·head refl))) (λ q j. all q (List·Memᴰ·tail j)) (and-right (okEntry (headsAt start ws) (first .words)) (okRows ws (also at start) (rows (suc at) (pred (sizeOf w)) l)) ok) r i)
+      (λ (i : RowIn r (rows (suc at) (pred (sizeOf w)) l)). checked (suc at) (pred (sizeOf w)) l (also at start) (one-more at start before (all first (List·Memᴰ·head refl))) (λ q j. all q (List·Memᴰ·tail j)) (and-right (okEntry (headsAt start ws) (first .words)) (okRows ws (also at start) (rows (suc at) (pred (sizeOf w)) l)) ok) r i)
       (List·Memᴰ·cases-cons m)
   checked at (suc k) (w ∷ l) start before all ok r m =
       checked (suc at) k l start (λ h s. (omega (arith, before h s .0), before h s .1)) all ok r m
 
 -- h is a handle of a store
 pub Handle : List ℕ → ℕ → ℕ → Type 0
-Handle ws used h = (r : Row) × (In r (entries (take used ws))) × (r .at ≡ h)
+Handle ws used h = (r : Row) × (RowIn r (entries (take used ws))) × (r .at ≡ h)
 
 -- in a well-formed store each entry was checked against starts that are earlier handles
-pub well-checked : (ws : List ℕ) → wellFormed ws ≡ true → (r : Row) → In r (entries (take (getD ws 0 0) ws)) → Checked (Handle ws (getD ws 0 0)) ws r
+pub well-checked : (ws : List ℕ) → wellFormed ws ≡ true → (r : Row) → RowIn r (entries (take (getD ws 0 0) ws)) → Checked (Handle ws (getD ws 0 0)) ws r
 unfolding entries nowhere Handle
 well-checked ws h r m =
     checked (Handle ws (getD ws 0 0)) ws 1 0 (slice 1 (getD ws 0 0) ws) nowhere

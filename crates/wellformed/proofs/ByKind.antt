@@ -10,8 +10,9 @@ use lib.Dec.{eqb, leb}
 use lib.ListN.{length, take, drop, getD, length-drop, drop-of-length-le}
 use lib.Seq.{take-all, drop-cons}
 use Rattle.words.specs.Words.{kindOf, depthOf}
-use Rattle.wellformed.specs.Entry.{kind, depth, count, takes, depthFor, kindAt, isName, isType, isStruct, isAliasFinal, every, all, deepest, mostOf, namesIn, typesIn, floatOk, zeroFilled, valuesOk, okEntry}
-use Rattle.wellformed.specs.Scan.{partOf, deepOf, fieldsOf, above}
+use Rattle.wellformed.specs.Entry.{kind, depth, count, takes, depthFor, kindAt, isName, isType, isStruct, isAliasFinal, all, deepest, mostOf, namesIn, typesIn, floatOk, zeroFilled, valuesOk, okEntry}
+use Rattle.words.specs.Columns.{every}
+use Rattle.wellformed.specs.Scan.{partDepth, partsDepth, fieldsDepth, oneOver}
 use Rattle.wellformed.specs.declared.Depth.{Depth}
 use Rattle.wellformed.specs.declared.Depth.the-variants.{Of, Bad}
 use Rattle.wellformed.proofs.Bools.{and-false, and-true}
@@ -38,32 +39,32 @@ most-le k = go (eqb k 0 || eqb k 7 || eqb k 8)
 
 -- ---- what the depth test says
 
-above-part : (heads : ℕ → ℕ) (p : ℕ → Bool) (h d : ℕ) → above d (partOf heads p h) ≡ ((p (kindOf (heads h)) && true) && eqb d (1 + deepest heads (h ∷ [])))
-unfolding above partOf deepest
+above-part : (heads : ℕ → ℕ) (p : ℕ → Bool) (h d : ℕ) → oneOver d (partDepth heads p h) ≡ ((p (kindOf (heads h)) && true) && eqb d (1 + deepest heads (h ∷ [])))
+unfolding oneOver partDepth deepest
 above-part heads p h d = let m : max (depthOf (heads h)) 0 ≡ depthOf (heads h) = omega arith in rw m (go (p (kindOf (heads h))))
   where
-    go : (t : Bool) → above d (cond t (Of (depthOf (heads h))) Bad) ≡ ((t && true) && eqb d (1 + depthOf (heads h)))
+    go : (t : Bool) → oneOver d (cond t (Of (depthOf (heads h))) Bad) ≡ ((t && true) && eqb d (1 + depthOf (heads h)))
     go true = refl
     go false = refl
 
-above-deep : (heads : ℕ → ℕ) (d : ℕ) (hs : List ℕ) → above d (deepOf heads 0 hs) ≡ (all (kindAt heads isType) hs && eqb d (1 + deepest heads hs))
-unfolding above deepOf
+above-deep : (heads : ℕ → ℕ) (d : ℕ) (hs : List ℕ) → oneOver d (partsDepth heads 0 hs) ≡ (all (kindAt heads isType) hs && eqb d (1 + deepest heads hs))
+unfolding oneOver partsDepth
 above-deep heads d hs = let m : max 0 (deepest heads hs) ≡ deepest heads hs = omega arith in rw m (go (all (kindAt heads isType) hs))
   where
-    go : (t : Bool) → above d (cond t (Of (deepest heads hs)) Bad) ≡ (t && eqb d (1 + deepest heads hs))
+    go : (t : Bool) → oneOver d (cond t (Of (deepest heads hs)) Bad) ≡ (t && eqb d (1 + deepest heads hs))
     go true = refl
     go false = refl
 
-above-cond : (d : ℕ) (t : Bool) (g : Depth) → above d (cond t g Bad) ≡ (t && above d g)
-unfolding above
+above-cond : (d : ℕ) (t : Bool) (g : Depth) → oneOver d (cond t g Bad) ≡ (t && oneOver d g)
+unfolding oneOver
 above-cond d true g = refl
 above-cond d false g = refl
 
-above-fields : (heads : ℕ → ℕ) (d n : ℕ) (e : List ℕ) → above d (fieldsOf heads 0 n 2 e)
+above-fields : (heads : ℕ → ℕ) (d n : ℕ) (e : List ℕ) → oneOver d (fieldsDepth heads 0 n 2 e)
     ≡ ((all (kindAt heads isName) (every 3 n 2 e) && all isAliasFinal (every 3 n 4 e)) && (all (kindAt heads isType) (every 3 n 3 e) && eqb d (1 + deepest heads (every 3 n 3 e))))
-unfolding fieldsOf
+unfolding fieldsDepth
 above-fields heads d n e =
-    above-cond d (all (kindAt heads isName) (every 3 n 2 e) && all isAliasFinal (every 3 n 4 e)) (deepOf heads 0 (every 3 n 3 e))
+    above-cond d (all (kindAt heads isName) (every 3 n 2 e) && all isAliasFinal (every 3 n 4 e)) (partsDepth heads 0 (every 3 n 3 e))
     ∙ rw (above-deep heads d (every 3 n 3 e))
 
 trues : (a r : Bool) → r ≡ a → r ≡ ((a && true) && true)
@@ -131,25 +132,25 @@ module _ (heads : ℕ → ℕ) (e : List ℕ) where
       unfolding okEntry mostOf namesIn typesIn all valuesOk
       a-name r k d p = rw (k, le-leb _ _ few, d) p
 
-      pub a-tuple : length e ≡ 1 + getD e 0 0 / 65536 → getD e 0 0 % 256 ≡ 7 → (g : Depth) → g ≡ deepOf heads 0 (take (length e - 1) (drop 1 e)) → (r : Bool) → r ≡ above (getD e 0 0 / 256 % 256) g → r ≡ okEntry heads e
+      pub a-tuple : length e ≡ 1 + getD e 0 0 / 65536 → getD e 0 0 % 256 ≡ 7 → (g : Depth) → g ≡ partsDepth heads 0 (take (length e - 1) (drop 1 e)) → (r : Bool) → r ≡ oneOver (getD e 0 0 / 256 % 256) g → r ≡ okEntry heads e
       unfolding okEntry mostOf namesIn typesIn all valuesOk
       a-tuple len k g is r a =
           let n = getD e 0 0 / 65536 in
           let q : r ≡ (all (kindAt heads isType) (every 1 n 1 e) && eqb (getD e 0 0 / 256 % 256) (1 + deepest heads (every 1 n 1 e))) =
-          a ∙ ap (above (getD e 0 0 / 256 % 256)) (is ∙ ap (deepOf heads 0) (rest e ∙ sym (every-one n 1 e len))) ∙ above-deep heads (getD e 0 0 / 256 % 256) (every 1 n 1 e) in
+          a ∙ ap (oneOver (getD e 0 0 / 256 % 256)) (is ∙ ap (partsDepth heads 0) (rest e ∙ sym (every-one n 1 e len))) ∙ above-deep heads (getD e 0 0 / 256 % 256) (every 1 n 1 e) in
           rw (k, le-leb _ _ few, le-leb _ _ low) (trues _ r q)
 
       pub struct-unnamed : getD e 0 0 % 256 ≡ 8 → (g : ℕ) → g ≡ heads (getD e 1 0) → (g % 256 ≡ 0 → ⊥) → false ≡ okEntry heads e
       unfolding okEntry mostOf namesIn all
       struct-unnamed k g is ne = rw (k, le-leb _ _ few, ← is, ne-eqb _ _ ne)
 
-      pub a-struct : getD e 0 0 % 256 ≡ 8 → (g : ℕ) → g ≡ heads (getD e 1 0) → g % 256 ≡ 0 → (f : Depth) → f ≡ fieldsOf heads 0 (getD e 0 0 / 65536) 2 e → (r : Bool) → r ≡ above (getD e 0 0 / 256 % 256) f → r ≡ okEntry heads e
+      pub a-struct : getD e 0 0 % 256 ≡ 8 → (g : ℕ) → g ≡ heads (getD e 1 0) → g % 256 ≡ 0 → (f : Depth) → f ≡ fieldsDepth heads 0 (getD e 0 0 / 65536) 2 e → (r : Bool) → r ≡ oneOver (getD e 0 0 / 256 % 256) f → r ≡ okEntry heads e
       unfolding mostOf namesIn typesIn all valuesOk
       a-struct k g ig y f is r a =
           let names : all (kindAt heads isName) (namesIn e) ≡ all (kindAt heads isName) (every 3 (getD e 0 0 / 65536) 2 e) = rw (k, ← ig, eq-eqb _ _ y) in
           let few′ : leb (getD e 0 0 / 65536) (mostOf (getD e 0 0 % 256)) ≡ true = rw (k, le-leb _ _ few) in
           let right : r ≡ ((all (kindAt heads isName) (every 3 (getD e 0 0 / 65536) 2 e) && valuesOk e) && (all (kindAt heads (takes (kind e))) (typesIn e) && eqb (depth e) (depthFor heads e))) =
-          rw k (a ∙ ap (above (getD e 0 0 / 256 % 256)) is ∙ above-fields heads (getD e 0 0 / 256 % 256) (getD e 0 0 / 65536) e) in
+          rw k (a ∙ ap (oneOver (getD e 0 0 / 256 % 256)) is ∙ above-fields heads (getD e 0 0 / 256 % 256) (getD e 0 0 / 65536) e) in
           fields-right _ _ _ _ _ _ _ _ r (rw k) few′ names (le-leb _ _ low) right ∙ sym (clauses heads e)
 
       module _ (k0 : getD e 0 0 % 256 ≡ 0 → ⊥) (k7 : getD e 0 0 % 256 ≡ 7 → ⊥) (k8 : getD e 0 0 % 256 ≡ 8 → ⊥) where
@@ -188,19 +189,19 @@ module _ (heads : ℕ → ℕ) (e : List ℕ) where
           unfolding valuesOk
           bad-nil k v = no-value _ _ _ _ _ _ _ (rw (k, lt-leb _ _ v)) ∙ sym (clauses heads e)
 
-          pub a-pointer : getD e 0 0 % 256 ≡ 10 → getD e 2 0 ≤ 1 → (g : Depth) → g ≡ partOf heads isStruct (getD e 1 0) → (r : Bool) → r ≡ above (getD e 0 0 / 256 % 256) g → r ≡ okEntry heads e
+          pub a-pointer : getD e 0 0 % 256 ≡ 10 → getD e 2 0 ≤ 1 → (g : Depth) → g ≡ partDepth heads isStruct (getD e 1 0) → (r : Bool) → r ≡ oneOver (getD e 0 0 / 256 % 256) g → r ≡ okEntry heads e
           unfolding okEntry mostOf namesIn typesIn all valuesOk
           a-pointer k v g is r a =
-              rw (k, n0, le-leb _ _ low, le-leb _ _ v) (trues _ r (a ∙ ap (above (getD e 0 0 / 256 % 256)) is ∙ above-part heads isStruct (getD e 1 0) (getD e 0 0 / 256 % 256)))
+              rw (k, n0, le-leb _ _ low, le-leb _ _ v) (trues _ r (a ∙ ap (oneOver (getD e 0 0 / 256 % 256)) is ∙ above-part heads isStruct (getD e 1 0) (getD e 0 0 / 256 % 256)))
 
           pub bad-alias : getD e 0 0 % 256 ≡ 11 → 4294967295 < getD e 1 0 → false ≡ okEntry heads e
           unfolding valuesOk
           bad-alias k v = no-value _ _ _ _ _ _ _ (rw (k, lt-leb _ _ v)) ∙ sym (clauses heads e)
 
-          pub a-memory : getD e 0 0 % 256 ≡ 11 → getD e 1 0 ≤ 4294967295 → (g : Depth) → g ≡ partOf heads isType (getD e 2 0) → (r : Bool) → r ≡ above (getD e 0 0 / 256 % 256) g → r ≡ okEntry heads e
+          pub a-memory : getD e 0 0 % 256 ≡ 11 → getD e 1 0 ≤ 4294967295 → (g : Depth) → g ≡ partDepth heads isType (getD e 2 0) → (r : Bool) → r ≡ oneOver (getD e 0 0 / 256 % 256) g → r ≡ okEntry heads e
           unfolding okEntry mostOf namesIn typesIn all valuesOk
           a-memory k v g is r a =
-              rw (k, n0, le-leb _ _ low, le-leb _ _ v) (trues _ r (a ∙ ap (above (getD e 0 0 / 256 % 256)) is ∙ above-part heads isType (getD e 2 0) (getD e 0 0 / 256 % 256)))
+              rw (k, n0, le-leb _ _ low, le-leb _ _ v) (trues _ r (a ∙ ap (oneOver (getD e 0 0 / 256 % 256)) is ∙ above-part heads isType (getD e 2 0) (getD e 0 0 / 256 % 256)))
 
           pub other-kind : 5 < getD e 0 0 % 256 → (getD e 0 0 % 256 ≡ 6 → ⊥) → (getD e 0 0 % 256 ≡ 9 → ⊥) → (getD e 0 0 % 256 ≡ 10 → ⊥) → (getD e 0 0 % 256 ≡ 11 → ⊥) → false ≡ okEntry heads e
           unfolding okEntry

@@ -7,3 +7,4 @@ pub mod ByKind
 pub mod Passed
 pub mod Limits
 pub mod Before
+pub mod Examples

@@ -12,9 +12,10 @@ use lib.ListN.{length, drop, getD, drop-of-length-le}
 use lib.Seq.{drop-cons}
 use Rattle.words.specs.Words.{depthOf}
 use Rattle.bitset.specs.Bitset.{bitAt}
-use Rattle.wellformed.specs.Entry.{noHead, kindIn, kindAt, isName, isType, isAliasFinal, every, all, deepest}
+use Rattle.wellformed.specs.Entry.{noHead, kindIn, kindAt, isName, isType, isAliasFinal, all, deepest}
+use Rattle.words.specs.Columns.{every}
 use Rattle.wellformed.specs.Form.{headsAt}
-use Rattle.wellformed.specs.Scan.{partOf, deepOf, fieldsOf, above, Marks}
+use Rattle.wellformed.specs.Scan.{partDepth, partsDepth, fieldsDepth, oneOver, Marks}
 use Rattle.wellformed.specs.declared.Depth.{Depth}
 use Rattle.wellformed.specs.declared.Depth.the-variants.{Of, Bad}
 
@@ -40,23 +41,23 @@ module _ (ws bits : List ℕ) (h : ℕ) where
 -- ---- part
 
 module _ (heads : ℕ → ℕ) (low high h g : ℕ) (is : g ≡ heads h) where
-  pub too-low : g % 256 < low → Bad ≡ partOf heads (kindIn low high) h
-  unfolding partOf
+  pub too-low : g % 256 < low → Bad ≡ partDepth heads (kindIn low high) h
+  unfolding partDepth
   too-low l = rw (← is, lt-leb _ _ l)
 
   module _ (l : low ≤ g % 256) where
-    pub too-high : high < g % 256 → Bad ≡ partOf heads (kindIn low high) h
-    unfolding partOf
+    pub too-high : high < g % 256 → Bad ≡ partDepth heads (kindIn low high) h
+    unfolding partDepth
     too-high k = rw (← is, le-leb _ _ l, lt-leb _ _ k)
 
-    pub right-kind : g % 256 ≤ high → Of (g / 256 % 256) ≡ partOf heads (kindIn low high) h
-    unfolding partOf
+    pub right-kind : g % 256 ≤ high → Of (g / 256 % 256) ≡ partDepth heads (kindIn low high) h
+    unfolding partDepth
     right-kind k = rw (← is, le-leb _ _ l, le-leb _ _ k)
 
 -- what an answer of `part` says
-module _ (heads : ℕ → ℕ) (p : ℕ → Bool) (h : ℕ) (d : Depth) (is : d ≡ partOf heads p h) where
+module _ (heads : ℕ → ℕ) (p : ℕ → Bool) (h : ℕ) (d : Depth) (is : d ≡ partDepth heads p h) where
   pub part-bad : d ≡ Bad → kindAt heads p h ≡ false
-  unfolding partOf
+  unfolding partDepth
   part-bad b = go (kindAt heads p h) refl (sym is ∙ b)
     where
       go : (t : Bool) → kindAt heads p h ≡ t → cond t (Of (depthOf (heads h))) Bad ≡ Bad → t ≡ false
@@ -64,7 +65,7 @@ module _ (heads : ℕ → ℕ) (p : ℕ → Bool) (h : ℕ) (d : Depth) (is : d 
       go false e q = refl
 
   pub part-of : (x : ℕ) → d ≡ Of x → (kindAt heads p h ≡ true) × (x ≡ depthOf (heads h))
-  unfolding partOf
+  unfolding partDepth
   part-of x o = go (kindAt heads p h) refl (sym is ∙ o)
     where
       go : (t : Bool) → kindAt heads p h ≡ t → cond t (Of (depthOf (heads h))) Bad ≡ Of x → (t ≡ true) × (x ≡ depthOf (heads h))
@@ -73,18 +74,18 @@ module _ (heads : ℕ → ℕ) (p : ℕ → Bool) (h : ℕ) (d : Depth) (is : d 
 
 -- ---- elements
 
-module _ (heads : ℕ → ℕ) (parts : List ℕ) (d i : ℕ) (left : deepOf heads 0 parts ≡ deepOf heads d (drop i parts)) where
-  pub no-part : length parts ≤ i → Of d ≡ deepOf heads 0 parts
-  unfolding deepOf all deepest
+module _ (heads : ℕ → ℕ) (parts : List ℕ) (d i : ℕ) (left : partsDepth heads 0 parts ≡ partsDepth heads d (drop i parts)) where
+  pub no-part : length parts ≤ i → Of d ≡ partsDepth heads 0 parts
+  unfolding partsDepth all deepest
   no-part h = let m : max d 0 ≡ d = omega arith in sym (left ∙ rw (drop-of-length-le parts h, m))
 
-  module _ (more : i < length parts) (p : Depth) (is : p ≡ partOf heads isType (getD parts i 0)) where
-    pub bad-part : p ≡ Bad → Bad ≡ deepOf heads 0 parts
-    unfolding deepOf all
+  module _ (more : i < length parts) (p : Depth) (is : p ≡ partDepth heads isType (getD parts i 0)) where
+    pub bad-part : p ≡ Bad → Bad ≡ partsDepth heads 0 parts
+    unfolding partsDepth all
     bad-part b = sym (left ∙ rw (drop-cons parts i 0 more, part-bad heads isType (getD parts i 0) p is b))
 
-    pub good-part : (x y : ℕ) → p ≡ Of x → y ≡ max d x → deepOf heads 0 parts ≡ deepOf heads y (drop (i + 1) parts)
-    unfolding deepOf all deepest
+    pub good-part : (x y : ℕ) → p ≡ Of x → y ≡ max d x → partsDepth heads 0 parts ≡ partsDepth heads y (drop (i + 1) parts)
+    unfolding partsDepth all deepest
     good-part x y o e =
         let q = part-of heads isType (getD parts i 0) p is x o in
         let D = deepest heads (drop (suc i) parts) in
@@ -105,9 +106,9 @@ merge true true false false vs ts x y e = refl
 merge true true true ns vs ts x y e = rw e
 
 module _ (heads : ℕ → ℕ) (d j p : ℕ) (e : List ℕ) where
-  pub field-first : fieldsOf heads d (suc j) p e
-      ≡ cond (kindAt heads isName (getD e p 0)) (cond (isAliasFinal (getD e (p + 2) 0)) (cond (kindAt heads isType (getD e (p + 1) 0)) (fieldsOf heads (max d (depthOf (heads (getD e (p + 1) 0)))) j (p + 3) e) Bad) Bad) Bad
-  unfolding fieldsOf deepOf every all deepest
+  pub field-first : fieldsDepth heads d (suc j) p e
+      ≡ cond (kindAt heads isName (getD e p 0)) (cond (isAliasFinal (getD e (p + 2) 0)) (cond (kindAt heads isType (getD e (p + 1) 0)) (fieldsDepth heads (max d (depthOf (heads (getD e (p + 1) 0)))) j (p + 3) e) Bad) Bad) Bad
+  unfolding fieldsDepth partsDepth every all deepest
   field-first =
       let a : p + 2 + 3 ≡ p + 3 + 2 = omega arith in
       let t : p + 1 + 3 ≡ p + 3 + 1 = omega arith in
@@ -116,34 +117,34 @@ module _ (heads : ℕ → ℕ) (d j p : ℕ) (e : List ℕ) where
       let m : max d (max x D) ≡ max (max d x) D = omega arith in
       rw (a, t) (merge (kindAt heads isName (getD e p 0)) (isAliasFinal (getD e (p + 2) 0)) (kindAt heads isType (getD e (p + 1) 0)) _ _ _ _ _ m)
 
-module _ (heads : ℕ → ℕ) (e : List ℕ) (n d i j : ℕ) (left : fieldsOf heads 0 n 2 e ≡ fieldsOf heads d j i e) where
-  pub no-field : j ≤ 0 → Of d ≡ fieldsOf heads 0 n 2 e
-  unfolding fieldsOf deepOf every all deepest
+module _ (heads : ℕ → ℕ) (e : List ℕ) (n d i j : ℕ) (left : fieldsDepth heads 0 n 2 e ≡ fieldsDepth heads d j i e) where
+  pub no-field : j ≤ 0 → Of d ≡ fieldsDepth heads 0 n 2 e
+  unfolding fieldsDepth partsDepth every all deepest
   no-field h =
       let z : j ≡ 0 = omega arith in
       let m : max d 0 ≡ d = omega arith in
       sym (left ∙ rw (z, m))
 
   module _ (more : 0 < j) where
-    step : fieldsOf heads 0 n 2 e
-        ≡ cond (kindAt heads isName (getD e i 0)) (cond (isAliasFinal (getD e (i + 2) 0)) (cond (kindAt heads isType (getD e (i + 1) 0)) (fieldsOf heads (max d (depthOf (heads (getD e (i + 1) 0)))) (j - 1) (i + 3) e) Bad) Bad) Bad
+    step : fieldsDepth heads 0 n 2 e
+        ≡ cond (kindAt heads isName (getD e i 0)) (cond (isAliasFinal (getD e (i + 2) 0)) (cond (kindAt heads isType (getD e (i + 1) 0)) (fieldsDepth heads (max d (depthOf (heads (getD e (i + 1) 0)))) (j - 1) (i + 3) e) Bad) Bad) Bad
     step =
         let q : j ≡ suc (j - 1) = omega arith in
-        left ∙ ap (λ (k : ℕ). fieldsOf heads d k i e) q ∙ field-first heads d (j - 1) i e
+        left ∙ ap (λ (k : ℕ). fieldsDepth heads d k i e) q ∙ field-first heads d (j - 1) i e
 
     module _ (g : ℕ) (ig : g ≡ heads (getD e i 0)) where
-      pub bad-name : (g % 256 ≡ 0 → ⊥) → Bad ≡ fieldsOf heads 0 n 2 e
+      pub bad-name : (g % 256 ≡ 0 → ⊥) → Bad ≡ fieldsDepth heads 0 n 2 e
       bad-name k = sym (step ∙ rw (← ig, ne-eqb _ _ k))
 
       module _ (k : g % 256 ≡ 0) where
-        pub bad-alias : 8589934591 < getD e (i + 2) 0 → Bad ≡ fieldsOf heads 0 n 2 e
+        pub bad-alias : 8589934591 < getD e (i + 2) 0 → Bad ≡ fieldsDepth heads 0 n 2 e
         bad-alias v = sym (step ∙ rw (← ig, eq-eqb _ _ k, lt-leb _ _ v))
 
-        module _ (v : getD e (i + 2) 0 ≤ 8589934591) (t : Depth) (it : t ≡ partOf heads isType (getD e (i + 1) 0)) where
-          pub bad-type : t ≡ Bad → Bad ≡ fieldsOf heads 0 n 2 e
+        module _ (v : getD e (i + 2) 0 ≤ 8589934591) (t : Depth) (it : t ≡ partDepth heads isType (getD e (i + 1) 0)) where
+          pub bad-type : t ≡ Bad → Bad ≡ fieldsDepth heads 0 n 2 e
           bad-type b = sym (step ∙ rw (← ig, eq-eqb _ _ k, le-leb _ _ v, part-bad heads isType (getD e (i + 1) 0) t it b))
 
-          pub good-field : (x y : ℕ) → t ≡ Of x → y ≡ max d x → fieldsOf heads 0 n 2 e ≡ fieldsOf heads y (j - 1) (i + 3) e
+          pub good-field : (x y : ℕ) → t ≡ Of x → y ≡ max d x → fieldsDepth heads 0 n 2 e ≡ fieldsDepth heads y (j - 1) (i + 3) e
           good-field x y o q =
               let f = part-of heads isType (getD e (i + 1) 0) t it x o in
               step ∙ rw (← ig, eq-eqb _ _ k, le-leb _ _ v, f .0, q, f .1)
@@ -151,18 +152,18 @@ module _ (heads : ℕ → ℕ) (e : List ℕ) (n d i j : ℕ) (left : fieldsOf h
 -- ---- over
 
 module _ (depth : ℕ) (d : Depth) where
-  pub not-zero : (x : ℕ) → d ≡ Of x → depth ≡ 0 → false ≡ above depth d
-  unfolding above
+  pub not-zero : (x : ℕ) → d ≡ Of x → depth ≡ 0 → false ≡ oneOver depth d
+  unfolding oneOver
   not-zero x is z = rw (is, z) (sym (ne-eqb 0 (1 + x) (λ e. omega arith)))
 
-  pub one-over : (x : ℕ) → d ≡ Of x → (depth ≡ 0 → ⊥) → eqb (depth - 1) x ≡ above depth d
-  unfolding above
+  pub one-over : (x : ℕ) → d ≡ Of x → (depth ≡ 0 → ⊥) → eqb (depth - 1) x ≡ oneOver depth d
+  unfolding oneOver
   one-over x is nz = rw is (go (ℕ-discrete depth (1 + x)))
     where
       go : Dec (depth ≡ 1 + x) → eqb (depth - 1) x ≡ eqb depth (1 + x)
       go (yes e) = eq-eqb (depth - 1) x (omega arith) ∙ sym (eq-eqb depth (1 + x) e)
       go (no n) = ne-eqb (depth - 1) x (λ e. n (omega arith)) ∙ sym (ne-eqb depth (1 + x) n)
 
-  pub over-bad : d ≡ Bad → false ≡ above depth d
-  unfolding above
+  pub over-bad : d ≡ Bad → false ≡ oneOver depth d
+  unfolding oneOver
   over-bad is = rw is

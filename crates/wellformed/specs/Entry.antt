@@ -1,23 +1,24 @@
--- Document 01, "The store": what an entry's words may be. `e` is the words of an entry; `heads` gives the head of the earlier entry that
--- a handle starts.
+-- Document 01, "The store": what an entry's words may be. `e` is the words of an entry, read by their names as words whose head stands at 0; `heads` gives the head of the earlier entry that a
+-- handle starts.
 use mathlib.Core.Bool.{Bool, true, cond, _&&_, _||_}
 use mathlib.Core.List.{List, [], _∷_}
-use Prim.Native.Nat.{ℕ, zero, suc, _+_, _-_, _*_, _/_, _%_, _^_, max}
-use lib.ListN.{length, getD}
+use Prim.Native.Nat.{ℕ, _+_, _-_, _*_, _/_, _%_, _^_, max}
+use lib.ListN.{length}
 use lib.Dec.{eqb, leb}
 use Rattle.words.specs.Kinds.{Name, Bot, Float, Tuple, Struct, Fref, MemPtr, Mem, lastKind}
-use Rattle.words.specs.Words.{kindOf, depthOf, countOf}
+use Rattle.words.specs.Words.{kindOf, depthOf}
+use Rattle.words.specs.Columns.{word, kindOn, depthOn, countOn, sizeOn, bitsOn, sizeZero, elementsOn, nameOn, fieldNamesOn, fieldTypesOn, flagsOn, flagsOf, targetOn, nilOn, aliasOn, innerOn}
 
 -- ---- the head
 
 abbrev pub kind : List ℕ → ℕ
-kind e = kindOf (getD e 0 0)
+kind e = kindOn e 0
 
 abbrev pub depth : List ℕ → ℕ
-depth e = depthOf (getD e 0 0)
+depth e = depthOn e 0
 
 abbrev pub count : List ℕ → ℕ
-count e = countOf (getD e 0 0)
+count e = countOn e 0
 
 -- "n from 0 to 255"
 abbrev pub mostCounted : ℕ
@@ -31,30 +32,25 @@ mostOf k = cond (eqb k Name || eqb k Tuple || eqb k Struct) mostCounted 0
 abbrev pub deepestAllowed : ℕ
 deepestAllowed = 32
 
--- ---- the handles, by the table's column "words after the head"
-
--- n words, the first at p, s apart
-unfoldable pub every : ℕ → ℕ → ℕ → List ℕ → List ℕ
-every s zero p e = []
-every s (suc n) p e = getD e p 0 ∷ every s n (p + s) e
+-- ---- the handles
 
 -- the handles of names: a struct's and its fields', a forward reference's
 unfoldable pub namesIn : List ℕ → List ℕ
 namesIn e =
-    cond (eqb (kind e) Struct) (getD e 1 0 ∷ every 3 (count e) 2 e)
-    (cond (eqb (kind e) Fref) (getD e 1 0 ∷ []) [])
+    cond (eqb (kind e) Struct) (nameOn e 0 ∷ fieldNamesOn e 0)
+    (cond (eqb (kind e) Fref) (nameOn e 0 ∷ []) [])
 
 -- the handles of types: a tuple's elements, a struct's field types, a pointer's struct or forward reference, a memory's type
 unfoldable pub typesIn : List ℕ → List ℕ
 typesIn e =
-    cond (eqb (kind e) Tuple) (every 1 (count e) 1 e)
-    (cond (eqb (kind e) Struct) (every 3 (count e) 3 e)
-    (cond (eqb (kind e) MemPtr) (getD e 1 0 ∷ [])
-    (cond (eqb (kind e) Mem) (getD e 2 0 ∷ []) [])))
+    cond (eqb (kind e) Tuple) (elementsOn e 0)
+    (cond (eqb (kind e) Struct) (fieldTypesOn e 0)
+    (cond (eqb (kind e) MemPtr) (targetOn e 0 ∷ [])
+    (cond (eqb (kind e) Mem) (innerOn e 0 ∷ []) [])))
 
 -- ---- "each handle starts an earlier entry of the right kind"
 
--- a head of no kind, for a handle that starts no earlier entry
+-- the head that is given for a handle that starts no earlier entry: 255 is no kind, so that none of the tests below takes it (`no-kind`, proofs/Examples.antt)
 abbrev pub noHead : ℕ
 noHead = 255
 
@@ -100,29 +96,43 @@ depthFor heads e = cond (eqb (kind e) Name) 0 (1 + deepest heads (typesIn e))
 abbrev pub isFlag : ℕ → Bool
 isFlag v = leb v 1
 
--- an alias is at most 4,294,967,295
+-- row 4: "alias over 4,294,967,295"
+abbrev pub largestAlias : ℕ
+largestAlias = 4294967295
+
 abbrev pub isAlias : ℕ → Bool
-isAlias v = leb v 4294967295
+isAlias v = leb v largestAlias
 
--- "2 × alias + final": at most twice the largest alias, and 1
+-- "2 × alias + final": at most that of the largest alias, final
 abbrev pub isAliasFinal : ℕ → Bool
-isAliasFinal v = leb v 8589934591
+isAliasFinal v = leb v (flagsOf largestAlias 1)
 
--- a float's sz + 64 is one of 0, 32, 64, 96, 128, which are the sizes -64, -32, 0, 32, 64; the bits are those of a constant (size 0), else 0
+-- a float's sz + 64 is one of 0, 32, 64, 96, 128, the multiples of 32 up to 128, which are the sizes -64, -32, 0, 32, 64
+abbrev pub isStoredSize : ℕ → Bool
+isStoredSize size = leb size (2 * sizeZero) && eqb (size % 32) 0
+
+-- the bits are those of a constant, which has size 0, else 0
 unfoldable pub floatOk : ℕ → ℕ → Bool
-floatOk size bits = eqb size 64 || (eqb bits 0 && leb size 128 && eqb (size % 32) 0)
+floatOk size bits = eqb size sizeZero || (eqb bits 0 && isStoredSize size)
 
--- "zero fill": a name's n bytes fill its last word, or that word is below 2 to the 8 × (n % 8), so that nothing stands behind the bytes
+-- the last word of an entry, and how many of its bits a name's bytes take where they do not fill it: the n bytes stand eight a word, so that n % 8 of them are in a word that is not full
+abbrev pub lastWord : List ℕ → ℕ
+lastWord e = word e (length e - 1)
+
+abbrev pub bitsInLast : List ℕ → ℕ
+bitsInLast e = 8 * (count e % 8)
+
+-- "zero fill": a name's bytes fill all its words, or nothing stands behind them in the last
 unfoldable pub zeroFilled : List ℕ → Bool
-zeroFilled e = eqb (8 * (count e % 8)) 0 || eqb (getD e (length e - 1) 0 / 2 ^ (8 * (count e % 8))) 0
+zeroFilled e = eqb (bitsInLast e) 0 || eqb (lastWord e / 2 ^ bitsInLast e) 0
 
 unfoldable pub valuesOk : List ℕ → Bool
 valuesOk e =
     cond (eqb (kind e) Name) (zeroFilled e)
-    (cond (eqb (kind e) Float) (floatOk (getD e 1 0) (getD e 2 0))
-    (cond (eqb (kind e) Struct) (all isAliasFinal (every 3 (count e) 4 e))
-    (cond (eqb (kind e) MemPtr) (isFlag (getD e 2 0))
-    (cond (eqb (kind e) Mem) (isAlias (getD e 1 0)) true))))
+    (cond (eqb (kind e) Float) (floatOk (sizeOn e 0) (bitsOn e 0))
+    (cond (eqb (kind e) Struct) (all isAliasFinal (flagsOn e 0))
+    (cond (eqb (kind e) MemPtr) (isFlag (nilOn e 0))
+    (cond (eqb (kind e) Mem) (isAlias (aliasOn e 0)) true))))
 
 -- ---- an entry
 

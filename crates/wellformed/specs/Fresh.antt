@@ -3,6 +3,10 @@
 use mathlib.Core.List.{List, [], _∷_}
 use Prim.Native.Nat.{ℕ}
 
+-- "Fresh, 94 words": word 0 and these 93
+abbrev pub freshLength : ℕ
+freshLength = 94
+
 unfoldable pub freshWords : List ℕ
 freshWords =
     262144 ∷ 1347376164 ∷ 262144 ∷ 1414480420 ∷ 257 ∷ 258 ∷ 259 ∷ 260 ∷ 261 ∷ 0 ∷ 0 ∷ 261 ∷

@@ -1,4 +1,5 @@
 pub mod Entry
 pub mod Fresh
+pub mod FreshHandles
 pub mod Form
 pub mod Scan

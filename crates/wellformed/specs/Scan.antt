@@ -7,33 +7,34 @@ use lib.ListN.{length, take}
 use lib.Dec.{eqb}
 use Rattle.words.specs.Words.{depthOf}
 use Rattle.words.specs.Table.{starts}
-use Rattle.bitset.specs.Bitset.{bitAt}
-use Rattle.wellformed.specs.Entry.{kindAt, isName, isType, isAliasFinal, every, all, deepest}
+use Rattle.bitset.specs.Bitset.{wordBits, bitAt}
+use Rattle.wellformed.specs.Entry.{kindAt, isName, isType, isAliasFinal, all, deepest}
+use Rattle.words.specs.Columns.{namesFrom, typesFrom, flagsFrom}
 use Rattle.wellformed.specs.Form.{okEntries, wellFormed, usedWords}
 use Rattle.wellformed.specs.declared.Depth.{Depth}
 use Rattle.wellformed.specs.declared.Depth.the-variants.{Of, Bad}
 
 -- the depth of the earlier entry at h, if its kind is one that p takes
-unfoldable pub partOf : (ℕ → ℕ) → (ℕ → Bool) → ℕ → Depth
-partOf heads p h = cond (kindAt heads p h) (Of (depthOf (heads h))) Bad
+unfoldable pub partDepth : (ℕ → ℕ) → (ℕ → Bool) → ℕ → Depth
+partDepth heads p h = cond (kindAt heads p h) (Of (depthOf (heads h))) Bad
 
 -- the depth of the deepest, from d on, if all are types
-unfoldable pub deepOf : (ℕ → ℕ) → ℕ → List ℕ → Depth
-deepOf heads d hs = cond (all (kindAt heads isType) hs) (Of (max d (deepest heads hs))) Bad
+unfoldable pub partsDepth : (ℕ → ℕ) → ℕ → List ℕ → Depth
+partsDepth heads d hs = cond (all (kindAt heads isType) hs) (Of (max d (deepest heads hs))) Bad
 
 -- the same of the types of n fields, of which the first stands at p
-unfoldable pub fieldsOf : (ℕ → ℕ) → ℕ → ℕ → ℕ → List ℕ → Depth
-fieldsOf heads d n p e =
-    cond (all (kindAt heads isName) (every 3 n p e) && all isAliasFinal (every 3 n (p + 2) e)) (deepOf heads d (every 3 n (p + 1) e)) Bad
+unfoldable pub fieldsDepth : (ℕ → ℕ) → ℕ → ℕ → ℕ → List ℕ → Depth
+fieldsDepth heads d n p e =
+    cond (all (kindAt heads isName) (namesFrom n p e) && all isAliasFinal (flagsFrom n p e)) (partsDepth heads d (typesFrom n p e)) Bad
 
 -- a depth is one more than that of the deepest part
-unfoldable pub above : ℕ → Depth → Bool
-above d (Of x) = eqb d (1 + x)
-above d Bad = false
+unfoldable pub oneOver : ℕ → Depth → Bool
+oneOver d (Of x) = eqb d (1 + x)
+oneOver d Bad = false
 
 -- the bits are enough for the words, and mark nothing past them
 pub record Marks (ws bits : List ℕ) : Type 0 where
-  pub room : length ws ≤ 64 * length bits
+  pub room : length ws ≤ wordBits * length bits
   pub inside : (h : ℕ) → bitAt bits h ≡ true → h < length ws
 
 -- r is whether the entries are right, and if they are, the bits mark where they start
@@ -42,6 +43,6 @@ pub record Scanned (ws : List ℕ) (used : ℕ) (bits′ : List ℕ) (r : Bool) 
   pub marks : r ≡ true → bitAt bits′ ≡ starts (take used ws)
 
 -- the same for a whole store
-pub record Opened (ws bits′ : List ℕ) (r : Bool) : Type 0 where
+pub record Verified (ws bits′ : List ℕ) (r : Bool) : Type 0 where
   pub is : r ≡ wellFormed ws
   pub marks : r ≡ true → bitAt bits′ ≡ starts (usedWords ws)

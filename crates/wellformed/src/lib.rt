@@ -3,10 +3,13 @@ ghost use mathlib.Core.Path.{_≡_};
 ghost use Prim.Native.Nat.{_+_, _*_, _<_, _≤_, max, min};
 ghost use lib.ListN.{length, getD};
 ghost use Rattle.words.specs.Words.{sizeOf};
-ghost use Rattle.bitset.specs.Bitset.{bitAt};
+ghost use Rattle.bitset.specs.Bitset.{wordBits, bitAt};
 ghost use Rattle.wellformed.specs.Entry.{zeroFilled, floatOk, kindIn, okEntry};
-ghost use Rattle.wellformed.specs.Form.{allZero, headsAt, wellFormed};
-ghost use Rattle.wellformed.specs.Scan.{partOf, deepOf, fieldsOf, above, Marks, Scanned, Opened};
+ghost use Rattle.wellformed.specs.Form.{allZero, headsAt, longestAllowed, wellFormed};
+ghost use Rattle.wellformed.specs.Scan.{partDepth, partsDepth, fieldsDepth, oneOver, Marks, Scanned, Verified};
+use words::columns;
+use words::kinds;
+use words::limits;
 
 // The depth of the deepest part, or that a part is not right.
 pub enum Depth {
@@ -33,7 +36,7 @@ pub fn padding(e: &[u64]) -> bool
     requires { ⌜ 1 ≤ length (now e) ⌝ }
     ensures { λ r. ⌜ r ≡ zeroFilled (now (e .entry)) ⌝ }
 {
-    let n = e[0] / 65536;
+    let n = e[0] / kinds::COUNT;
     let s = 8 * (n % 8);
     if s == 0 {
         return true;
@@ -42,17 +45,22 @@ pub fn padding(e: &[u64]) -> bool
     last >> s == 0
 }
 
+// An entry keeps a float's size plus 64: the five sizes are multiples of 32 from 0 to 128, and size 0, a constant's, is 64.
+pub const SIZE_ZERO: u64 = 64;
+
+pub const LARGEST_SIZE: u64 = 2 * SIZE_ZERO;
+
 // Whether a float's size and constant are ones that the maker takes.
 pub fn float_ok(size: u64, bits: u64) -> bool
     ensures { λ r. ⌜ r ≡ floatOk size bits ⌝ }
 {
-    if size == 64 {
+    if size == SIZE_ZERO {
         return true;
     }
     if bits != 0 {
         return false;
     }
-    if size > 128 {
+    if size > LARGEST_SIZE {
         return false;
     }
     size % 32 == 0
@@ -71,10 +79,10 @@ fn head_at(words: &[u64], bits: &[u64], h: u64) -> u64
 {
     let at = h as usize;
     if at >= words.len() {
-        return 255;
+        return kinds::NO_HEAD;
     }
     if !bitset::marked(bits, at) {
-        return 255;
+        return kinds::NO_HEAD;
     }
     words[at]
 }
@@ -82,28 +90,28 @@ fn head_at(words: &[u64], bits: &[u64], h: u64) -> u64
 // The depth of the earlier entry at h, if its kind is from low to high.
 fn part(words: &[u64], bits: &[u64], h: u64, low: u64, high: u64) -> Depth
     requires { ⌜ Marks (now words) (now bits) ⌝ }
-    ensures { λ r. ⌜ r ≡ partOf (headsAt (bitAt (now (bits .entry))) (now (words .entry))) (kindIn low high) h ⌝ }
+    ensures { λ r. ⌜ r ≡ partDepth (headsAt (bitAt (now (bits .entry))) (now (words .entry))) (kindIn low high) h ⌝ }
 {
     let head = head_at(words, bits, h);
-    let kind = head % 256;
+    let kind = head % kinds::DEPTH;
     if kind < low {
         return Depth::Bad;
     }
     if kind > high {
         return Depth::Bad;
     }
-    Depth::Of(head / 256 % 256)
+    Depth::Of(head / kinds::DEPTH % kinds::DEPTH)
 }
 
 // The depth of the deepest of the types whose handles are `parts`.
 fn elements(words: &[u64], bits: &[u64], parts: &[u64]) -> Depth
     requires { ⌜ Marks (now words) (now bits) ⌝ }
-    ensures { λ r. ⌜ r ≡ deepOf (headsAt (bitAt (now (bits .entry))) (now (words .entry))) 0 (now (parts .entry)) ⌝ }
+    ensures { λ r. ⌜ r ≡ partsDepth (headsAt (bitAt (now (bits .entry))) (now (words .entry))) 0 (now (parts .entry)) ⌝ }
 {
     let mut d: u64 = 0;
     let mut i = 0;
     while i < parts.len() {
-        let p = part(words, bits, parts[i], 1, 11);
+        let p = part(words, bits, parts[i], kinds::BOT, kinds::MEM);
         let Depth::Of(x) = p else {
             return Depth::Bad;
         };
@@ -117,25 +125,31 @@ fn elements(words: &[u64], bits: &[u64], parts: &[u64]) -> Depth
 fn fields(words: &[u64], bits: &[u64], e: &[u64], n: u64) -> Depth
     requires { ⌜ Marks (now words) (now bits) ⌝ }
     requires { ⌜ length (now e) ≡ 2 + 3 * n ⌝ }
-    ensures { λ r. ⌜ r ≡ fieldsOf (headsAt (bitAt (now (bits .entry))) (now (words .entry))) 0 n 2 (now (e .entry)) ⌝ }
+    ensures { λ r. ⌜ r ≡ fieldsDepth (headsAt (bitAt (now (bits .entry))) (now (words .entry))) 0 n 2 (now (e .entry)) ⌝ }
 {
     let mut d: u64 = 0;
-    let mut i = 2;
+    let mut i = columns::FIELDS;
     let mut j = n;
     while 0 < j {
         let name = head_at(words, bits, e[i]);
-        if name % 256 != 0 {
+        if name % kinds::DEPTH != kinds::NAME {
             return Depth::Bad;
         }
-        if e[i + 2] > 8589934591 {
+        if e[i + columns::FLAGS] > limits::LARGEST_FLAGS {
             return Depth::Bad;
         }
-        let t = part(words, bits, e[i + 1], 1, 11);
+        let t = part(
+            words,
+            bits,
+            e[i + columns::FIELD_TYPE],
+            kinds::BOT,
+            kinds::MEM,
+        );
         let Depth::Of(x) = t else {
             return Depth::Bad;
         };
         d = larger(d, x);
-        i += 3;
+        i += columns::FIELD;
         j -= 1;
     }
     Depth::Of(d)
@@ -143,7 +157,7 @@ fn fields(words: &[u64], bits: &[u64], e: &[u64], n: u64) -> Depth
 
 // Whether a depth is one more than that of the deepest part.
 fn over(depth: u64, d: Depth) -> bool
-    ensures { λ r. ⌜ r ≡ above depth d ⌝ }
+    ensures { λ r. ⌜ r ≡ oneOver depth d ⌝ }
 {
     match d {
         Depth::Of(x) => {
@@ -163,26 +177,26 @@ pub fn entry(words: &[u64], bits: &[u64], e: &[u64]) -> bool
     ensures { λ r. ⌜ r ≡ okEntry (headsAt (bitAt (now (bits .entry))) (now (words .entry))) (now (e .entry)) ⌝ }
 {
     let head = e[0];
-    let kind = head % 256;
-    let depth = head / 256 % 256;
-    let n = head / 65536;
-    if n > 255 {
+    let kind = head % kinds::DEPTH;
+    let depth = head / kinds::DEPTH % kinds::DEPTH;
+    let n = head / kinds::COUNT;
+    if n > limits::MOST_COUNTED as u64 {
         return false;
     }
-    if depth > 32 {
+    if depth > limits::DEEPEST {
         return false;
     }
-    if kind == 0 {
+    if kind == kinds::NAME {
         if depth != 0 {
             return false;
         }
         return padding(e);
     }
-    if kind == 7 {
-        return over(depth, elements(words, bits, &e[1..]));
+    if kind == kinds::TUPLE {
+        return over(depth, elements(words, bits, &e[columns::ELEMENTS..]));
     }
-    if kind == 8 {
-        if head_at(words, bits, e[1]) % 256 != 0 {
+    if kind == kinds::STRUCT {
+        if head_at(words, bits, e[columns::NAME]) % kinds::DEPTH != kinds::NAME {
             return false;
         }
         return over(depth, fields(words, bits, e, n));
@@ -190,39 +204,45 @@ pub fn entry(words: &[u64], bits: &[u64], e: &[u64]) -> bool
     if n != 0 {
         return false;
     }
-    if kind <= 5 {
+    if kind <= kinds::INT {
         return depth == 1;
     }
-    if kind == 6 {
-        if float_ok(e[1], e[2]) {
+    if kind == kinds::FLOAT {
+        if float_ok(e[columns::SIZE], e[columns::BITS]) {
             return depth == 1;
         }
         return false;
     }
-    if kind == 9 {
-        if head_at(words, bits, e[1]) % 256 != 0 {
+    if kind == kinds::FREF {
+        if head_at(words, bits, e[columns::NAME]) % kinds::DEPTH != kinds::NAME {
             return false;
         }
         return depth == 1;
     }
-    if kind == 10 {
-        if e[2] > 1 {
+    if kind == kinds::MEM_PTR {
+        if e[columns::NIL] > limits::LARGEST_FLAG {
             return false;
         }
-        return over(depth, part(words, bits, e[1], 8, 9));
+        return over(
+            depth,
+            part(words, bits, e[columns::TARGET], kinds::STRUCT, kinds::FREF),
+        );
     }
-    if kind == 11 {
-        if e[1] > 4294967295 {
+    if kind == kinds::MEM {
+        if e[columns::ALIAS] > limits::LARGEST_ALIAS {
             return false;
         }
-        return over(depth, part(words, bits, e[2], 1, 11));
+        return over(
+            depth,
+            part(words, bits, e[columns::INNER], kinds::BOT, kinds::MEM),
+        );
     }
     false
 }
 
 // Whether entries fill the words from 1 to used, each with its parts before it. If so, the bits mark where they start.
 fn entries(words: &[u64], used: usize, bits: &mut [u64]) -> bool
-    requires { ⌜ (1 ≤ used) × (used ≤ length (now words)) × (length (now words) ≤ 64 * length (now bits)) ⌝ }
+    requires { ⌜ (1 ≤ used) × (used ≤ length (now words)) × (length (now words) ≤ wordBits * length (now bits)) ⌝ }
     ensures { λ r. ⌜ Scanned (now (words .entry)) used (now (bits .exit)) r ⌝ }
 {
     bitset::clear(bits);
@@ -242,7 +262,7 @@ fn entries(words: &[u64], used: usize, bits: &mut [u64]) -> bool
 }
 
 // The words 1 to 93 of every store.
-pub const FRESH: [u64; 93] = [
+pub const FRESH: [u64; limits::FRESH_ENTRIES] = [
     262144,
     1347376164,
     262144,
@@ -340,20 +360,20 @@ pub const FRESH: [u64; 93] = [
 
 // Whether a list of words is well formed. If so, the bits mark where its entries start.
 pub fn verify(words: &[u64], bits: &mut [u64]) -> bool
-    requires { ⌜ min (length (now words)) 1048576 ≤ 64 * length (now bits) ⌝ }
-    ensures { λ r. ⌜ Opened (now (words .entry)) (now (bits .exit)) r ⌝ }
+    requires { ⌜ min (length (now words)) longestAllowed ≤ wordBits * length (now bits) ⌝ }
+    ensures { λ r. ⌜ Verified (now (words .entry)) (now (bits .exit)) r ⌝ }
 {
-    if words.len() < 94 {
+    if words.len() < limits::FRESH_LENGTH {
         return false;
     }
-    if words.len() > 1048576 {
+    if words.len() > limits::LONGEST {
         return false;
     }
-    if !words::same(&words[1..94], &FRESH) {
+    if !words::same(&words[1..limits::FRESH_LENGTH], &FRESH) {
         return false;
     }
     let w = words[0];
-    if w < 94 {
+    if w < limits::FRESH_LENGTH as u64 {
         return false;
     }
     if w > words.len() as u64 {
@@ -366,18 +386,29 @@ pub fn verify(words: &[u64], bits: &mut [u64]) -> bool
     entries(words, used, bits)
 }
 
+// How many words of bits mark the entries of a list, for lists of up to so many words: one bit for each word.
+pub const SMALL_MARKS: usize = 64;
+
+pub const SMALL_LIST: usize = bitset::WORD_BITS * SMALL_MARKS;
+
+pub const MIDDLE_MARKS: usize = 1024;
+
+pub const MIDDLE_LIST: usize = bitset::WORD_BITS * MIDDLE_MARKS;
+
+pub const LARGE_MARKS: usize = 16384;
+
 // Row 1. The bits are a local array whose size goes by the list's length, so that a small store does not pay for a large one's.
 pub fn well_formed(words: &[u64]) -> bool
     ensures { λ r. ⌜ r ≡ wellFormed (now (words .entry)) ⌝ }
 {
-    if words.len() <= 4096 {
-        let mut bits = [0u64; 64];
+    if words.len() <= SMALL_LIST {
+        let mut bits = [0u64; SMALL_MARKS];
         return verify(words, &mut bits);
     }
-    if words.len() <= 65536 {
-        let mut bits = [0u64; 1024];
+    if words.len() <= MIDDLE_LIST {
+        let mut bits = [0u64; MIDDLE_MARKS];
         return verify(words, &mut bits);
     }
-    let mut bits = [0u64; 16384];
+    let mut bits = [0u64; LARGE_MARKS];
     verify(words, &mut bits)
 }

@@ -9,7 +9,8 @@ use native.Mathlib.Nat.{add-zero}
 use lib.ListN.{length, take}
 use lib.Seq.{take-append-le, take-length}
 use Rattle.words.specs.Words.{sizeOf, eqs, fills}
-use Rattle.words.specs.Table.{Row, rows, firstOf, Sized, In, Own}
+use Rattle.words.specs.Table.{Row, rows, firstOf, RowIn, Own}
+use Rattle.words.specs.Ran.{HasSize}
 use Rattle.words.specs.declared.Found.{Found}
 use Rattle.words.specs.declared.Found.the-variants.{At, Nothing}
 use Rattle.words.proofs.Walk.{size-pos, long}
@@ -43,12 +44,12 @@ past-all at (suc k) [] h = absurd (omega arith)
 past-all at zero (w ∷ a) h = absurd (omega arith)
 past-all at (suc k) (w ∷ a) h = past-all (suc at) k a (omega arith)
 
-pub one-fills : (e : List ℕ) → Sized e → fills 0 e ≡ true
+pub one-fills : (e : List ℕ) → HasSize e → fills 0 e ≡ true
 unfolding fills
 one-fills [] s = refl
 one-fills (w ∷ e) s = past-all 0 (pred (sizeOf w)) e (omega arith) .0
 
-pub one-row : (at : ℕ) (e : List ℕ) → Sized e → rows at 0 e ≡ record { at = at; words = e } ∷ []
+pub one-row : (at : ℕ) (e : List ℕ) → HasSize e → rows at 0 e ≡ record { at = at; words = e } ∷ []
 unfolding rows
 one-row at [] s = absurd (omega (arith, size-pos 0))
 one-row at (w ∷ e) s =
@@ -69,12 +70,12 @@ first-append (r ∷ rs) ss e = go (eqs (r .words) e) (first-append rs ss e)
     go false ih = ih
 
 -- what is found has the words looked for
-pub found-in : (rs : List Row) (e : List ℕ) (h : ℕ) → firstOf rs e ≡ At h → In (record { at = h; words = e }) rs
+pub found-in : (rs : List Row) (e : List ℕ) (h : ℕ) → firstOf rs e ≡ At h → RowIn (record { at = h; words = e }) rs
 unfolding firstOf
 found-in [] e h f = let z : _≡_ {A = ℕ} 0 1 = cc in absurd (omega arith)
 found-in (r ∷ rs) e h f = go (eqs (r .words) e) refl f (found-in rs e h)
   where
-    go : (t : Bool) → eqs (r .words) e ≡ t → cond t (At (r .at)) (firstOf rs e) ≡ At h → (firstOf rs e ≡ At h → In (record { at = h; words = e }) rs) → In (record { at = h; words = e }) (r ∷ rs)
+    go : (t : Bool) → eqs (r .words) e ≡ t → cond t (At (r .at)) (firstOf rs e) ≡ At h → (firstOf rs e ≡ At h → RowIn (record { at = h; words = e }) rs) → RowIn (record { at = h; words = e }) (r ∷ rs)
     go true q g ih =
         let a : r .at ≡ h = cc in
         let w : r .words ≡ e = eqs-eq (r .words) e q in
@@ -89,10 +90,10 @@ own-snoc rs at e own none r m = ⊎-elim old new (List·Memᴰ·append-cases rs 
     last : List Row
     last = record { at = at; words = e } ∷ []
 
-    old : In r rs → firstOf (rs ++ last) (r .words) ≡ At (r .at)
+    old : RowIn r rs → firstOf (rs ++ last) (r .words) ≡ At (r .at)
     old i = first-append rs last (r .words) ∙ rw (own r i)
 
-    new : In r last → firstOf (rs ++ last) (r .words) ≡ At (r .at)
+    new : RowIn r last → firstOf (rs ++ last) (r .words) ≡ At (r .at)
     new i =
         let q : r ≡ record { at = at; words = e } = List·Memᴰ·eq-of-singleton i in
         let w : r .words ≡ e = ap (λ (x : Row). x .words) q in

@@ -7,8 +7,9 @@ use native.Mathlib.Omega.{arith}
 use lib.ListN.{length, take, drop, length-drop, length-append}
 use lib.Seq.{drop-append-le, length-take-le}
 use Rattle.words.specs.Words.{fills}
-use Rattle.words.specs.Table.{Row, rows, entries, findIn, Sized, In, Own}
-use Rattle.words.specs.Made.{Grown, make, Segments}
+use Rattle.words.specs.Table.{Row, rows, entries, findIn, RowIn, Own}
+use Rattle.words.specs.Ran.{HasSize, Segments}
+use Rattle.words.specs.Made.{Grown, make}
 use Rattle.words.specs.declared.Found.{Found}
 use Rattle.words.specs.declared.Found.the-variants.{At, Nothing}
 use Rattle.words.proofs.Grow.{fills-append, rows-append, one-fills, one-row, found-in, own-snoc}
@@ -38,7 +39,7 @@ appends-then u g g₂ a b = record {
 pub appends-none : (u : List ℕ) (h : ℕ) → fills 0 (drop 1 u) ≡ true → Appends u (record { words = u; handle = h })
 appends-none u h full = record { ext = ext-same u; full = full; extra = []; rows = sym (append-nil (entries u)); own = λ o. o }
 
-module _ (u e : List ℕ) (low : 1 ≤ length u) (full : fills 0 (drop 1 u) ≡ true) (sized : Sized e) where
+module _ (u e : List ℕ) (low : 1 ≤ length u) (full : fills 0 (drop 1 u) ≡ true) (sized : HasSize e) where
   pub entries-append : entries (u ++ e) ≡ entries u ++ (record { at = length u; words = e } ∷ [])
   unfolding entries
   entries-append =
@@ -63,11 +64,11 @@ module _ (u e : List ℕ) (low : 1 ≤ length u) (full : fills 0 (drop 1 u) ≡ 
       }
 
   -- the entry stands at its handle
-  pub make-in : In (record { at = make u e .handle; words = e }) (entries (make u e .words))
+  pub make-in : RowIn (record { at = make u e .handle; words = e }) (entries (make u e .words))
   unfolding findIn
   make-in = go (findIn u e) refl
     where
-      go : (f : Found) → findIn u e ≡ f → In (record { at = make u e .handle; words = e }) (entries (make u e .words))
+      go : (f : Found) → findIn u e ≡ f → RowIn (record { at = make u e .handle; words = e }) (entries (make u e .words))
       go (At h) q = rw (make-there u e h q) (found-in (entries u) e h q)
       go Nothing q = rw (make-new u e q, entries-append) (Memᴰ·append-right (entries u) (List·Memᴰ·head refl))
 

@@ -6,6 +6,7 @@ pub mod Copy
 pub mod Zeros
 pub mod Join
 pub mod Grow
+pub mod Examples
 pub mod Extend
 pub mod Room
 pub mod Placed

@@ -7,7 +7,8 @@ use borrow.Rule.Slice.PartMut.{putMid}
 use lib.ListN.{length, take, drop, length-drop, length-append, drop-of-length-le, take-append-drop}
 use lib.Seq.{take-all, drop-drop, length-take-le}
 use Rattle.words.specs.Table.{findIn}
-use Rattle.words.specs.Made.{make, Segments, Ran}
+use Rattle.words.specs.Made.{make}
+use Rattle.words.specs.Ran.{Segments, Ran}
 use Rattle.words.specs.declared.Found.{Found}
 use Rattle.words.specs.declared.Found.the-variants.{At as FoundAt, Nothing}
 use Rattle.words.specs.declared.Interned.the-variants.{At, Full}

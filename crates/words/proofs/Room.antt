@@ -8,7 +8,8 @@ use borrow.Author.Tests.{le-leb, lt-leb, leb-true, leb-false}
 use lib.Dec.{leb}
 use lib.ListN.{length, take, drop, length-append, length-drop}
 use lib.Seq.{take-at, take-take, drop-append-add}
-use Rattle.words.specs.Made.{Grown, Ran, answerIn}
+use Rattle.words.specs.Made.{Grown}
+use Rattle.words.specs.Ran.{Ran, answerIn}
 use Rattle.words.specs.declared.Interned.{Interned}
 use Rattle.words.specs.declared.Interned.the-variants.{At, Full}
 use Rattle.words.proofs.Extend.{Extends, ext-length, ext-take}

@@ -1,4 +1,6 @@
 pub mod Kinds
 pub mod Words
+pub mod Columns
 pub mod Table
 pub mod Made
+pub mod Ran

@@ -1,17 +1,10 @@
--- Making entries. `u` is the used words, without any limit of room; room comes in only in `Ran`, which says what a function does
--- to a list of words that has an end.
-use mathlib.Core.Path.{_≡_}
-use mathlib.Core.Bool.{Bool, true, false}
+-- Making an entry. `u` is the used words, without any limit of room: room comes in with row 12 (call/specs/Call.antt).
 use mathlib.Core.List.{List, _++_}
-use Prim.Native.Nat.{ℕ, _+_, _≤_, _<_}
-use lib.ListN.{length, take, drop}
-use lib.Dec.{leb}
-use Rattle.words.specs.Words.{fills}
+use Prim.Native.Nat.{ℕ}
+use lib.ListN.{length}
 use Rattle.words.specs.Table.{findIn}
 use Rattle.words.specs.declared.Found.{Found}
-use Rattle.words.specs.declared.Found.the-variants.{At as FoundAt, Nothing}
-use Rattle.words.specs.declared.Interned.{Interned}
-use Rattle.words.specs.declared.Interned.the-variants.{At, Full}
+use Rattle.words.specs.declared.Found.the-variants.{At, Nothing}
 
 -- what an operation leaves: the used words, grown or not, and the handle of its answer
 pub record Grown : Type 0 where
@@ -22,37 +15,11 @@ pub record Grown : Type 0 where
 abbrev pub there : List ℕ → ℕ → Grown
 there u h = record { words = u; handle = h }
 
+-- an entry that was found at a handle, or was not and is appended
 abbrev place : Found → List ℕ → List ℕ → Grown
-place (FoundAt h) u e = there u h
+place (At h) u e = there u h
 place Nothing u e = record { words = u ++ e; handle = length u }
 
 -- "Making an entry hands back the lowest handle of an equal entry, else appends one."
 unfoldable pub make : List ℕ → List ℕ → Grown
 make u e = place (findIn u e) u e
-
--- the words of a store in two segments, of which `used` are used: entries fill them from word 1 on, and `old` ends between two
-pub record Segments (old new : List ℕ) (used : ℕ) : Type 0 where
-  pub low : 1 ≤ used
-  pub over : length old ≤ used
-  pub high : used ≤ length old + length new
-  pub cut : fills 0 (drop 1 old) ≡ true
-  pub full : fills 0 (drop 1 (take used (old ++ new))) ≡ true
-
--- the answer where there are n words in all
-abbrev answer : Bool → Grown → Interned
-answer true g = At (g .handle) (length (g .words))
-answer false g = Full
-
-unfoldable pub answerIn : ℕ → Grown → Interned
-answerIn n g = answer (leb (length (g .words)) n) g
-
--- r and ws′ are what is left of the operation g on the words ws. Where the grown words fit, they stand at the front, and behind them is
--- what was there. Where they do not, only the first `kept` words are as they were.
-pub record Ran (kept : ℕ) (g : Grown) (ws ws′ : List ℕ) (r : Interned) : Type 0 where
-  pub answer : r ≡ answerIn (length ws) g
-  pub fits : length (g .words) ≤ length ws → ws′ ≡ g .words ++ drop (length (g .words)) ws
-  pub full : length ws < length (g .words) → take kept ws′ ≡ take kept ws
-
--- the same for two segments: `op` is the operation on the used words, and `new′` what it leaves of the second segment
-abbrev pub Runs : (List ℕ → Grown) → List ℕ → List ℕ → ℕ → List ℕ → Interned → Type 0
-Runs op old new used new′ r = Ran used (op (take used (old ++ new))) (old ++ new) (old ++ new′) r

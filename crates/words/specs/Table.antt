@@ -3,7 +3,7 @@ use mathlib.Core.Bool.{Bool, false, cond, _||_}
 use mathlib.Core.Path.{_≡_}
 use mathlib.Core.List.{List, [], _∷_, List·Memᴰ}
 use Prim.Native.Nat.{ℕ, zero, suc, pred}
-use lib.ListN.{length, take, drop, getD}
+use lib.ListN.{take, drop}
 use lib.Dec.{eqb}
 use Rattle.words.specs.Words.{sizeOf, eqs}
 use Rattle.words.specs.declared.Found.{Found}
@@ -14,7 +14,9 @@ pub record Row : Type 0 where
   pub at : ℕ
   pub words : List ℕ
 
--- the rows of a list of words that begins at position `at`, of whose first entry k words are still to come
+-- The rows of a list of words whose first word has the position `at`. k words are passed over first, the rest of an entry that began before the list; then each head says how many words follow it.
+-- For example (proofs/Examples.antt): at position 94 the words 261, 3, 4, 257 are two rows, the Int 3..4 at 94 with the words 261, 3, 4, and a Bot at 97 with the word 257:
+--   rows 94 0 (261 ∷ 3 ∷ 4 ∷ 257 ∷ []) = row at 94 and rows 95 2 (3 ∷ 4 ∷ 257 ∷ []) = .. and rows 97 0 (257 ∷ []) = .. and a row at 97.
 unfoldable pub rows : ℕ → ℕ → List ℕ → List Row
 rows at zero [] = []
 rows at (suc k) [] = []
@@ -43,14 +45,10 @@ isAt (r ∷ rs) h = eqb (r .at) h || isAt rs h
 abbrev pub starts : List ℕ → ℕ → Bool
 starts u = isAt (entries u)
 
--- an entry has as many words as its head says
-abbrev pub Sized : List ℕ → Type 0
-Sized e = length e ≡ sizeOf (getD e 0 0)
-
--- a row of a table
-abbrev pub In : Row → List Row → Type 0
-In = List·Memᴰ
+-- r is a row of the table
+abbrev pub RowIn : Row → List Row → Type 0
+RowIn = List·Memᴰ
 
 -- no two entries are equal: each is the first with its words
 abbrev pub Own : List Row → Type 0
-Own rs = (r : Row) → In r rs → firstOf rs (r .words) ≡ At (r .at)
+Own rs = (r : Row) → RowIn r rs → firstOf rs (r .words) ≡ At (r .at)

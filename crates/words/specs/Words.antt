@@ -34,7 +34,7 @@ wordsAfter k n =
     (cond (eqb k Struct) (1 + 3 * n)
     -- name handle
     (cond (eqb k Fref) 1
-    -- MemPtr: struct or forward reference handle, nil; Mem: alias, type handle
+    -- MemPtr: struct or forward reference handle, nil; Mem: alias, type handle; a head of no kind, which row 1 turns back, has none
     (cond (leb k lastKind) 2 0))))))
 
 -- the words of an entry with this head
@@ -48,7 +48,8 @@ eqs [] (y ∷ ys) = false
 eqs (x ∷ xs) [] = false
 eqs (x ∷ xs) (y ∷ ys) = eqb x y && eqs xs ys
 
--- "Entries follow .. without gaps": k words are left of an entry, and then entries fill the list, each head saying how many words follow it
+-- "Entries follow .. without gaps": k words are left of an entry, and then entries fill the list, each head saying how many words follow it. For example (proofs/Examples.antt): the words 261, 3, 4, 257
+-- are filled by an Int (261 is its head, two words follow) and a Bot, so `fills 0` of them is true; of 261, 3 it is not, since a word of the Int is missing, and of 3, 4, 257 `fills 2` is.
 unfoldable pub fills : ℕ → List ℕ → Bool
 fills zero [] = true
 fills (suc k) [] = false

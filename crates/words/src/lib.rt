@@ -9,6 +9,11 @@ ghost use lib.Seq.{slice};
 ghost use Rattle.words.specs.Words.{sizeOf, eqs, fills};
 ghost use Rattle.words.specs.Table.{rows, firstOf};
 
+pub mod columns;
+pub mod fresh;
+pub mod kinds;
+pub mod limits;
+
 pub enum Found {
     At(usize),
     Nothing,
@@ -18,14 +23,14 @@ pub enum Found {
 pub fn size(head: u64) -> usize
     ensures { λ r. ⌜ r ≡ sizeOf head ⌝ }
 {
-    let kind = head % 256;
-    let n = (head / 65536) as usize;
+    let kind = head % kinds::DEPTH;
+    let n = (head / kinds::COUNT) as usize;
     match kind {
-        0 => 1 + (n + 7) / 8,
-        5 | 6 | 10 | 11 => 3,
-        7 => 1 + n,
-        8 => 2 + 3 * n,
-        9 => 2,
+        kinds::NAME => 1 + (n + 7) / 8, // n bytes, eight a word
+        kinds::INT | kinds::FLOAT | kinds::MEM_PTR | kinds::MEM => 3,
+        kinds::TUPLE => 1 + n,
+        kinds::STRUCT => columns::FIELDS + columns::FIELD * n,
+        kinds::FREF => 2,
         _ => 1,
     }
 }

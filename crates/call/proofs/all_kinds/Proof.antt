@@ -4,7 +4,7 @@ use mathlib.Core.List.{_++_}
 use Prim.Native.Nat.{_≤_, _-_}
 use lib.ListN.{length, take, drop}
 use Rattle.wellformed.specs.Entry.{kindIn, kindAt, all}
-use Rattle.call.specs.Handles.{word}
+use Rattle.words.specs.Columns.{word}
 use Rattle.call.proofs.Lists.{all-end, kind-low, kind-high, kind-right}
 use borrow.Author.Needs.{needs}
 use Rattle.call.proofs.all_kinds.Statement.{statement}

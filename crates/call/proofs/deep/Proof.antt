@@ -5,7 +5,7 @@ use Prim.Native.Nat.{_≤_, _<_, _-_, max}
 use lib.ListN.{length, take, drop}
 use native.Mathlib.Omega.{arith}
 use Rattle.wellformed.specs.Entry.{deepest}
-use Rattle.call.specs.Handles.{word}
+use Rattle.words.specs.Columns.{word}
 use Rattle.call.proofs.Lists.{deep-end, deep-on}
 use borrow.Author.Needs.{needs}
 use Rattle.call.proofs.deep.Statement.{statement}

@@ -4,8 +4,8 @@ use mathlib.Core.List.{_++_}
 use Prim.Native.Nat.{_+_, _*_, _/_, _≤_, _<_, _-_, max}
 use lib.ListN.{length, take}
 use native.Mathlib.Omega.{arith}
-use Rattle.wellformed.specs.Entry.{deepest, every}
-use Rattle.call.specs.Handles.{word}
+use Rattle.wellformed.specs.Entry.{deepest}
+use Rattle.words.specs.Columns.{every, word}
 use Rattle.makers.proofs.Fields.{apart-end, apart-on}
 use borrow.Author.Needs.{needs}
 use Rattle.makers.proofs.fields_deep.Statement.{statement}

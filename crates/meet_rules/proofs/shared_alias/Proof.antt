@@ -1,5 +1,5 @@
 -- `meet_rules::shared_alias` meets its contract.
-use Rattle.meet_rules.proofs.Answers.{shared, not-shared}
+use Rattle.meet_rules.proofs.Heads.{shared, not-shared}
 use Rattle.meet_rules.proofs.shared_alias.Statement.{statement}
 use Rattle.meet_rules.proofs.shared_alias.Tie as tie
 

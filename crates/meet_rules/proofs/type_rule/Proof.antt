@@ -1,5 +1,5 @@
 -- `meet_rules::type_rule` meets its contract.
-use Rattle.meet_rules.proofs.Answers.{by-words}
+use Rattle.meet_rules.proofs.Heads.{by-words}
 use borrow.Author.Needs.{needs}
 use Rattle.meet_rules.proofs.type_rule.Statement.{statement}
 use Rattle.meet_rules.proofs.type_rule.Tie as tie

@@ -28,10 +28,10 @@ use Rattle.makers.proofs.tuple.Reads as tuple-reads
 use Rattle.meet_types.proofs.meet_key.Reads as meet-key-reads
 use Rattle.meet_types.proofs.pair_key.Reads as pair-key-reads
 use Rattle.meet_fields.proofs.meet_fields.Reads as meet-fields-reads
-use Rattle.meet_rules.proofs.meet_float.Reads as meet-float-reads
-use Rattle.meet_rules.proofs.meet_int.Reads as meet-int-reads
+use Rattle.meet_answers.proofs.meet_float.Reads as meet-float-reads
+use Rattle.meet_answers.proofs.meet_int.Reads as meet-int-reads
 use Rattle.meet_rules.proofs.shared_alias.Reads as shared-alias-reads
-use Rattle.meet_rules.proofs.struct_rule.Reads as struct-rule-reads
+use Rattle.struct_rules.proofs.struct_rule.Reads as struct-rule-reads
 use Rattle.meet_rules.proofs.type_rule.Reads as type-rule-reads
 use Rattle.memo.proofs.noted.Reads as noted-reads
 use Rattle.memo.proofs.recall.Reads as recall-reads

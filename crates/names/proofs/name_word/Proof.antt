@@ -4,14 +4,14 @@ use Prim.Native.Nat.{_+_, _-_, _*_, _^_, _≤_, _<_}
 use borrow.Author.Needs.{needs}
 use native.Mathlib.Omega.{arith}
 use lib.ListN.{take, drop}
-use Rattle.names.specs.Name.{number, wrapped}
+use Rattle.names.specs.Name.{ofBytes, wrapped}
 use Rattle.names.proofs.Number.{room, wider-by-one, one-more, all-eight}
 use Rattle.names.proofs.Bytes.{plain-word}
 use Rattle.names.proofs.name_word.Statement.{statement}
 use Rattle.names.proofs.name_word.Tie as tie
 
 abbrev Inv-loop : tie.InvT-loop
-Inv-loop text wrap at w₀ j₀ w j = (j ≤ 8) × (w < 2 ^ (8 * (8 - j))) × (w ≡ number (take (8 - j) (drop (at + j) (wrapped wrap text))))
+Inv-loop text wrap at w₀ j₀ w j = (j ≤ 8) × (w < 2 ^ (8 * (8 - j))) × (w ≡ ofBytes (take (8 - j) (drop (at + j) (wrapped wrap text))))
 
 abbrev μ-loop : tie.MeasureT-loop
 μ-loop text wrap at w₀ j₀ w j = j
@@ -26,7 +26,7 @@ returns : tie.Need-returns Inv-loop μ-loop
 returns c = search plain-word
 
 loop-holds : tie.Need-loop-holds Inv-loop μ-loop
-unfolding number
+unfolding ofBytes
 loop-holds c = (search needs, search needs, refl)
 
 sub-j : tie.Need-sub-j Inv-loop μ-loop

@@ -2,8 +2,8 @@
 use mathlib.Core.Path.{_≡_, refl}
 use Prim.Native.Nat.{_+_, _*_, _/_, _≤_}
 use lib.ListN.{length, take}
-use Rattle.wellformed.specs.Entry.{kindIn, kindAt, every, all}
-use Rattle.call.specs.Handles.{word}
+use Rattle.wellformed.specs.Entry.{kindIn, kindAt, all}
+use Rattle.words.specs.Columns.{every, word}
 use Rattle.rows.proofs.Apart.{apart-end, stop-one, on-one}
 use borrow.Author.Needs.{needs}
 use Rattle.rows.proofs.fields_kind.Statement.{statement}

@@ -2,7 +2,8 @@
 use mathlib.Core.Path.{_≡_, refl}
 use Prim.Native.Nat.{_+_, _*_, _/_, _≤_}
 use lib.ListN.{length}
-use Rattle.wellformed.specs.Entry.{every, all}
+use Rattle.wellformed.specs.Entry.{all}
+use Rattle.words.specs.Columns.{every}
 use Rattle.rows.specs.Tests.{atMost}
 use Rattle.rows.proofs.Apart.{apart-end, stop-most, on-most}
 use borrow.Author.Needs.{needs}

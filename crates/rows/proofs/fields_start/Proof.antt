@@ -3,7 +3,8 @@ use mathlib.Core.Path.{_≡_, refl}
 use Prim.Native.Nat.{_+_, _*_, _/_, _≤_}
 use lib.ListN.{length}
 use Rattle.bitset.specs.Bitset.{bitAt}
-use Rattle.wellformed.specs.Entry.{every, all}
+use Rattle.wellformed.specs.Entry.{all}
+use Rattle.words.specs.Columns.{every}
 use Rattle.rows.proofs.Apart.{apart-end, stop-said, on-said}
 use borrow.Author.Needs.{needs}
 use Rattle.rows.proofs.fields_start.Statement.{statement}

@@ -28,10 +28,10 @@ use Rattle.makers.proofs.tuple.Reads as tuple-reads
 use Rattle.memo.proofs.noted.Reads as noted-reads
 use Rattle.memo.proofs.recall.Reads as recall-reads
 use Rattle.walk.proofs.walk_key.Reads as walk-key-reads
-use Rattle.walk_rules.proofs.fields_of.Reads as fields-of-reads
-use Rattle.walk_rules.proofs.float_of.Reads as float-of-reads
-use Rattle.walk_rules.proofs.form_of.Reads as form-of-reads
-use Rattle.walk_rules.proofs.int_of.Reads as int-of-reads
+use Rattle.walk_fields.proofs.fields_of.Reads as fields-of-reads
+use Rattle.walk_answers.proofs.float_of.Reads as float-of-reads
+use Rattle.walk_answers.proofs.form_of.Reads as form-of-reads
+use Rattle.walk_answers.proofs.int_of.Reads as int-of-reads
 use Rattle.walk_rules.proofs.nil_of.Reads as nil-of-reads
 use Rattle.words.proofs.word.Reads as word-reads
 use Rattle.walk.proofs.+walk_struct+walk_type.{statement}

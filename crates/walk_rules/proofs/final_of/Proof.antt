@@ -1,6 +1,6 @@
 -- `walk_rules::final_of` meets its contract.
 use Rattle.walk_rules.specs.declared.Walk.the-variants.{Dual, Glb, Lub}
-use Rattle.walk_rules.proofs.Answers.{final-by}
+use Rattle.walk_rules.proofs.Flags.{final-by}
 use borrow.Author.Needs.{needs}
 use Rattle.walk_rules.proofs.final_of.Statement.{statement}
 use Rattle.walk_rules.proofs.final_of.Tie as tie

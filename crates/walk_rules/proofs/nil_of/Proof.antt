@@ -1,5 +1,5 @@
 -- `walk_rules::nil_of` meets its contract.
-use Rattle.walk_rules.proofs.Answers.{nil-dual}
+use Rattle.walk_rules.proofs.Flags.{nil-dual}
 use borrow.Author.Needs.{needs}
 use Rattle.walk_rules.proofs.nil_of.Statement.{statement}
 use Rattle.walk_rules.proofs.nil_of.Tie as tie

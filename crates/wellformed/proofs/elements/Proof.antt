@@ -4,14 +4,14 @@ use Prim.Native.Nat.{_≤_, _-_}
 use lib.ListN.{length, drop}
 use Rattle.bitset.specs.Bitset.{bitAt}
 use Rattle.wellformed.specs.Form.{headsAt}
-use Rattle.wellformed.specs.Scan.{deepOf}
+use Rattle.wellformed.specs.Scan.{partsDepth}
 use Rattle.wellformed.proofs.Parts.{no-part, bad-part, good-part}
 use borrow.Author.Needs.{needs}
 use Rattle.wellformed.proofs.elements.Statement.{statement}
 use Rattle.wellformed.proofs.elements.Tie as tie
 
 abbrev Inv-loop : tie.InvT-loop
-Inv-loop words bits parts d₀ i₀ d i = (i ≤ length parts) × (deepOf (headsAt (bitAt bits) words) 0 parts ≡ deepOf (headsAt (bitAt bits) words) d (drop i parts))
+Inv-loop words bits parts d₀ i₀ d i = (i ≤ length parts) × (partsDepth (headsAt (bitAt bits) words) 0 parts ≡ partsDepth (headsAt (bitAt bits) words) d (drop i parts))
 
 abbrev μ-loop : tie.MeasureT-loop
 μ-loop words bits parts d₀ i₀ d i = length parts - i

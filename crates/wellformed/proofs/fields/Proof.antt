@@ -4,14 +4,14 @@ use Prim.Native.Nat.{_+_, _*_, _-_}
 use lib.ListN.{length}
 use Rattle.bitset.specs.Bitset.{bitAt}
 use Rattle.wellformed.specs.Form.{headsAt}
-use Rattle.wellformed.specs.Scan.{fieldsOf}
+use Rattle.wellformed.specs.Scan.{fieldsDepth}
 use Rattle.wellformed.proofs.Parts.{no-field, bad-name, bad-alias, bad-type, good-field}
 use borrow.Author.Needs.{needs}
 use Rattle.wellformed.proofs.fields.Statement.{statement}
 use Rattle.wellformed.proofs.fields.Tie as tie
 
 abbrev Inv-loop : tie.InvT-loop
-Inv-loop words bits e n d₀ i₀ j₀ d i j = (length e ≡ i + 3 * j) × (fieldsOf (headsAt (bitAt bits) words) 0 n 2 e ≡ fieldsOf (headsAt (bitAt bits) words) d j i e)
+Inv-loop words bits e n d₀ i₀ j₀ d i j = (length e ≡ i + 3 * j) × (fieldsDepth (headsAt (bitAt bits) words) 0 n 2 e ≡ fieldsDepth (headsAt (bitAt bits) words) d j i e)
 
 abbrev μ-loop : tie.MeasureT-loop
 μ-loop words bits e n d₀ i₀ j₀ d i j = j

@@ -1,0 +1,2 @@
+pub mod FloatsRead
+pub mod IntsRead
