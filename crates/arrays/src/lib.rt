@@ -22,6 +22,7 @@ pub fn array(
     index: &[u64],
 ) -> Interned
     requires { ⌜ Segments (now old) (now new) used ⌝ }
+    // the text and its two brackets
     requires { ⌜ (2 + length (now text) ≤ mostCounted) × («len_alias» ≤ largestAlias) × («body_alias» ≤ largestAlias) ⌝ }
     requires { ⌜ Covers (take used (now old ++ now new)) (now index) ⌝ }
     ensures { λ r. ⌜ Runs (makeAry len «len_alias» body «body_alias» (now (text .entry))) (now (old .entry)) (now (new .entry)) used (now (new .exit)) r ⌝ }

@@ -109,7 +109,7 @@ pub fn all_kinds(old: &[u64], new: &[u64], used: usize, hs: &[u64], low: u64, hi
     true
 }
 
-// The depth of the entry at h.
+// The depth of the entry at h, one byte of its head.
 pub fn depth_on(old: &[u64], new: &[u64], used: usize, h: u64) -> u64
     requires { ⌜ (length (now old) ≤ used) × (used ≤ length (now old) + length (now new)) ⌝ }
     ensures { λ r. ⌜ (r ≡ depthOf (word (take used (now (old .entry) ++ now (new .entry))) h)) × (r < 256) ⌝ }

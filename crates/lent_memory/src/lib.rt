@@ -26,6 +26,13 @@ ghost use Rattle.words.specs.Kinds.{Bot, lastKind};
 // A lent memory has six parts of one length, in this order: the answers of dual, of meet, of glb, of lub, of make_ro, and the types known to be final.
 const PARTS: usize = 6;
 
+// where the answers of glb begin, behind those of dual and of meet; those of make_ro; and the final types
+const GLBS: usize = 2;
+
+const ROS: usize = 4;
+
+const FINALS: usize = 5;
+
 pub fn meet(
     old: &[u64],
     new: &mut [u64],
@@ -46,7 +53,7 @@ pub fn meet(
         let mut known = [0u64; 0];
         return own_memory::run(Operation::Meet(b), &*old, new, used, a, &mut known, &*index);
     }
-    meet_types::meet_type(&*old, new, used, a, b, &mut memory[n..2 * n], &*index)
+    meet_types::meet_type(&*old, new, used, a, b, &mut memory[n..GLBS * n], &*index)
 }
 
 // dual, glb and lub.
@@ -103,7 +110,7 @@ pub fn join(
     if n == 0 {
         return own_memory::join(&*old, new, used, a, b, &*index);
     }
-    join::join(&*old, new, used, a, b, &mut memory[..2 * n], &*index)
+    join::join(&*old, new, used, a, b, &mut memory[..GLBS * n], &*index)
 }
 
 // make_ro of a small type, which needs no set of final types: its walk is over soon.
@@ -148,10 +155,10 @@ fn make_ro_large(
         new,
         used,
         a,
-        &mut memory[5 * n..6 * n],
+        &mut memory[FINALS * n..PARTS * n],
         &*index,
     );
-    memo::noted(&mut memory[4 * n..5 * n], a as u64, r)
+    memo::noted(&mut memory[ROS * n..FINALS * n], a as u64, r)
 }
 
 // An answer that is remembered is handed back at once. Without a lent memory `scratch` is the set of final types, whatever it holds.
@@ -174,12 +181,19 @@ pub fn make_ro(
     if n == 0 {
         return own_memory::make_ro(&*old, new, used, a, scratch, &*index);
     }
-    let line = memo::recall(&memory[4 * n..5 * n], a as u64);
+    let line = memo::recall(&memory[ROS * n..FINALS * n], a as u64);
     if let Recalled::Is(h) = line {
         return Interned::At(h as usize, used);
     }
     if small::is_small(&*old, new, used, a) {
-        return make_ro_small(&*old, new, used, a, &mut memory[4 * n..5 * n], &*index);
+        return make_ro_small(
+            &*old,
+            new,
+            used,
+            a,
+            &mut memory[ROS * n..FINALS * n],
+            &*index,
+        );
     }
     make_ro_large(&*old, new, used, a, memory, &*index)
 }
@@ -202,7 +216,7 @@ pub fn is_final(
     if n == 0 {
         return own_memory::is_final(&*old, &*new, used, a, scratch);
     }
-    finals::is_final(&*old, &*new, used, a, &mut memory[5 * n..6 * n])
+    finals::is_final(&*old, &*new, used, a, &mut memory[FINALS * n..PARTS * n])
 }
 
 // Whether the meet of a and b would be b, by meeting them. The used words are lent to be read, with no word behind them, so that nothing is appended; and so the
@@ -233,7 +247,7 @@ pub fn isa(words: &[u64], used: usize, a: u64, b: u64, memory: &mut [u64], index
         used,
         a as usize,
         b as usize,
-        &mut memory[n..2 * n],
+        &mut memory[n..GLBS * n],
         &*index,
     );
     memory_steps::is_second(m, b)

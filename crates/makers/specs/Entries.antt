@@ -37,21 +37,25 @@ memoryEntry alias t u = headAround u Mem 0 (t ∷ []) ∷ alias ∷ t ∷ []
 
 -- ---- structs: "A field is lent as name, type, alias, final; an unfinished last one is not read."
 
-abbrev pub fieldCount : List ℕ → ℕ
-fieldCount fs = length fs / 4
+-- the words of a lent field, and how many fields are finished
+abbrev pub lentSize : ℕ
+lentSize = 4
 
--- its names, types, aliases and finals, each every fourth word
+abbrev pub fieldCount : List ℕ → ℕ
+fieldCount fs = length fs / lentSize
+
+-- their names, types, aliases and finals
 abbrev pub fieldNames : List ℕ → List ℕ
-fieldNames fs = every 4 (fieldCount fs) 0 fs
+fieldNames fs = every lentSize (fieldCount fs) 0 fs
 
 abbrev pub fieldTypes : List ℕ → List ℕ
-fieldTypes fs = every 4 (fieldCount fs) 1 fs
+fieldTypes fs = every lentSize (fieldCount fs) 1 fs
 
 abbrev pub fieldAliases : List ℕ → List ℕ
-fieldAliases fs = every 4 (fieldCount fs) 2 fs
+fieldAliases fs = every lentSize (fieldCount fs) 2 fs
 
 abbrev pub fieldFinals : List ℕ → List ℕ
-fieldFinals fs = every 4 (fieldCount fs) 3 fs
+fieldFinals fs = every lentSize (fieldCount fs) 3 fs
 
 -- a lent field whose first word has the position p
 abbrev pub lentName : List ℕ → ℕ → ℕ
@@ -67,7 +71,7 @@ abbrev pub lentFinal : List ℕ → ℕ → ℕ
 lentFinal fs p = word fs (p + 3)
 
 abbrev pub nextLent : ℕ → ℕ
-nextLent p = p + 4
+nextLent p = p + lentSize
 
 -- "n times: field name, type, 2 × alias + final", of n lent fields from position p on
 unfoldable pub fieldWords : ℕ → ℕ → List ℕ → List ℕ

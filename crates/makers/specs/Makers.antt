@@ -15,7 +15,7 @@ use Rattle.call.specs.Call.{Outcome, left, handle, number, accepted, refused, _
 use Rattle.call.specs.Handles.{noEntry, wrongKind, typesRows, tooDeep}
 use Rattle.words.specs.Columns.{kindOn, nilOn}
 use Rattle.names.specs.Name.{nameEntry, openBracket, closeBracket, wrapped}
-use Rattle.makers.specs.Entries.{intEntry, storedSize, floatEntry, tupleEntry, frefEntry, pointerEntry, memoryEntry, fieldCount, fieldNames, fieldTypes, fieldAliases, fieldFinals, structEntry}
+use Rattle.makers.specs.Entries.{intEntry, storedSize, floatEntry, tupleEntry, frefEntry, pointerEntry, memoryEntry, lentSize, fieldCount, fieldNames, fieldTypes, fieldAliases, fieldFinals, structEntry}
 
 -- ---- a fresh store: "One call writes a fresh store into a lent list and zeroes the rest; of row 1 it tests the length only"
 
@@ -104,7 +104,7 @@ unfoldable pub structRows : ℕ → List ℕ → List ℕ → ℕ
 structRows name fs u =
     2 when noEntry u (name ∷ []) || noEntry u (fieldNames fs) || noEntry u (fieldTypes fs)
     otherwise 3 when wrongKind u isName (name ∷ []) || wrongKind u isName (fieldNames fs) || wrongKind u isType (fieldTypes fs)
-    otherwise 4 when not (eqb (length fs % 4) 0) || not (all isAlias (fieldAliases fs)) || not (all isFlag (fieldFinals fs))
+    otherwise 4 when not (eqb (length fs % lentSize) 0) || not (all isAlias (fieldAliases fs)) || not (all isFlag (fieldFinals fs))
     otherwise 5 when ltb mostCounted (fieldCount fs)
     otherwise 6 when tooDeep u (fieldTypes fs)
 

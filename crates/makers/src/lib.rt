@@ -15,7 +15,7 @@ ghost use Rattle.words.specs.Made.{make};
 ghost use Rattle.words.specs.Ran.{Segments, Runs};
 ghost use Rattle.type_float.specs.Float.{wordOf, isSize};
 ghost use Rattle.wellformed.specs.Entry.{deepest, mostCounted};
-ghost use Rattle.words.specs.Columns.{word};
+ghost use Rattle.words.specs.Columns.{word, fieldSize, structSize};
 ghost use Rattle.makers.specs.Entries.{intEntry, floatEntry, tupleEntry, frefEntry, pointerEntry, memoryEntry, fieldCount, fieldTypes, fieldWords, structEntry};
 ghost use Rattle.makers.specs.Fit.{ValuesFit};
 
@@ -177,9 +177,9 @@ pub fn fields_deep(old: &[u64], new: &[u64], used: usize, fields: &[u64]) -> u64
 
 // Fills the first words of `dst` with the words of the lent fields.
 fn field_words(dst: &mut [u64], fields: &[u64])
-    requires { ⌜ 3 * fieldCount (now fields) ≤ length (now dst) ⌝ }
+    requires { ⌜ fieldSize * fieldCount (now fields) ≤ length (now dst) ⌝ }
     requires { ⌜ ValuesFit (now fields) ⌝ }
-    ensures { λ _. ⌜ now (dst .exit) ≡ fieldWords (fieldCount (now (fields .entry))) 0 (now (fields .entry)) ++ drop (3 * fieldCount (now (fields .entry))) (now (dst .entry)) ⌝ }
+    ensures { λ _. ⌜ now (dst .exit) ≡ fieldWords (fieldCount (now (fields .entry))) 0 (now (fields .entry)) ++ drop (fieldSize * fieldCount (now (fields .entry))) (now (dst .entry)) ⌝ }
 {
     let n = fields.len() / columns::LENT_FIELD;
     let mut i = 0;
@@ -196,9 +196,9 @@ fn field_words(dst: &mut [u64], fields: &[u64])
 
 // The entry of a struct, in the first words of `e`.
 fn struct_words(e: &mut [u64], head: u64, name: u64, fields: &[u64])
-    requires { ⌜ 2 + 3 * fieldCount (now fields) ≤ length (now e) ⌝ }
+    requires { ⌜ structSize (fieldCount (now fields)) ≤ length (now e) ⌝ }
     requires { ⌜ ValuesFit (now fields) ⌝ }
-    ensures { λ _. ⌜ now (e .exit) ≡ (head ∷ name ∷ fieldWords (fieldCount (now (fields .entry))) 0 (now (fields .entry))) ++ drop (2 + 3 * fieldCount (now (fields .entry))) (now (e .entry)) ⌝ }
+    ensures { λ _. ⌜ now (e .exit) ≡ (head ∷ name ∷ fieldWords (fieldCount (now (fields .entry))) 0 (now (fields .entry))) ++ drop (structSize (fieldCount (now (fields .entry)))) (now (e .entry)) ⌝ }
 {
     field_words(&mut e[columns::FIELDS..], &*fields);
     e[columns::NAME] = name;
@@ -216,7 +216,7 @@ fn structure_in(
     index: &[u64],
 ) -> Interned
     requires { ⌜ Segments (now old) (now new) used ⌝ }
-    requires { ⌜ (fieldCount (now fields) ≤ mostCounted) × (2 + 3 * fieldCount (now fields) ≤ length (now e)) × ValuesFit (now fields) ⌝ }
+    requires { ⌜ (fieldCount (now fields) ≤ mostCounted) × (structSize (fieldCount (now fields)) ≤ length (now e)) × ValuesFit (now fields) ⌝ }
     requires { ⌜ Covers (take used (now old ++ now new)) (now index) ⌝ }
     ensures { λ r. ⌜ Runs (λ u. make u (structEntry name (now (fields .entry)) u)) (now (old .entry)) (now (new .entry)) used (now (new .exit)) r ⌝ }
 {

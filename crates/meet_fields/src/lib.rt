@@ -10,7 +10,7 @@ ghost use lib.ListN.{length, take, drop};
 ghost use Rattle.index.specs.Covers.{Covers};
 ghost use Rattle.words.specs.Ran.{Segments, Runs};
 ghost use Rattle.wellformed.specs.Entry.{all, isAliasFinal, mostCounted};
-ghost use Rattle.words.specs.Columns.{every, firstFlagsOn};
+ghost use Rattle.words.specs.Columns.{every, firstFlagsOn, firstFlags, fieldSize};
 ghost use Rattle.meet_fields.specs.Fields.{eitherFinal, meetFields};
 ghost use Rattle.wellformed.specs.Form.{longestAllowed};
 
@@ -28,8 +28,8 @@ fn either_final(
     q: usize,
 )
     requires { ⌜ (length (now old) ≤ used) × (used ≤ length (now old) + length (now new)) ⌝ }
-    requires { ⌜ (n ≤ length (now dst)) × (n ≤ mostCounted) × (p ≤ longestAllowed + 4) × (q ≤ longestAllowed + 4) ⌝ }
-    ensures { λ _. ⌜ now (dst .exit) ≡ eitherFinal (every 3 n p (take used (now (old .entry) ++ now (new .entry)))) (every 3 n q (take used (now (old .entry) ++ now (new .entry)))) ++ drop n (now (dst .entry)) ⌝ }
+    requires { ⌜ (n ≤ length (now dst)) × (n ≤ mostCounted) × (p ≤ firstFlags longestAllowed) × (q ≤ firstFlags longestAllowed) ⌝ }
+    ensures { λ _. ⌜ now (dst .exit) ≡ eitherFinal (every fieldSize n p (take used (now (old .entry) ++ now (new .entry)))) (every fieldSize n q (take used (now (old .entry) ++ now (new .entry)))) ++ drop n (now (dst .entry)) ⌝ }
 {
     let mut i = 0;
     while i < n {

@@ -12,7 +12,7 @@ ghost use Rattle.words.specs.Columns.{every, word};
 ghost use Rattle.call.specs.Steps.{Marked};
 ghost use Rattle.call.specs.Handles.{typesRows};
 ghost use Rattle.rows.specs.Tests.{atMost, anyNot};
-ghost use Rattle.makers.specs.Entries.{fieldCount, fieldNames, fieldTypes};
+ghost use Rattle.makers.specs.Entries.{fieldCount, fieldNames, fieldTypes, lentSize};
 ghost use Rattle.makers.specs.Makers.{tupleRows, frefRows, partRows, structRows, neverNil, aryRows};
 
 // ---- types
@@ -97,8 +97,8 @@ pub fn part_rows(
 // ---- structs: words that stand four apart in the lent fields
 
 fn fields_start(bits: &[u64], fields: &[u64], p: usize) -> bool
-    requires { ⌜ p < 4 ⌝ }
-    ensures { λ r. ⌜ r ≡ all (bitAt (now (bits .entry))) (every 4 (fieldCount (now (fields .entry))) p (now (fields .entry))) ⌝ }
+    requires { ⌜ p < lentSize ⌝ }
+    ensures { λ r. ⌜ r ≡ all (bitAt (now (bits .entry))) (every lentSize (fieldCount (now (fields .entry))) p (now (fields .entry))) ⌝ }
 {
     let mut at = p;
     let mut j = fields.len() / columns::LENT_FIELD;
@@ -113,8 +113,8 @@ fn fields_start(bits: &[u64], fields: &[u64], p: usize) -> bool
 }
 
 fn fields_kind(words: &[u64], used: usize, fields: &[u64], p: usize, low: u64, high: u64) -> bool
-    requires { ⌜ (p < 4) × (used ≤ length (now words)) ⌝ }
-    ensures { λ r. ⌜ r ≡ all (kindAt (word (take used (now (words .entry)))) (kindIn low high)) (every 4 (fieldCount (now (fields .entry))) p (now (fields .entry))) ⌝ }
+    requires { ⌜ (p < lentSize) × (used ≤ length (now words)) ⌝ }
+    ensures { λ r. ⌜ r ≡ all (kindAt (word (take used (now (words .entry)))) (kindIn low high)) (every lentSize (fieldCount (now (fields .entry))) p (now (fields .entry))) ⌝ }
 {
     let none = [0u64; 0];
     let mut at = p;
@@ -130,8 +130,8 @@ fn fields_kind(words: &[u64], used: usize, fields: &[u64], p: usize, low: u64, h
 }
 
 fn fields_most(fields: &[u64], p: usize, most: u64) -> bool
-    requires { ⌜ p < 4 ⌝ }
-    ensures { λ r. ⌜ r ≡ all (atMost most) (every 4 (fieldCount (now (fields .entry))) p (now (fields .entry))) ⌝ }
+    requires { ⌜ p < lentSize ⌝ }
+    ensures { λ r. ⌜ r ≡ all (atMost most) (every lentSize (fieldCount (now (fields .entry))) p (now (fields .entry))) ⌝ }
 {
     let mut at = p;
     let mut j = fields.len() / columns::LENT_FIELD;

@@ -25,7 +25,7 @@ fn step(kind: u64) -> usize
 }
 
 // What is left of `left` when each type that a walk of a comes to has taken one, the same type again included; 0 where they are too many. Parts are
-// less deep: `deep` falls.
+// less deep: `deep` falls. No store has more than 1,048,576 words.
 fn count_down(old: &[u64], new: &[u64], used: usize, a: usize, deep: usize, left: usize) -> usize
     requires { ⌜ (length (now old) ≤ used) × (used ≤ length (now old) + length (now new)) × (used ≤ 1048576) ⌝ }
     ensures { λ r. ⌜ r ≤ left ⌝ }

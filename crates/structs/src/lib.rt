@@ -13,6 +13,7 @@ ghost use Rattle.wellformed.specs.Entry.{all, isFlag, isAliasFinal, mostCounted
 ghost use Rattle.words.specs.Columns.{every, firstField, firstFlagsOn};
 ghost use Rattle.structs.specs.Remade.{fieldsWith, remake};
 ghost use Rattle.wellformed.specs.Form.{longestAllowed};
+ghost use Rattle.makers.specs.Entries.{lentSize};
 
 // The words of few lent fields, and of the most.
 const FEW_FIELDS: usize = 8;
@@ -32,8 +33,8 @@ fn fields_with(
     finals: &[u64],
 )
     requires { ⌜ (length (now old) ≤ used) × (used ≤ length (now old) + length (now new)) ⌝ }
-    requires { ⌜ (length (now types) ≤ mostCounted) × (length (now types) ≡ length (now finals)) × (4 * length (now types) ≤ length (now dst)) × (p ≤ firstField longestAllowed) ⌝ }
-    ensures { λ _. ⌜ now (dst .exit) ≡ fieldsWith (take used (now (old .entry) ++ now (new .entry))) p (now (types .entry)) (now (finals .entry)) ++ drop (4 * length (now (types .entry))) (now (dst .entry)) ⌝ }
+    requires { ⌜ (length (now types) ≤ mostCounted) × (length (now types) ≡ length (now finals)) × (lentSize * length (now types) ≤ length (now dst)) × (p ≤ firstField longestAllowed) ⌝ }
+    ensures { λ _. ⌜ now (dst .exit) ≡ fieldsWith (take used (now (old .entry) ++ now (new .entry))) p (now (types .entry)) (now (finals .entry)) ++ drop (lentSize * length (now (types .entry))) (now (dst .entry)) ⌝ }
 {
     let n = types.len();
     let mut i = 0;
@@ -61,7 +62,7 @@ fn made_again_in(
     index: &[u64],
 ) -> Interned
     requires { ⌜ Segments (now old) (now new) used ⌝ }
-    requires { ⌜ (length (now types) ≤ mostCounted) × (length (now types) ≡ length (now finals)) × (4 * length (now types) ≤ length (now fields)) × (a ≤ longestAllowed) ⌝ }
+    requires { ⌜ (length (now types) ≤ mostCounted) × (length (now types) ≡ length (now finals)) × (lentSize * length (now types) ≤ length (now fields)) × (a ≤ longestAllowed) ⌝ }
     requires { ⌜ (all isAliasFinal (firstFlagsOn (take used (now old ++ now new)) (length (now types)) a) ≡ true) × (all isFlag (now finals) ≡ true) ⌝ }
     requires { ⌜ Covers (take used (now old ++ now new)) (now index) ⌝ }
     ensures { λ r. ⌜ Runs (remake a (now (types .entry)) (now (finals .entry))) (now (old .entry)) (now (new .entry)) used (now (new .exit)) r ⌝ }

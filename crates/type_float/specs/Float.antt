@@ -8,13 +8,17 @@ use Rattle.type_float.specs.declared.Float.{Float}
 use Rattle.type_float.specs.declared.Reading.{Reading}
 use Rattle.type_float.specs.declared.Reading.the-variants.{Constant, Sized}
 
--- the size that a stored word stands for (an entry keeps "sz + 64")
+-- an entry keeps "sz + 64": the word that size 0 is kept as
+abbrev pub storedZero : ℕ
+storedZero = 64
+
+-- the size that a stored word stands for
 abbrev pub sizeFrom : ℕ → ℤ
-sizeFrom w = pos w -ℤ pos 64
+sizeFrom w = pos w -ℤ pos storedZero
 
 -- for the functions alone: the word that is stored for a size
 abbrev pub wordOf : ℤ → ℕ
-wordOf sz = natAbs (sz +ℤ pos 64)
+wordOf sz = natAbs (sz +ℤ pos storedZero)
 
 -- for the functions alone: the words of the five sizes, each sz + 64
 abbrev pub isSizeWord : ℕ → Bool

@@ -11,7 +11,7 @@ ghost use lib.ListN.{length, take, drop};
 ghost use Rattle.index.specs.Covers.{Covers};
 ghost use Rattle.words.specs.Ran.{Segments, Runs};
 ghost use Rattle.wellformed.specs.Entry.{all, isAliasFinal, mostCounted};
-ghost use Rattle.words.specs.Columns.{every, firstFlagsOn};
+ghost use Rattle.words.specs.Columns.{every, firstFlagsOn, firstFlags, fieldSize};
 ghost use Rattle.walk_rules.specs.Tables.{finalsOf, walkFields};
 ghost use Rattle.wellformed.specs.Form.{longestAllowed};
 
@@ -21,8 +21,8 @@ const FEW_FIELDS: usize = 8;
 // Fills the first words of `dst` with n finals: the words 2 × alias + final stand from p on, 3 apart.
 fn finals_of(walk: Walk, dst: &mut [u64], old: &[u64], new: &[u64], used: usize, n: usize, p: usize)
     requires { ⌜ (length (now old) ≤ used) × (used ≤ length (now old) + length (now new)) ⌝ }
-    requires { ⌜ (n ≤ length (now dst)) × (n ≤ mostCounted) × (p ≤ longestAllowed + 4) ⌝ }
-    ensures { λ _. ⌜ now (dst .exit) ≡ finalsOf walk (every 3 n p (take used (now (old .entry) ++ now (new .entry)))) ++ drop n (now (dst .entry)) ⌝ }
+    requires { ⌜ (n ≤ length (now dst)) × (n ≤ mostCounted) × (p ≤ firstFlags longestAllowed) ⌝ }
+    ensures { λ _. ⌜ now (dst .exit) ≡ finalsOf walk (every fieldSize n p (take used (now (old .entry) ++ now (new .entry)))) ++ drop n (now (dst .entry)) ⌝ }
 {
     let mut i = 0;
     while i < n {

@@ -7,6 +7,7 @@ ghost use Rattle.bitset.specs.Bitset.{wordBits, bitAt};
 ghost use Rattle.wellformed.specs.Entry.{zeroFilled, floatOk, kindIn, okEntry};
 ghost use Rattle.wellformed.specs.Form.{allZero, headsAt, longestAllowed, wellFormed};
 ghost use Rattle.wellformed.specs.Scan.{partDepth, partsDepth, fieldsDepth, oneOver, Marks, Scanned, Verified};
+ghost use Rattle.words.specs.Columns.{structSize, firstField};
 use words::columns;
 use words::kinds;
 use words::limits;
@@ -124,8 +125,8 @@ fn elements(words: &[u64], bits: &[u64], parts: &[u64]) -> Depth
 // The depth of the deepest type of a struct's n fields.
 fn fields(words: &[u64], bits: &[u64], e: &[u64], n: u64) -> Depth
     requires { ⌜ Marks (now words) (now bits) ⌝ }
-    requires { ⌜ length (now e) ≡ 2 + 3 * n ⌝ }
-    ensures { λ r. ⌜ r ≡ fieldsDepth (headsAt (bitAt (now (bits .entry))) (now (words .entry))) 0 n 2 (now (e .entry)) ⌝ }
+    requires { ⌜ length (now e) ≡ structSize n ⌝ }
+    ensures { λ r. ⌜ r ≡ fieldsDepth (headsAt (bitAt (now (bits .entry))) (now (words .entry))) 0 n (firstField 0) (now (e .entry)) ⌝ }
 {
     let mut d: u64 = 0;
     let mut i = columns::FIELDS;

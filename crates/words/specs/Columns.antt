@@ -58,35 +58,45 @@ elementsOn u h = every 1 (countOn u h) (h + 1) u
 abbrev pub nameOn : List ℕ → ℕ → ℕ
 nameOn u h = word u (h + 1)
 
+-- the words of a field, and of the entry of a struct with n fields
+abbrev pub fieldSize : ℕ
+fieldSize = 3
+
+abbrev pub structSize : ℕ → ℕ
+structSize n = 2 + fieldSize * n
+
 abbrev pub fieldNamesOn : List ℕ → ℕ → List ℕ
-fieldNamesOn u h = every 3 (countOn u h) (h + 2) u
+fieldNamesOn u h = every fieldSize (countOn u h) (h + 2) u
 
 abbrev pub fieldTypesOn : List ℕ → ℕ → List ℕ
-fieldTypesOn u h = every 3 (countOn u h) (h + 3) u
+fieldTypesOn u h = every fieldSize (countOn u h) (h + 3) u
 
--- a field's flags are its word 2 × alias + final: those of the first n fields, and of all
+-- a field's flags are its word 2 × alias + final: where the first field's stand, those of the first n fields, and those of all
+abbrev pub firstFlags : ℕ → ℕ
+firstFlags h = h + 4
+
 abbrev pub firstFlagsOn : List ℕ → ℕ → ℕ → List ℕ
-firstFlagsOn u n h = every 3 n (h + 4) u
+firstFlagsOn u n h = every fieldSize n (firstFlags h) u
 
 abbrev pub flagsOn : List ℕ → ℕ → List ℕ
 flagsOn u h = firstFlagsOn u (countOn u h) h
 
 -- for the functions that go through fields: of n fields, of which the first stands at p
 abbrev pub namesFrom : ℕ → ℕ → List ℕ → List ℕ
-namesFrom n p u = every 3 n p u
+namesFrom n p u = every fieldSize n p u
 
 abbrev pub typesFrom : ℕ → ℕ → List ℕ → List ℕ
-typesFrom n p u = every 3 n (p + 1) u
+typesFrom n p u = every fieldSize n (p + 1) u
 
 abbrev pub flagsFrom : ℕ → ℕ → List ℕ → List ℕ
-flagsFrom n p u = every 3 n (p + 2) u
+flagsFrom n p u = every fieldSize n (p + 2) u
 
 -- one field after another: p is the position of a field's first word
 abbrev pub firstField : ℕ → ℕ
 firstField h = h + 2
 
 abbrev pub nextField : ℕ → ℕ
-nextField p = p + 3
+nextField p = p + fieldSize
 
 abbrev pub fieldNameAt : List ℕ → ℕ → ℕ
 fieldNameAt u p = word u p
