@@ -15,7 +15,8 @@ ghost use Rattle.words.specs.Made.{make};
 ghost use Rattle.words.specs.Ran.{Segments, Runs};
 ghost use Rattle.type_float.specs.Float.{wordOf, isSize};
 ghost use Rattle.wellformed.specs.Entry.{deepest, mostCounted};
-ghost use Rattle.words.specs.Columns.{word, fieldSize, structSize};
+ghost use Rattle.words.specs.Columns.{word, structSize};
+ghost use Rattle.words.specs.Words.{fieldSize};
 ghost use Rattle.makers.specs.Entries.{intEntry, floatEntry, tupleEntry, frefEntry, pointerEntry, memoryEntry, fieldCount, fieldTypes, fieldWords, structEntry};
 ghost use Rattle.makers.specs.Fit.{ValuesFit};
 

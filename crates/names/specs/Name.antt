@@ -1,10 +1,10 @@
 -- Document 01, "The store": the entry of a name, from the name's bytes.
 use mathlib.Core.Bool.{Bool, true, false}
 use mathlib.Core.List.{List, [], _∷_, _++_}
-use Prim.Native.Nat.{ℕ, zero, suc, _+_, _*_, _/_}
+use Prim.Native.Nat.{ℕ, zero, suc, _+_, _*_}
 use lib.ListN.{length, take, drop}
 use Rattle.words.specs.Kinds.{Name}
-use Rattle.words.specs.Words.{headOf}
+use Rattle.words.specs.Words.{headOf, nameWords}
 
 -- the number that some bytes are, "lowest first": each byte counts 256 times as much as the one before it
 unfoldable pub ofBytes : List ℕ → ℕ
@@ -18,7 +18,7 @@ packed (suc k) bs = ofBytes (take 8 bs) ∷ packed k (drop 8 bs)
 
 -- a name's entry: the head, and "n bytes, eight a word"
 unfoldable pub nameEntry : List ℕ → List ℕ
-nameEntry bs = headOf Name 0 (length bs) ∷ packed ((length bs + 7) / 8) bs
+nameEntry bs = headOf Name 0 (length bs) ∷ packed (nameWords (length bs)) bs
 
 -- for the functions alone, no definition uses it: what they take at most, so that no sum runs over; a name has at most 255 bytes where one is made
 abbrev pub longestText : ℕ

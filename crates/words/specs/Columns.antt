@@ -3,7 +3,7 @@
 use mathlib.Core.List.{List, [], _∷_}
 use Prim.Native.Nat.{ℕ, zero, suc, _+_, _-_, _*_, _/_, _%_}
 use lib.ListN.{getD}
-use Rattle.words.specs.Words.{kindOf, depthOf, countOf}
+use Rattle.words.specs.Words.{kindOf, depthOf, countOf, fieldSize}
 
 -- the word at a position; 0 past the end
 abbrev pub word : List ℕ → ℕ → ℕ
@@ -58,10 +58,7 @@ elementsOn u h = every 1 (countOn u h) (h + 1) u
 abbrev pub nameOn : List ℕ → ℕ → ℕ
 nameOn u h = word u (h + 1)
 
--- the words of a field, and of the entry of a struct with n fields
-abbrev pub fieldSize : ℕ
-fieldSize = 3
-
+-- the words of the entry of a struct with n fields
 abbrev pub structSize : ℕ → ℕ
 structSize n = 2 + fieldSize * n
 

@@ -19,11 +19,19 @@ depthOf head = head / 256 % 256
 abbrev pub countOf : ℕ → ℕ
 countOf head = head / 65536
 
+-- the words that n bytes of a name take, "eight a word"
+abbrev pub nameWords : ℕ → ℕ
+nameWords n = (n + 7) / 8
+
+-- the words that a field takes: "field name, type, 2 × alias + final"
+abbrev pub fieldSize : ℕ
+fieldSize = 3
+
 -- the table's column "words after the head", for kind k and the head's n
 unfoldable pub wordsAfter : ℕ → ℕ → ℕ
 wordsAfter k n =
     -- n bytes, eight a word
-    cond (eqb k Name) ((n + 7) / 8)
+    cond (eqb k Name) (nameWords n)
     -- Bot, Top, Ctrl, XCtrl: none
     (cond (leb k XCtrl) 0
     -- Int: min, max; Float: sz + 64, constant's bits
@@ -31,7 +39,7 @@ wordsAfter k n =
     -- n type handles
     (cond (eqb k Tuple) n
     -- name handle; n times: field name, type, 2 × alias + final
-    (cond (eqb k Struct) (1 + 3 * n)
+    (cond (eqb k Struct) (1 + fieldSize * n)
     -- name handle
     (cond (eqb k Fref) 1
     -- MemPtr: struct or forward reference handle, nil; Mem: alias, type handle; a head of no kind, which row 1 turns back, has none
