@@ -23,9 +23,6 @@ ghost use Rattle.make_ro.specs.Remembered.{Remembers, Remembered};
 ghost use Rattle.wellformed.specs.Form.{longestAllowed};
 ghost use Rattle.words.specs.Kinds.{Struct};
 
-// Few fields are given few words, since all of them are set at each call.
-const FEW_FIELDS: usize = 8;
-
 // Makes the struct at a again with these types, every field final. Few fields are given few words, since all of them are set at each call.
 fn made_final(
     old: &[u64],
@@ -41,8 +38,8 @@ fn made_final(
     ensures { λ r. ⌜ Runs (remake a (now (types .entry)) (replicate (length (now (types .entry))) 1)) (now (old .entry)) (now (new .entry)) used (now (new .exit)) r ⌝ }
 {
     let n = types.len();
-    if n <= FEW_FIELDS {
-        let few = [1u64; FEW_FIELDS];
+    if n <= structs::FEW_FIELDS {
+        let few = [1u64; structs::FEW_FIELDS];
         return structs::made_again(&*old, new, used, a, &*types, &few[..n], &*index);
     }
     let many = [1u64; limits::MOST_COUNTED];

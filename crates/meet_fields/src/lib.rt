@@ -15,9 +15,6 @@ ghost use Rattle.words.specs.Words.{fieldSize};
 ghost use Rattle.meet_fields.specs.Fields.{eitherFinal, meetFields};
 ghost use Rattle.wellformed.specs.Form.{longestAllowed};
 
-// Few fields are given few words, since all of them are cleared at each call.
-const FEW_FIELDS: usize = 8;
-
 // Fills the first words of `dst` with n finals, or-ed: the words 2 × alias + final stand from p and from q on, 3 apart.
 fn either_final(
     dst: &mut [u64],
@@ -86,8 +83,8 @@ pub fn meet_fields(
     requires { ⌜ Covers (take used (now old ++ now new)) (now index) ⌝ }
     ensures { λ r. ⌜ Runs (meetFields a b (now (types .entry))) (now (old .entry)) (now (new .entry)) used (now (new .exit)) r ⌝ }
 {
-    if types.len() <= FEW_FIELDS {
-        let mut few = [0u64; FEW_FIELDS];
+    if types.len() <= structs::FEW_FIELDS {
+        let mut few = [0u64; structs::FEW_FIELDS];
         return meet_fields_in(&*old, new, used, a, b, &*types, &mut few, &*index);
     }
     let mut many = [0u64; limits::MOST_COUNTED];

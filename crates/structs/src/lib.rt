@@ -15,8 +15,8 @@ ghost use Rattle.structs.specs.Remade.{fieldsWith, remake};
 ghost use Rattle.wellformed.specs.Form.{longestAllowed};
 ghost use Rattle.makers.specs.Entries.{lentSize};
 
-// The words of few lent fields, and of the most.
-const FEW_FIELDS: usize = 8;
+// Structs of few fields are given few words, since all of them are cleared at each call: how many fields are few, and the words of so many lent ones, and of the most.
+pub const FEW_FIELDS: usize = 8;
 
 const FEW_LENT: usize = columns::LENT_FIELD * FEW_FIELDS;
 

@@ -16,9 +16,6 @@ ghost use Rattle.words.specs.Words.{fieldSize};
 ghost use Rattle.walk_rules.specs.Tables.{finalsOf, walkFields};
 ghost use Rattle.wellformed.specs.Form.{longestAllowed};
 
-// Few fields are given few words, since all of them are cleared at each call.
-const FEW_FIELDS: usize = 8;
-
 // Fills the first words of `dst` with n finals: the words 2 × alias + final stand from p on, 3 apart.
 fn finals_of(walk: Walk, dst: &mut [u64], old: &[u64], new: &[u64], used: usize, n: usize, p: usize)
     requires { ⌜ (length (now old) ≤ used) × (used ≤ length (now old) + length (now new)) ⌝ }
@@ -72,8 +69,8 @@ pub fn fields_of(
     requires { ⌜ Covers (take used (now old ++ now new)) (now index) ⌝ }
     ensures { λ r. ⌜ Runs (walkFields walk a (now (types .entry))) (now (old .entry)) (now (new .entry)) used (now (new .exit)) r ⌝ }
 {
-    if types.len() <= FEW_FIELDS {
-        let mut few = [0u64; FEW_FIELDS];
+    if types.len() <= structs::FEW_FIELDS {
+        let mut few = [0u64; structs::FEW_FIELDS];
         return fields_in(walk, &*old, new, used, a, &*types, &mut few, &*index);
     }
     let mut many = [0u64; limits::MOST_COUNTED];
