@@ -11,7 +11,8 @@ use Rattle.words.specs.Columns.{every}
 use Rattle.makers.specs.Entries.{fieldWords}
 use Rattle.structs.specs.Remade.{fieldsWith, remake}
 use Rattle.walk_rules.specs.Tables.{formFor, finalsOf, walkFields}
-use Rattle.walk.specs.Walk.{walkEach, followForm, walkWithin, dualOf, glbOf, lubOf}
+use Rattle.walk.specs.Walk.{walkEach, followForm, walkWithin, walkOf, dualOf}
+use Rattle.walk_rules.specs.declared.Walk.the-variants.{Glb, Lub}
 
 abbrev fresh : List ℕ
 fresh = 94 ∷ freshWords
@@ -22,6 +23,6 @@ unfolding walkWithin followForm walkEach formFor walkFields finalsOf remake fiel
 duals = (refl, refl, refl, refl, refl, refl, refl, refl, refl)
 
 -- glb and lub: Bot, Ctrl, Ints, Floats, tuples, pointers, structs
-pub bounds : (glbOf fresh 8 ≡ there fresh 5) × (glbOf fresh 7 ≡ there fresh 7) × (glbOf fresh 9 ≡ there fresh 25) × (glbOf fresh 55 ≡ there fresh 61) × (glbOf fresh 85 ≡ there fresh 88) × (lubOf fresh 7 ≡ there fresh 8) × (lubOf fresh 64 ≡ there fresh 6) × (lubOf fresh 82 ≡ there fresh 91) × (lubOf fresh 9 ≡ there fresh 22) × (glbOf fresh 20 ≡ there fresh 20)
+pub bounds : (walkOf Glb fresh 8 ≡ there fresh 5) × (walkOf Glb fresh 7 ≡ there fresh 7) × (walkOf Glb fresh 9 ≡ there fresh 25) × (walkOf Glb fresh 55 ≡ there fresh 61) × (walkOf Glb fresh 85 ≡ there fresh 88) × (walkOf Lub fresh 7 ≡ there fresh 8) × (walkOf Lub fresh 64 ≡ there fresh 6) × (walkOf Lub fresh 82 ≡ there fresh 91) × (walkOf Lub fresh 9 ≡ there fresh 22) × (walkOf Glb fresh 20 ≡ there fresh 20)
 unfolding walkWithin followForm walkEach formFor walkFields finalsOf remake fieldsWith every deepest fieldWords make findIn entries rows firstOf eqs sizeOf wordsAfter freshWords
 bounds = (refl, refl, refl, refl, refl, refl, refl, refl, refl, refl)

@@ -8,7 +8,7 @@ use Rattle.wellformed.specs.FreshHandles.{bot}
 use Rattle.meet.specs.Meet.{Many, led, tupleOf, pointerOf, memoryOf}
 use Rattle.walk_rules.specs.Tables.{formFor, intOf, floatOf, nilOf, walkFields}
 use Rattle.walk_rules.specs.declared.Walk.{Walk}
-use Rattle.walk_rules.specs.declared.Walk.the-variants.{Dual, Glb, Lub}
+use Rattle.walk_rules.specs.declared.Walk.the-variants.{Dual}
 use Rattle.walk_rules.specs.declared.Form.{Form}
 use Rattle.walk_rules.specs.declared.Form.the-variants.{Is, AnInt, AFloat, ATuple, AStruct, APointer, AMemory}
 
@@ -50,11 +50,6 @@ walkWithin walk (suc n) u a = followForm walk (walkWithin walk n) u a (formFor w
 abbrev pub walkOf : Walk → Op₁
 walkOf walk u a = walkWithin walk (suc a) u a
 
+-- join is made with it
 abbrev pub dualOf : Op₁
 dualOf = walkOf Dual
-
-abbrev pub glbOf : Op₁
-glbOf = walkOf Glb
-
-abbrev pub lubOf : Op₁
-lubOf = walkOf Lub
