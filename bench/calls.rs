@@ -1,18 +1,51 @@
 // The library's calls, from one archive or from two: the functions of the old one have `old_` before their names.
 
+// Answers from here on are refusals.
+pub const REFUSED: u64 = 1 << 63;
+
+// What a call tells, as one word: its answer, or its refusal's number above REFUSED. No answer that is measured here comes near that.
+#[inline(always)]
+pub fn told(call: impl FnOnce(&mut u64) -> u32) -> u64 {
+    let mut answer = 0;
+    match call(&mut answer) {
+        0 => answer,
+        n => REFUSED + u64::from(n),
+    }
+}
+
+extern "C" {
+    pub fn ferigulan_well_formed(words: *const u64, n: usize) -> bool;
+    pub fn ferigulan_fresh(words: *mut u64, n: usize) -> u32;
+}
+
 macro_rules! library {
-    ($($name:ident($($arg:ty),*) -> $answer:ty;)*) => {
+    ($($name:ident($($arg:ident: $t:ty),*);)*) => {
         // The functions of one archive.
-        pub struct Library { $(pub $name: unsafe extern "C" fn($($arg),*) -> $answer,)* }
+        pub struct Library { $(pub $name: unsafe extern "C" fn($($t,)* &mut u64) -> u32,)* }
 
         mod new {
-            extern "C" { $(#[link_name = concat!("ferigulan_", stringify!($name))] pub fn $name($(_: $arg),*) -> $answer;)* }
+            extern "C" { $(#[link_name = concat!("ferigulan_", stringify!($name))] pub fn $name($($arg: $t,)* answer: &mut u64) -> u32;)* }
         }
         pub static NEW: Library = Library { $($name: new::$name,)* };
 
-        #[cfg(old)]
+        #[cfg(all(old, not(one_word)))]
         mod old {
-            extern "C" { $(#[link_name = concat!("old_ferigulan_", stringify!($name))] pub fn $name($(_: $arg),*) -> $answer;)* }
+            extern "C" { $(#[link_name = concat!("old_ferigulan_", stringify!($name))] pub fn $name($($arg: $t,)* answer: &mut u64) -> u32;)* }
+        }
+        // An old library whose functions return one word, the answer, or 2 to the 63 and the refusal's number.
+        #[cfg(all(old, one_word))]
+        mod old {
+            mod linked {
+                extern "C" { $(#[link_name = concat!("old_ferigulan_", stringify!($name))] pub fn $name($($arg: $t),*) -> u64;)* }
+            }
+            $(pub unsafe extern "C" fn $name($($arg: $t,)* answer: &mut u64) -> u32 {
+                let word = linked::$name($($arg),*);
+                if word >= super::REFUSED {
+                    return (word - super::REFUSED) as u32;
+                }
+                *answer = word;
+                0
+            })*
         }
         #[cfg(old)]
         pub static OLD: Option<&Library> = Some(&Library { $($name: old::$name,)* });
@@ -22,31 +55,26 @@ macro_rules! library {
 }
 
 library! {
-    well_formed(*const u64, usize) -> bool;
-    fresh(*mut u64, usize) -> u64;
-    kind(*const u64, usize, u64) -> u64;
-    get_bool(*const u64, usize, u64) -> u64;
-    make_int(*mut u64, usize, u64, u64) -> u64;
-    make_float(*mut u64, usize, u64, u64) -> u64;
-    get_tuple(*mut u64, usize, *const u64, usize) -> u64;
-    get_str(*mut u64, usize, *const u8, usize) -> u64;
-    get_struct(*mut u64, usize, u64, *const u64, usize) -> u64;
-    make_struct_fref(*mut u64, usize, u64) -> u64;
-    get_mem_ptr(*mut u64, usize, u64, u64) -> u64;
-    get_mem(*mut u64, usize, u64, u64) -> u64;
-    make_ary(*mut u64, usize, u64, u64, u64, u64, *const u8, usize) -> u64;
-    meet(*mut u64, usize, u64, u64) -> u64;
-    isa(*const u64, usize, u64, u64) -> u64;
-    join(*mut u64, usize, u64, u64) -> u64;
-    dual(*mut u64, usize, u64) -> u64;
-    glb(*mut u64, usize, u64) -> u64;
-    lub(*mut u64, usize, u64) -> u64;
-    is_final(*const u64, usize, u64) -> u64;
-    make_ro(*mut u64, usize, u64) -> u64;
+    kind(words: *const u64, n: usize, h: u64);
+    get_bool(words: *const u64, n: usize, value: u64);
+    make_int(words: *mut u64, n: usize, min: u64, max: u64);
+    make_float(words: *mut u64, n: usize, size: u64, bits: u64);
+    get_tuple(words: *mut u64, n: usize, types: *const u64, len: usize);
+    get_str(words: *mut u64, n: usize, text: *const u8, len: usize);
+    get_struct(words: *mut u64, n: usize, name: u64, fields: *const u64, len: usize);
+    make_struct_fref(words: *mut u64, n: usize, name: u64);
+    get_mem_ptr(words: *mut u64, n: usize, to: u64, nil: u64);
+    get_mem(words: *mut u64, n: usize, alias: u64, t: u64);
+    make_ary(words: *mut u64, n: usize, of: u64, of_alias: u64, body: u64, body_alias: u64, text: *const u8, len: usize);
+    meet(words: *mut u64, n: usize, a: u64, b: u64);
+    isa(words: *const u64, n: usize, a: u64, b: u64);
+    join(words: *mut u64, n: usize, a: u64, b: u64);
+    dual(words: *mut u64, n: usize, a: u64);
+    glb(words: *mut u64, n: usize, a: u64);
+    lub(words: *mut u64, n: usize, a: u64);
+    is_final(words: *const u64, n: usize, a: u64);
+    make_ro(words: *mut u64, n: usize, a: u64);
 }
-
-// Answers from here on are refusals.
-pub const REFUSED: u64 = 1 << 63;
 
 // An operation on two types, or on the first of them.
 pub struct Operation {
@@ -59,14 +87,14 @@ pub struct Operation {
 }
 
 pub static OPERATIONS: [Operation; 8] = [
-    Operation { place: 0, name: "meet", two: true, run: |l, w, a, b| unsafe { (l.meet)(w.as_mut_ptr(), w.len(), a, b) } },
-    Operation { place: 1, name: "isa", two: true, run: |l, w, a, b| unsafe { (l.isa)(w.as_ptr(), w.len(), a, b) } },
-    Operation { place: 2, name: "join", two: true, run: |l, w, a, b| unsafe { (l.join)(w.as_mut_ptr(), w.len(), a, b) } },
-    Operation { place: 3, name: "dual", two: false, run: |l, w, a, _| unsafe { (l.dual)(w.as_mut_ptr(), w.len(), a) } },
-    Operation { place: 4, name: "glb", two: false, run: |l, w, a, _| unsafe { (l.glb)(w.as_mut_ptr(), w.len(), a) } },
-    Operation { place: 5, name: "lub", two: false, run: |l, w, a, _| unsafe { (l.lub)(w.as_mut_ptr(), w.len(), a) } },
-    Operation { place: 6, name: "is_final", two: false, run: |l, w, a, _| unsafe { (l.is_final)(w.as_ptr(), w.len(), a) } },
-    Operation { place: 7, name: "make_ro", two: false, run: |l, w, a, _| unsafe { (l.make_ro)(w.as_mut_ptr(), w.len(), a) } },
+    Operation { place: 0, name: "meet", two: true, run: |l, w, a, b| told(|x| unsafe { (l.meet)(w.as_mut_ptr(), w.len(), a, b, x) }) },
+    Operation { place: 1, name: "isa", two: true, run: |l, w, a, b| told(|x| unsafe { (l.isa)(w.as_ptr(), w.len(), a, b, x) }) },
+    Operation { place: 2, name: "join", two: true, run: |l, w, a, b| told(|x| unsafe { (l.join)(w.as_mut_ptr(), w.len(), a, b, x) }) },
+    Operation { place: 3, name: "dual", two: false, run: |l, w, a, _| told(|x| unsafe { (l.dual)(w.as_mut_ptr(), w.len(), a, x) }) },
+    Operation { place: 4, name: "glb", two: false, run: |l, w, a, _| told(|x| unsafe { (l.glb)(w.as_mut_ptr(), w.len(), a, x) }) },
+    Operation { place: 5, name: "lub", two: false, run: |l, w, a, _| told(|x| unsafe { (l.lub)(w.as_mut_ptr(), w.len(), a, x) }) },
+    Operation { place: 6, name: "is_final", two: false, run: |l, w, a, _| told(|x| unsafe { (l.is_final)(w.as_ptr(), w.len(), a, x) }) },
+    Operation { place: 7, name: "make_ro", two: false, run: |l, w, a, _| told(|x| unsafe { (l.make_ro)(w.as_mut_ptr(), w.len(), a, x) }) },
 ];
 
 // A call with its arguments.
@@ -89,22 +117,25 @@ pub enum Call {
 impl Call {
     pub fn run(&self, l: &Library, w: &mut [u64]) -> u64 {
         let (p, n) = (w.as_mut_ptr(), w.len());
-        unsafe {
-            match self {
-                Call::Kind(h) => (l.kind)(p, n, *h),
-                Call::Bool(v) => (l.get_bool)(p, n, *v),
-                Call::Int(min, max) => (l.make_int)(p, n, *min, *max),
-                Call::Float(size, bits) => (l.make_float)(p, n, *size, *bits),
-                Call::Tuple(types) => (l.get_tuple)(p, n, types.as_ptr(), types.len()),
-                Call::Name(text) => (l.get_str)(p, n, text.as_ptr(), text.len()),
-                Call::Struct(name, fields) => (l.get_struct)(p, n, *name, fields.as_ptr(), fields.len()),
-                Call::Fref(name) => (l.make_struct_fref)(p, n, *name),
-                Call::Pointer(to, nil) => (l.get_mem_ptr)(p, n, *to, *nil),
-                Call::Memory(alias, t) => (l.get_mem)(p, n, *alias, *t),
-                Call::Array(of, a, body, b, text) => (l.make_ary)(p, n, *of, *a, *body, *b, text.as_ptr(), text.len()),
-                Call::On(operation, a, b) => (operation.run)(l, w, *a, *b),
-            }
+        if let Call::On(operation, a, b) = self {
+            return (operation.run)(l, w, *a, *b);
         }
+        told(|x| unsafe {
+            match self {
+                Call::Kind(h) => (l.kind)(p, n, *h, x),
+                Call::Bool(v) => (l.get_bool)(p, n, *v, x),
+                Call::Int(min, max) => (l.make_int)(p, n, *min, *max, x),
+                Call::Float(size, bits) => (l.make_float)(p, n, *size, *bits, x),
+                Call::Tuple(types) => (l.get_tuple)(p, n, types.as_ptr(), types.len(), x),
+                Call::Name(text) => (l.get_str)(p, n, text.as_ptr(), text.len(), x),
+                Call::Struct(name, fields) => (l.get_struct)(p, n, *name, fields.as_ptr(), fields.len(), x),
+                Call::Fref(name) => (l.make_struct_fref)(p, n, *name, x),
+                Call::Pointer(to, nil) => (l.get_mem_ptr)(p, n, *to, *nil, x),
+                Call::Memory(alias, t) => (l.get_mem)(p, n, *alias, *t, x),
+                Call::Array(of, a, body, b, text) => (l.make_ary)(p, n, *of, *a, *body, *b, text.as_ptr(), text.len(), x),
+                Call::On(..) => unreachable!(),
+            }
+        })
     }
 
     pub fn name(&self) -> &'static str {

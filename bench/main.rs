@@ -9,12 +9,16 @@ mod opened;
 #[cfg(opened)]
 mod operands;
 mod plain;
+#[cfg(opened)]
+mod script;
 #[cfg(search)]
 mod search;
 mod stores;
+#[cfg(all(opened, told))]
+mod told;
 mod towers;
 
-const PARTS: [&str; 6] = ["makers", "operations", "opened", "beside", "towers", "search"];
+const PARTS: [&str; 7] = ["makers", "operations", "opened", "told", "beside", "towers", "search"];
 
 fn run(part: &str, oracle: Option<&str>) {
     match part {
@@ -24,6 +28,10 @@ fn run(part: &str, oracle: Option<&str>) {
         "opened" => opened::tables(oracle),
         #[cfg(not(opened))]
         "opened" => eprintln!("opened stores: left out, the library has none"),
+        #[cfg(all(opened, told))]
+        "told" => told::tables(oracle),
+        #[cfg(not(all(opened, told)))]
+        "told" => eprintln!("what is told of types: left out, the library has no such calls"),
         "beside" => match calls::OLD {
             Some(old) => beside::table(old),
             None => eprintln!("old beside new: left out, no old library was linked"),

@@ -1,17 +1,17 @@
 // A store that is open, and the calls on it: the same as the plain ones, with the index and the memory of answers behind the words.
-use crate::calls::{Call, REFUSED};
+use crate::calls::{told, Call};
 
 macro_rules! opened {
     ($($name:ident($words:ty; $($arg:ident: $t:ty),*);)*) => {
         extern "C" {
             $(#[link_name = concat!("ferigulan_opened_", stringify!($name))]
-            fn $name(words: $words, n: usize, index: $words, m: usize, memory: *mut u64, k: usize, $($arg: $t),*) -> u64;)*
+            fn $name(words: $words, n: usize, index: $words, m: usize, memory: *mut u64, k: usize, $($arg: $t,)* answer: &mut u64) -> u32;)*
         }
     };
 }
 
 extern "C" {
-    fn ferigulan_open(words: *const u64, n: usize, index: *mut u64, m: usize, memory: *mut u64, k: usize) -> u64;
+    fn ferigulan_open(words: *const u64, n: usize, index: *mut u64, m: usize, memory: *mut u64, k: usize) -> u32;
 }
 
 opened! {
@@ -55,7 +55,7 @@ impl Open {
     pub fn open(&mut self, memory: usize) {
         let (w, i, k) = (&self.words, &mut self.index, &mut self.memory[..memory]);
         let r = unsafe { ferigulan_open(w.as_ptr(), w.len(), i.as_mut_ptr(), i.len(), k.as_mut_ptr(), k.len()) };
-        assert!(r < REFUSED, "opening was refused with {}", r - REFUSED);
+        assert_eq!(r, 0, "opening was refused");
     }
 
     // Other words in the place of these, opened: nothing is remembered.
@@ -72,30 +72,30 @@ impl Open {
         let (w, n) = (self.words.as_mut_ptr(), self.words.len());
         let (i, m) = (self.index.as_mut_ptr(), self.index.len());
         let (k, l) = (self.memory.as_mut_ptr(), self.memory.len());
-        unsafe {
+        told(|x| unsafe {
             match call {
-                Call::Kind(h) => kind(w, n, i, m, k, l, *h),
-                Call::Bool(v) => get_bool(w, n, i, m, k, l, *v),
-                Call::Int(min, max) => make_int(w, n, i, m, k, l, *min, *max),
-                Call::Float(size, bits) => make_float(w, n, i, m, k, l, *size, *bits),
-                Call::Tuple(types) => get_tuple(w, n, i, m, k, l, types.as_ptr(), types.len()),
-                Call::Name(text) => get_str(w, n, i, m, k, l, text.as_ptr(), text.len()),
-                Call::Struct(name, fields) => get_struct(w, n, i, m, k, l, *name, fields.as_ptr(), fields.len()),
-                Call::Fref(name) => make_struct_fref(w, n, i, m, k, l, *name),
-                Call::Pointer(to, nil) => get_mem_ptr(w, n, i, m, k, l, *to, *nil),
-                Call::Memory(alias, t) => get_mem(w, n, i, m, k, l, *alias, *t),
-                Call::Array(of, a, body, b, text) => make_ary(w, n, i, m, k, l, *of, *a, *body, *b, text.as_ptr(), text.len()),
+                Call::Kind(h) => kind(w, n, i, m, k, l, *h, x),
+                Call::Bool(v) => get_bool(w, n, i, m, k, l, *v, x),
+                Call::Int(min, max) => make_int(w, n, i, m, k, l, *min, *max, x),
+                Call::Float(size, bits) => make_float(w, n, i, m, k, l, *size, *bits, x),
+                Call::Tuple(types) => get_tuple(w, n, i, m, k, l, types.as_ptr(), types.len(), x),
+                Call::Name(text) => get_str(w, n, i, m, k, l, text.as_ptr(), text.len(), x),
+                Call::Struct(name, fields) => get_struct(w, n, i, m, k, l, *name, fields.as_ptr(), fields.len(), x),
+                Call::Fref(name) => make_struct_fref(w, n, i, m, k, l, *name, x),
+                Call::Pointer(to, nil) => get_mem_ptr(w, n, i, m, k, l, *to, *nil, x),
+                Call::Memory(alias, t) => get_mem(w, n, i, m, k, l, *alias, *t, x),
+                Call::Array(of, a, body, b, text) => make_ary(w, n, i, m, k, l, *of, *a, *body, *b, text.as_ptr(), text.len(), x),
                 Call::On(operation, a, b) => match operation.place {
-                    0 => meet(w, n, i, m, k, l, *a, *b),
-                    1 => isa(w, n, i, m, k, l, *a, *b),
-                    2 => join(w, n, i, m, k, l, *a, *b),
-                    3 => dual(w, n, i, m, k, l, *a),
-                    4 => glb(w, n, i, m, k, l, *a),
-                    5 => lub(w, n, i, m, k, l, *a),
-                    6 => is_final(w, n, i, m, k, l, *a),
-                    _ => make_ro(w, n, i, m, k, l, *a),
+                    0 => meet(w, n, i, m, k, l, *a, *b, x),
+                    1 => isa(w, n, i, m, k, l, *a, *b, x),
+                    2 => join(w, n, i, m, k, l, *a, *b, x),
+                    3 => dual(w, n, i, m, k, l, *a, x),
+                    4 => glb(w, n, i, m, k, l, *a, x),
+                    5 => lub(w, n, i, m, k, l, *a, x),
+                    6 => is_final(w, n, i, m, k, l, *a, x),
+                    _ => make_ro(w, n, i, m, k, l, *a, x),
                 },
             }
-        }
+        })
     }
 }

@@ -1,30 +1,31 @@
 // What a call costs on an opened store, beside the plain call and the original Rust: the same calls, in one run.
-use crate::calls::{Call, Operation, NEW, OPERATIONS, REFUSED};
+use crate::calls::{ferigulan_well_formed, Call, Operation, NEW, OPERATIONS, REFUSED};
 use crate::clock::{clock, time, time_both, time_short};
 use crate::open_store::Open;
 use crate::operands::{maker, operands, spread, Maker, Operands, MAKERS};
+use crate::script::{figure, turns, Script};
 use std::hint::black_box;
-use std::process::Command;
 use std::time::Instant;
 
 const LENGTHS: [usize; 5] = [1_000, 2_048, 8_192, 65_536, 1_048_576];
 // So many calls stay in the processor's caches; from lists of this length on there is a figure of many, too.
-const FEW: usize = 32;
-const MANY: usize = 4_096;
-const LONG: usize = 65_536;
+pub const FEW: usize = 32;
+pub const MANY: usize = 4_096;
+pub const LONG: usize = 65_536;
 
-fn lengths() -> Vec<usize> {
+// The lengths that WORDS names, or else these.
+pub fn lengths(own: &[usize]) -> Vec<usize> {
     let named = std::env::var("WORDS").unwrap_or_default();
     let named: Vec<usize> = named.split([' ', ',']).filter_map(|n| n.parse().ok()).collect();
     if named.is_empty() {
-        LENGTHS.to_vec()
+        own.to_vec()
     } else {
         named
     }
 }
 
 // The words of the memory of answers: in short lists four for each word, at most two mebibytes.
-fn memory(len: usize) -> usize {
+pub fn memory(len: usize) -> usize {
     std::env::var("MEMORY").ok().and_then(|n| n.parse().ok()).unwrap_or((4 * len).min(262_144))
 }
 
@@ -42,7 +43,7 @@ struct Line {
 }
 
 // Nanoseconds, with a place behind the point where there are few.
-fn ns(x: f64) -> String {
+pub fn ns(x: f64) -> String {
     if x < 100.0 {
         format!("{x:.1}")
     } else {
@@ -70,67 +71,12 @@ struct Tables {
     new: Vec<Line>,
 }
 
-// ---- the Rust
-
-// A script for the oracle: makers, then blocks of calls; and what it has to answer.
-struct Script {
-    text: String,
-    answers: Vec<String>,
-}
-
-impl Script {
-    fn fresh(len: usize, made: &[(Call, u64)]) -> Script {
-        let mut script = Script { text: format!("fresh {len}\n"), answers: vec!["ok".to_string()] };
-        made.iter().for_each(|(call, h)| script.line(call, *h));
-        script
-    }
-
-    fn line(&mut self, call: &Call, answer: u64) {
-        self.text += &(call.line() + "\n");
-        self.answers.push(answer.to_string());
-    }
-
-    fn block(&mut self, name: &str, calls: &[Call], answers: &[u64]) {
-        self.text += &format!("; measure {name}\n");
-        calls.iter().zip(answers).for_each(|(call, answer)| self.line(call, *answer));
-        self.text += "; end\n";
-    }
-
-    // The Rust's nanoseconds a call of each block, the first time, the second and again, where it answers every call as we do.
-    fn times(&self, oracle: Option<&str>, turns: usize) -> Option<Vec<(String, [f64; 3])>> {
-        const SCRIPT: &str = "target/bench-opened.txt";
-        std::fs::write(SCRIPT, &self.text).ok()?;
-        let out = Command::new(oracle?).args(["measure", SCRIPT, &turns.to_string()]).output().ok()?;
-        let out = String::from_utf8(out.stdout).ok()?;
-        let mut lines = out.lines();
-        let calls = self.text.lines().filter(|line| !line.starts_with(';'));
-        for (call, ours) in calls.zip(&self.answers) {
-            let theirs = lines.next().unwrap_or("nothing");
-            if theirs != ours {
-                eprintln!("opened: the Rust is left out: to '{call}' it answers {theirs}, and we {ours}");
-                return None;
-            }
-        }
-        lines.map(figures).collect()
-    }
-}
-
-// A line `; NAME FIRST SECOND AGAIN`.
-fn figures(line: &str) -> Option<(String, [f64; 3])> {
-    let words: Vec<&str> = line.split_whitespace().collect();
-    let [";", name, first, second, again] = words[..] else { return None };
-    Some((name.to_string(), [first.parse().ok()?, second.parse().ok()?, again.parse().ok()?]))
-}
-
-fn figure(times: &Option<Vec<(String, [f64; 3])>>, name: &str, which: usize) -> Option<f64> {
-    Some(times.as_ref()?.iter().find(|block| block.0 == name)?.1[which])
-}
-
-fn turns(len: usize) -> usize {
-    (2_000_000 / len).clamp(3, 40)
-}
-
 // ---- the library
+
+// The lines of a script with these calls, and their answers.
+fn in_script<'a>(calls: &'a [Call], answers: &'a [u64]) -> impl Iterator<Item = (String, String)> + 'a {
+    calls.iter().zip(answers).map(|(call, answer)| (call.line(), answer.to_string()))
+}
 
 // All calls, opened; their answers.
 fn answers(s: &mut Open, calls: &[Call]) -> Vec<u64> {
@@ -271,7 +217,7 @@ fn operation(oracle: Option<&str>, len: usize, o: &'static Operation, tables: &m
     }
     let n = new(&mut s, &t.built.words, &calls);
     let mut script = Script::fresh(len, &t.built.made);
-    script.block("new", &calls, &n.answers);
+    script.block("new", in_script(&calls, &n.answers));
 
     // again and again: few of them, and all on both sides
     s.start(&n.after);
@@ -279,8 +225,8 @@ fn operation(oracle: Option<&str>, len: usize, o: &'static Operation, tables: &m
     let mut many = if o.two { spread(&calls, MANY / 2) } else { calls.clone() };
     many.extend(swapped(o, &many));
     let told = [answers(&mut s, &few), answers(&mut s, &many)];
-    script.block("few", &few, &told[0]);
-    script.block("many", &many, &told[1]);
+    script.block("few", in_script(&few, &told[0]));
+    script.block("many", in_script(&many, &told[1]));
     let words = s.words.clone();
     let base = plain(&words, &few, &told[0]);
     let times = [again(&mut s, &few), if len >= LONG { again(&mut s, &many) } else { 0.0 }];
@@ -317,14 +263,14 @@ fn one_maker(oracle: Option<&str>, len: usize, asked: Maker, tables: &mut Tables
             continue;
         }
         let told = answers(&mut s, &calls);
-        script.block(set, &calls, &told);
+        script.block(set, in_script(&calls, &told));
         let (plain, opened) = (plain(&built.words, &calls, &told), again(&mut s, &calls));
         lines.push((set, Line { len, call, calls: calls.len(), appended: None, plain, opened, rust: None }));
     }
     let calls = spread(&fresh, MANY);
     let n = (!calls.is_empty()).then(|| new(&mut s, &built.words, &calls));
     if let Some(n) = &n {
-        script.block("new", &calls, &n.answers);
+        script.block("new", in_script(&calls, &n.answers));
     }
     let rust = script.times(oracle, turns(len));
     tables.again.extend(lines.into_iter().map(|(set, line)| Line { rust: figure(&rust, set, 2), ..line }));
@@ -351,7 +297,7 @@ fn opening(len: usize) -> String {
     let used = words[0] as f64;
     let k = memory(len);
     let mut s = Open::new(words, k);
-    let row1 = time(|| assert!(black_box(unsafe { (NEW.well_formed)(black_box(s.words.as_ptr()), len) })));
+    let row1 = time(|| assert!(black_box(unsafe { ferigulan_well_formed(black_box(s.words.as_ptr()), len) })));
     let (without, with) = time_both(&mut s, |s| s.open(0), |s| s.open(k));
     let each = |x: f64| format!("{} ({:.2})", ns(x), x / used);
     let blank = format!("{} ({:.2})", ns((with - without).max(0.0)), (with - without).max(0.0) / k as f64);
@@ -361,7 +307,7 @@ fn opening(len: usize) -> String {
 pub fn tables(oracle: Option<&str>) {
     let mut tables = Tables::default();
     let mut open = Vec::new();
-    for len in lengths() {
+    for len in lengths(&LENGTHS) {
         eprintln!("opened: {len} words, the makers ..");
         all_makers(oracle, len, &mut tables);
         for o in &OPERATIONS {

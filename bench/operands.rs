@@ -13,16 +13,16 @@ pub struct Built {
 const INT: u64 = 25;
 const BYTE: u64 = 40;
 
-fn head(kind: u64, depth: u64, n: u64) -> u64 {
+pub fn head(kind: u64, depth: u64, n: u64) -> u64 {
     kind + 256 * depth + 65_536 * n
 }
 
 impl Built {
-    fn fresh(len: usize) -> Built {
+    pub fn fresh(len: usize) -> Built {
         Built { words: Store::fresh(len).words, made: Vec::new() }
     }
 
-    fn put(&mut self, call: Call, entry: &[u64]) -> u64 {
+    pub fn put(&mut self, call: Call, entry: &[u64]) -> u64 {
         let at = self.words[0] as usize;
         self.words[at..at + entry.len()].copy_from_slice(entry);
         self.words[0] += entry.len() as u64;
@@ -31,7 +31,7 @@ impl Built {
     }
 
     // A name of at most eight bytes.
-    fn name(&mut self, text: &str) -> u64 {
+    pub fn name(&mut self, text: &str) -> u64 {
         let mut bytes = [0u8; 8];
         bytes[..text.len()].copy_from_slice(text.as_bytes());
         self.put(Call::Name(text.as_bytes().to_vec()), &[head(0, 0, text.len() as u64), u64::from_le_bytes(bytes)])

@@ -1,5 +1,5 @@
 // What a call costs, as a ratio to a plain scan of the same words, and beside the original Rust.
-use crate::calls::{Call, NEW, OPERATIONS, REFUSED};
+use crate::calls::{ferigulan_well_formed, Call, NEW, OPERATIONS, REFUSED};
 use crate::clock::{beside, scan, time};
 use crate::stores::{filled, flat, operations};
 use std::hint::black_box;
@@ -13,7 +13,7 @@ pub fn makers() {
         let mut w = filled(len);
         let at = w[0];
         let plain = scan(&w);
-        let row1 = time(|| assert!(black_box(unsafe { (NEW.well_formed)(black_box(w.as_ptr()), len) })));
+        let row1 = time(|| assert!(black_box(unsafe { ferigulan_well_formed(black_box(w.as_ptr()), len) })));
         let int = Call::Int(1, 99);
         assert_eq!(int.run(&NEW, &mut w), at);
         let found = time(|| assert_eq!(black_box(int.run(&NEW, &mut w)), at));

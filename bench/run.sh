@@ -1,9 +1,10 @@
 #!/bin/sh
-# run.sh [PART..]: builds the static libraries, the benchmark and the oracle, and runs all parts or the named ones: makers, operations, opened, beside,
-# towers, search. It needs rustc beside the Rattle kit, cargo for the oracle, and nm and objcopy for an old library.
+# run.sh [PART..]: builds the static libraries, the benchmark and the oracle, and runs all parts or the named ones: makers, operations, opened, told,
+# beside, towers, search. It needs rustc beside the Rattle kit, cargo for the oracle, and nm and objcopy for an old library.
 #   OLD=ARCHIVE   an older liblattice_c.a, measured beside the new one
+#   ONE_WORD=1    the old library's functions return one word, the answer or 2 to the 63 and the refusal's number, and are lent none
 #   NEW=ARCHIVE   a liblattice_c.a that is built already, to be measured in the place of one built here
-#   WORDS="N .."  the lengths of the lists that `opened` measures, in the place of its own; MEMORY=N the words of its memory of answers
+#   WORDS="N .."  the lengths of the lists that `opened` and `told` measure, in the place of their own; MEMORY=N the words of their memory of answers
 here=$(cd "$(dirname "$0")" && pwd) || exit 2
 # what is named from where the caller stands, from anywhere
 whole() {
@@ -36,6 +37,12 @@ if ! command -v nm >/dev/null || defined "$libs/libnew.a" | grep -qx ferigulan_o
 else
     echo "run.sh: the library has no ferigulan_open, the tables of opened stores are left out" >&2
 fi
+# and whether it has the calls that tell something of a type
+if ! command -v nm >/dev/null || defined "$libs/libnew.a" | grep -qx ferigulan_opened_offsets; then
+    flags="$flags --cfg told"
+else
+    echo "run.sh: the library has no ferigulan_opened_offsets, the tables of what is told of types are left out" >&2
+fi
 
 # the old library's names get `old_` before them; what it takes from others, as memset, stays
 old() {
@@ -46,7 +53,7 @@ old() {
 if [ -z "$OLD" ]; then
     echo "run.sh: OLD names no old library, the table of old beside new is left out" >&2
 elif old; then
-    flags="$flags -l static=old --cfg old"
+    flags="$flags -l static=old --cfg old${ONE_WORD:+ --cfg one_word}"
 else
     echo "run.sh: $OLD could not be renamed, the table of old beside new is left out" >&2
 fi

@@ -1,5 +1,5 @@
 // The stores that calls are measured on.
-use crate::calls::{Call, NEW, OPERATIONS, REFUSED};
+use crate::calls::{ferigulan_fresh, Call, NEW, OPERATIONS, REFUSED};
 
 // A store, and the calls that made its types.
 pub struct Store {
@@ -10,7 +10,7 @@ pub struct Store {
 impl Store {
     pub fn fresh(len: usize) -> Store {
         let mut words = vec![0u64; len];
-        assert_eq!(unsafe { (NEW.fresh)(words.as_mut_ptr(), len) }, 0);
+        assert_eq!(unsafe { ferigulan_fresh(words.as_mut_ptr(), len) }, 0);
         Store { words, calls: Vec::new() }
     }
 

@@ -1,8 +1,9 @@
 //! Where the Rust is asked: each call that passed the rows goes to the original function, and what that answers is the answer.
 
 use crate::script::Call;
+use crate::session::Answer;
 use crate::store::{kind_of, Held, Store};
-use original::sea_of_nodes::types::{Field, Ty, TyInt, TyStruct, Types};
+use original::sea_of_nodes::types::{Field, Ty, TyFloat, TyInt, TyStruct, Types};
 use std::hint::black_box;
 use std::time::{Duration, Instant};
 
@@ -10,8 +11,8 @@ use std::time::{Duration, Instant};
 pub enum Told<'t> {
     /// What the call made, in the order of its making; the last is the answer.
     Made(Vec<Held<'t>>),
-    Flag(bool),
-    Number(u64),
+    /// An answer that makes nothing.
+    Said(Answer),
     /// The Rust has no such type, for this reason.
     NotHeld(&'static str),
 }
@@ -61,6 +62,14 @@ pub enum Ready<'t> {
     Lub(Ty<'t>),
     IsFinal(Ty<'t>),
     MakeRo(Ty<'t>),
+    // The other calls: what they are about, and the function.
+    OfType(Ty<'t>, fn(Ty<'t>, &Types<'t>) -> Answered<'t>),
+    OfInt(TyInt<'t>, fn(TyInt<'t>, &Types<'t>) -> Answered<'t>),
+    OfFloat(TyFloat<'t>, fn(TyFloat<'t>) -> Answered<'t>),
+    OfStruct(TyStruct<'t>, fn(TyStruct<'t>, &Types<'t>) -> Answered<'t>),
+    Find(TyStruct<'t>, &'t str),
+    FindAlias(TyStruct<'t>, u32),
+    Offset(TyStruct<'t>, usize),
 }
 
 /// What one of the Rust's functions hands back.
@@ -69,6 +78,18 @@ pub enum Answered<'t> {
     Name(&'t str),
     Flag(bool),
     Kind(u8),
+    LogSize(usize),
+    Signed(i64),
+    Value(Option<i64>),
+    FloatSize(i8),
+    FloatValue(Option<f64>),
+    /// A float's size, and its value if it is a constant.
+    Reading(i8, Option<f64>),
+    Fields(&'t [Field<'t>]),
+    Found(Option<usize>),
+    /// An offset, or a scale.
+    Offset(i64),
+    Offsets(Vec<i64>),
 }
 
 impl<'t> Ready<'t> {
@@ -96,6 +117,13 @@ impl<'t> Ready<'t> {
             Ready::Lub(a) => a.lub(types),
             Ready::IsFinal(a) => return Answered::Flag(a.is_final()),
             Ready::MakeRo(a) => a.make_ro(types),
+            Ready::OfType(a, function) => return function(*a, types),
+            Ready::OfInt(a, function) => return function(*a, types),
+            Ready::OfFloat(a, function) => return function(*a),
+            Ready::OfStruct(s, function) => return function(*s, types),
+            Ready::Find(s, name) => return Answered::Found(s.find(name)),
+            Ready::FindAlias(s, alias) => return Answered::Found(s.find_alias(*alias)),
+            Ready::Offset(s, index) => return Answered::Offset(s.offset(*index, types)),
         })
     }
 }
@@ -134,7 +162,40 @@ pub fn ready<'t>(store: &Store<'_, 't>, call: &Call) -> Result<Ready<'t>, &'stat
         ("lub", [a]) => Ready::Lub(ty(*a)),
         ("is_final", [a]) => Ready::IsFinal(ty(*a)),
         ("make_ro", [a]) => Ready::MakeRo(ty(*a)),
-        // make_init, make_zero, non_zero, is_high and the others come here.
+
+        // The other calls.
+        ("make_init", [a]) => Ready::OfType(ty(*a), |a, types| Answered::Type(a.make_init(types))),
+        ("make_zero", [a]) => Ready::OfType(ty(*a), |a, types| Answered::Type(a.make_zero(types))),
+        ("non_zero", [a]) => Ready::OfType(ty(*a), |a, types| Answered::Type(a.non_zero(types))),
+        ("is_high", [a]) => Ready::OfType(ty(*a), |a, types| Answered::Flag(a.is_high(types))),
+        ("is_high_or_constant", [a]) => Ready::OfType(ty(*a), |a, types| Answered::Flag(a.is_high_or_constant(types))),
+        ("is_constant", [a]) => Ready::OfType(ty(*a), |a, types| Answered::Flag(a.is_constant(types))),
+        ("is_fref", [a]) => Ready::OfType(ty(*a), |a, _| Answered::Flag(a.is_fref())),
+        ("log_size", [a]) => Ready::OfType(ty(*a), |a, types| Answered::LogSize(a.log_size(types))),
+
+        ("min", [a]) => Ready::OfInt(ty(*a).as_int(), |a, _| Answered::Signed(a.min())),
+        ("max", [a]) => Ready::OfInt(ty(*a).as_int(), |a, _| Answered::Signed(a.max())),
+        ("value", [a]) => Ready::OfInt(ty(*a).as_int(), |a, _| Answered::Value(a.value())),
+        ("mask", [a]) => Ready::OfInt(ty(*a).as_int(), |a, types| Answered::Signed(a.mask(types))),
+
+        ("sz", [a]) => Ready::OfFloat(ty(*a).as_float(), |a| Answered::FloatSize(a.sz())),
+        ("is_f32", [a]) => Ready::OfFloat(ty(*a).as_float(), |a| Answered::Flag(a.is_f32())),
+        ("float_value", [a]) => Ready::OfFloat(ty(*a).as_float(), |a| Answered::FloatValue(a.value())),
+        // The Rust has no such call: its two looks at a float as one.
+        ("reading", [a]) => Ready::OfFloat(ty(*a).as_float(), |a| Answered::Reading(a.sz(), a.value())),
+
+        ("name", [s]) => Ready::OfStruct(ty(*s).as_struct(), |s, _| Answered::Name(s.name())),
+        ("fields", [s, _]) => Ready::OfStruct(ty(*s).as_struct(), |s, _| Answered::Fields(s.fields())),
+        ("find", [s, field_name]) => Ready::Find(ty(*s).as_struct(), name(*field_name)),
+        ("find_alias", [s, alias]) => Ready::FindAlias(ty(*s).as_struct(), *alias as u32),
+        ("is_ary", [s]) => Ready::OfStruct(ty(*s).as_struct(), |s, _| Answered::Flag(s.is_ary())),
+        ("offset", [s, index]) => Ready::Offset(ty(*s).as_struct(), *index as usize),
+        // The Rust's `offsets` is private: its `offset` of each index.
+        ("offsets", [s, _]) => Ready::OfStruct(ty(*s).as_struct(), |s, types| {
+            Answered::Offsets((0..=s.fields().len()).map(|index| s.offset(index, types)).collect())
+        }),
+        ("ary_base", [s]) => Ready::OfStruct(ty(*s).as_struct(), |s, types| Answered::Offset(s.ary_base(types))),
+        ("ary_scale", [s]) => Ready::OfStruct(ty(*s).as_struct(), |s, types| Answered::Offset(s.ary_scale(types))),
         _ => unreachable!("script.rs knows the call {}, and ask.rs does not", call.name),
     })
 }
@@ -172,11 +233,10 @@ pub fn ask<'t>(store: &Store<'_, 't>, call: &Call, clock: &mut Clock) -> Told<'t
     };
     // a look at a type is not the Rust's work
     if let Ready::Kind(a) = ready {
-        return Told::Number(u64::from(kind_of(a)));
+        return Told::Said(Answer::Number(u64::from(kind_of(a))));
     }
-    match (clock.time(|| ready.run(store.types)), ready) {
-        (Answered::Flag(yes), _) => Told::Flag(yes),
-        (Answered::Kind(kind), _) => Told::Number(u64::from(kind)),
+    let answered = clock.time(|| ready.run(store.types));
+    match (answered, ready) {
         (Answered::Name(name), _) => Told::Made(vec![Held::Name(name)]),
         (Answered::Type(answer), Ready::Join(a, b)) => Told::Made(joined(store, a, b, answer)),
         (Answered::Type(answer), _) if call.name == "ary" => {
@@ -186,7 +246,34 @@ pub fn ask<'t>(store: &Store<'_, 't>, call: &Call, clock: &mut Clock) -> Told<'t
         // A type, with all that was made on the way: a call makes nothing that is not part of its answer, each part before the whole and
         // left to right, which is the order in which the store registers the parts of a type.
         (Answered::Type(answer), _) => Told::Made(vec![Held::Type(answer)]),
+        (said, _) => Told::Said(spelt(store, call, said)),
     }
+}
+
+/// An answer that is no type and no name, in document 01's numbers.
+fn spelt<'t>(store: &Store<'_, 't>, call: &Call, answered: Answered<'t>) -> Answer {
+    let filled = |words: Vec<u64>| Answer::Filled(words, call.numbers[1] as usize);
+    match answered {
+        Answered::Type(_) | Answered::Name(_) => unreachable!("types and names have handles"),
+        Answered::Flag(yes) => Answer::Flag(yes),
+        Answered::Kind(kind) => Answer::Number(u64::from(kind)),
+        Answered::LogSize(size) => Answer::Number(size as u64),
+        Answered::Signed(n) => Answer::Signed(n),
+        Answered::Value(value) => value.map_or(Answer::Absent, Answer::Signed),
+        Answered::FloatSize(size) => Answer::Signed(i64::from(size)),
+        Answered::FloatValue(value) => value.map_or(Answer::Absent, |value| Answer::Number(value.to_bits())),
+        Answered::Reading(size, value) => value.map_or(Answer::Size(size), |value| Answer::Constant(value.to_bits())),
+        Answered::Fields(fields) => filled(fields.iter().flat_map(|field| field_words(store, field)).collect()),
+        Answered::Found(index) => index.map_or(Answer::Absent, |index| Answer::Number(index as u64)),
+        Answered::Offset(offset) => Answer::Number(offset as u64),
+        Answered::Offsets(offsets) => filled(offsets.into_iter().map(|offset| offset as u64).collect()),
+    }
+}
+
+/// A field as it is lent: name, type, alias, final.
+fn field_words<'t>(store: &Store<'_, 't>, field: &Field<'t>) -> [u64; 4] {
+    let (name, ty) = (Held::Name(field.fname), Held::Type(field.ty));
+    [store.handle_of(name), store.handle_of(ty), u64::from(field.alias), u64::from(field.final_field)]
 }
 
 /// A join makes two duals, their meet and its dual, of which the first three need not be parts of the answer. They are asked for one by

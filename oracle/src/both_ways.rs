@@ -66,11 +66,11 @@ impl Tally {
     }
 
     fn print(&self) {
-        println!("{:<10} {:>10} {:>10}  refused", "line", "lines", "accepted");
+        println!("{:<20} {:>10} {:>10}  refused", "line", "lines", "accepted");
         for (name, rows) in &self.counts {
             let all: u64 = rows.values().sum();
             let refused: Vec<String> = rows.iter().filter(|(row, _)| **row > 0).map(|(row, n)| format!("{row}: {n}")).collect();
-            println!("{name:<10} {all:>10} {:>10}  {}", rows.get(&0).unwrap_or(&0), refused.join("  "));
+            println!("{name:<20} {all:>10} {:>10}  {}", rows.get(&0).unwrap_or(&0), refused.join("  "));
         }
     }
 }

@@ -38,7 +38,7 @@ impl Program {
 
 /// The first call whose answers differ.
 pub fn first_difference(asked: &[Asked], answers: &[String]) -> Option<usize> {
-    let differs = |i: &usize| answers.get(*i) != Some(&asked[*i].answer.to_string());
+    let differs = |i: &usize| answers.get(*i) != Some(&asked[*i].line());
     (0..asked.len()).find(differs)
 }
 
@@ -55,6 +55,8 @@ impl Tally {
         self.lists += 1;
         for asked in &list.asked {
             let row = match asked.answer {
+                // a line that is no call is compared, and not counted
+                Answer::Malformed => continue,
                 Answer::Refused(row) => row,
                 _ => 0,
             };
@@ -64,12 +66,12 @@ impl Tally {
     }
 
     fn print(&self) {
-        println!("{:<10} {:>10} {:>10}  refused", "call", "calls", "accepted");
+        println!("{:<20} {:>10} {:>10}  refused", "call", "calls", "accepted");
         for (name, rows) in &self.counts {
             let all: u64 = rows.values().sum();
             let accepted = rows.get(&0).unwrap_or(&0);
             let refused: Vec<String> = rows.iter().filter(|(row, _)| **row > 0).map(|(row, n)| format!("{row}: {n}")).collect();
-            println!("{name:<10} {all:>10} {accepted:>10}  {}", refused.join("  "));
+            println!("{name:<20} {all:>10} {accepted:>10}  {}", refused.join("  "));
         }
     }
 }
@@ -138,15 +140,16 @@ fn report(program: &Program, list: &List) -> io::Result<()> {
         return Ok(());
     };
     for (i, asked) in asked.iter().enumerate() {
-        let wanted = asked.answer.to_string();
+        let wanted = asked.line();
         match answers.get(i) {
             Some(answer) if *answer == wanted => println!("{} ; => {wanted}", asked.call),
             Some(answer) => println!("{} ; => {wanted} (the Rust); the program answers {answer}", asked.call),
             None => println!("{} ; => {wanted} (the Rust); the program answers nothing", asked.call),
         }
     }
+    let is_call = asked.last().is_some_and(|last| last.answer != Answer::Malformed);
     let last = answers.get(asked.len() - 1);
-    if last.is_some_and(|answer| answer.starts_with('?')) {
+    if is_call && last.is_some_and(|answer| answer.starts_with('?')) {
         println!("the program does not know the call; --calls names those that are to be made");
     }
     Ok(())
@@ -157,7 +160,7 @@ pub fn sample(n: u64, seed: u64, menu: &Menu) {
     let mut seeds = Random::new(seed);
     for list in lists_of(n, &mut seeds, menu) {
         for asked in list.asked {
-            println!("{} ; => {}", asked.call, asked.answer);
+            println!("{} ; => {}", asked.call, asked.line());
         }
     }
 }

@@ -4,6 +4,7 @@
 mod choosing;
 mod making;
 mod opening;
+mod others;
 
 use crate::random::Random;
 use crate::script::known_name;
@@ -27,23 +28,43 @@ const MAKERS: &[(usize, &str)] = &[
     (6, "ary"),
 ];
 
-/// The calls that can be switched on, and how often each is made.
+/// The calls of the lattice, and how often each is made where it is switched on.
+const LATTICE: &[(usize, &str)] =
+    &[(3, "kind"), (25, "meet"), (15, "isa"), (8, "dual"), (10, "join"), (5, "glb"), (5, "lub"), (5, "is_final"), (8, "make_ro")];
+
+/// Document 01's other calls, likewise.
 const OTHERS: &[(usize, &str)] = &[
-    (3, "kind"),
-    (25, "meet"),
-    (15, "isa"),
-    (8, "dual"),
-    (10, "join"),
-    (5, "glb"),
-    (5, "lub"),
-    (5, "is_final"),
-    (8, "make_ro"),
-    // The other calls come here; `Generator::ask_about` makes those that take a type alone without further ado.
+    (3, "make_init"),
+    (3, "make_zero"),
+    (6, "non_zero"),
+    (3, "is_high"),
+    (3, "is_high_or_constant"),
+    (3, "is_constant"),
+    (3, "is_fref"),
+    (4, "log_size"),
+    (2, "min"),
+    (2, "max"),
+    (3, "value"),
+    (8, "mask"),
+    (2, "sz"),
+    (4, "is_f32"),
+    (3, "float_value"),
+    (3, "reading"),
+    (2, "name"),
+    (4, "fields"),
+    (5, "find"),
+    (4, "find_alias"),
+    (3, "is_ary"),
+    (6, "offset"),
+    (6, "offsets"),
+    (4, "ary_base"),
+    (4, "ary_scale"),
 ];
 
 /// Which calls lists are made of.
 pub struct Menu {
-    others: Vec<(usize, &'static str)>,
+    /// What is asked about the types that the makers make.
+    asks: Vec<(usize, &'static str)>,
     /// Whether each list ends with `dump`, so that every used word is compared.
     dump: bool,
     /// Whether the lists are opened.
@@ -51,21 +72,23 @@ pub struct Menu {
 }
 
 impl Menu {
-    /// Reads names separated by commas; `makers` stands for all makers, `lattice` for the calls on types, `all` for everything.
+    /// Reads names separated by commas; `makers` stands for all makers, `lattice` for its calls, `others` for document 01's other calls,
+    /// `all` for everything.
     pub fn read(names: &str) -> Result<Menu, String> {
-        let mut menu = Menu { others: vec![], dump: false, opened: false };
+        let mut menu = Menu { asks: vec![], dump: false, opened: false };
         for name in names.split(',') {
             match name {
                 "makers" => {}
                 "dump" => menu.dump = true,
-                "lattice" => menu.others.extend(OTHERS),
+                "lattice" => menu.asks.extend(LATTICE),
+                "others" => menu.asks.extend(OTHERS),
                 "all" => {
                     menu.dump = true;
-                    menu.others.extend(OTHERS);
+                    menu.asks.extend(LATTICE.iter().chain(OTHERS));
                 }
-                _ => menu.others.extend(OTHERS.iter().filter(|other| other.1 == name)),
+                _ => menu.asks.extend(LATTICE.iter().chain(OTHERS).filter(|ask| ask.1 == name)),
             }
-            let is_word = ["makers", "lattice", "all"].contains(&name);
+            let is_word = ["makers", "lattice", "others", "all"].contains(&name);
             if !is_word && known_name(name).is_none() {
                 return Err(format!("{name}: no call of the oracle"));
             }
@@ -138,10 +161,12 @@ impl Generator<'_, '_, '_> {
             let length = self.random.of(&[0, 1, 92, 93]);
             self.run("fresh", vec![Arg::Number(length)], vec![]);
         }
-        for name in ["get_bool", "kind", "fref", "int", "float", "tuple", "dual"] {
-            if MAKERS.iter().chain(&self.menu.others).any(|other| other.1 == name) {
-                let number = values::trouble(&mut self.random);
-                self.run(name, vec![Arg::Number(number)], vec![]);
+        let of_one = ["get_bool", "kind", "fref", "int", "float", "tuple", "dual", "non_zero", "log_size", "mask", "sz", "name", "is_ary"];
+        let of_two = ["fields", "find", "find_alias", "offset", "offsets"];
+        for (name, count) in of_one.map(|name| (name, 1)).into_iter().chain(of_two.map(|name| (name, 2))) {
+            if MAKERS.iter().chain(&self.menu.asks).any(|call| call.1 == name) {
+                let numbers = (0..count).map(|_| Arg::Number(values::trouble(&mut self.random))).collect();
+                self.run(name, numbers, vec![]);
             }
         }
         self.run("fresh", vec![], vec![]);
@@ -154,7 +179,7 @@ impl Generator<'_, '_, '_> {
         if self.random.below(600) == 0 {
             return self.towers();
         }
-        if self.menu.others.is_empty() || self.random.percent(50) {
+        if self.menu.asks.is_empty() || self.random.percent(50) {
             self.make();
         } else {
             self.ask_about();
@@ -170,8 +195,9 @@ impl Generator<'_, '_, '_> {
     }
 
     fn ask_about(&mut self) {
-        match self.random.weighted(&self.menu.others) {
+        match self.random.weighted(&self.menu.asks) {
             name @ ("meet" | "isa" | "join") => self.ask_about_two(name),
+            name if OTHERS.iter().any(|other| other.1 == name) => self.ask_other(name),
             name => {
                 let a = self.walked();
                 self.call(name, vec![self.origins[a]]);
@@ -204,7 +230,7 @@ impl Generator<'_, '_, '_> {
 
     /// Whether a call comes to its end soon: a number by chance may be the handle of a type that takes a walk too many visits.
     fn ends(&self, name: &str, args: &[Arg]) -> bool {
-        let walks = self.menu.others.iter().any(|other| other.1 == name);
+        let walks = name == "non_zero" || LATTICE.iter().any(|call| call.1 == name);
         let is_long = |arg: &Arg| self.store().entry(self.runner.number(*arg)).is_some_and(|entry| entry.visits > MOST_VISITS);
         !(walks && args.iter().any(is_long))
     }

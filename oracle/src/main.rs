@@ -30,12 +30,12 @@ oracle compare N [SEED] [--calls NAMES] [--opened] --program FILE --folder FOLDE
                                             runs N calls or more on the Rust and on a program, which puts its files into a folder
 oracle both-ways N [SEED] [--calls NAMES] --program FILE [--other FILE] --folder FOLDER
                                             runs N lists with poked words on a program, and opened on the same or another one
-NAMES: names of calls separated by commas, 'lattice' for the calls on types, 'dump' for the store's words at the end of each list,
-'all'. The makers are always used. --opened opens the stores.";
+NAMES: names of calls separated by commas, 'lattice' for kind, meet and the other calls of the lattice, 'others' for the calls from
+make_init to ary_scale, 'dump' for the store's words at the end of each list, 'all'. The makers are always used. --opened opens the stores.";
 
 /// What is compared where no calls are named, and what a sample has: dumps make long lines.
-const COMPARED: &str = "makers,kind,meet,isa,dual,join,glb,lub,is_final,make_ro,dump";
-const SAMPLED: &str = "makers,kind,meet,isa,dual,join,glb,lub,is_final,make_ro";
+const COMPARED: &str = "all";
+const SAMPLED: &str = "makers,lattice,others";
 
 fn main() -> ExitCode {
     let words: Vec<String> = std::env::args().skip(1).collect();

@@ -82,10 +82,10 @@ pub fn time(file: &str, turns: usize) -> io::Result<()> {
         time_script(&script, &mut spent);
     }
     let empty = cost_of_the_clock();
-    println!("{:<10} {:>10} {:>12}   (debug assertions: {})", "call", "calls", "ns per call", cfg!(debug_assertions));
+    println!("{:<20} {:>10} {:>12}   (debug assertions: {})", "call", "calls", "ns per call", cfg!(debug_assertions));
     for (name, (calls, time)) in spent {
         let each = (time.as_nanos() as f64 / calls as f64 - empty).max(0.0);
-        println!("{name:<10} {calls:>10} {each:>12.1}");
+        println!("{name:<20} {calls:>10} {each:>12.1}");
     }
     Ok(())
 }

@@ -53,8 +53,35 @@ const SHAPES: &[Shape] = &[
     Shape("lub", 1, 1, false),
     Shape("is_final", 1, 1, false),
     Shape("make_ro", 1, 1, false),
-    // The other calls (make_init, make_zero, non_zero, is_high, .. ary_scale) come here, one line each; then a row for each in rows.rs
-    // and a case in ask.rs.
+    // The other calls: of types,
+    Shape("make_init", 1, 1, false),
+    Shape("make_zero", 1, 1, false),
+    Shape("non_zero", 1, 1, false),
+    Shape("is_high", 1, 1, false),
+    Shape("is_high_or_constant", 1, 1, false),
+    Shape("is_constant", 1, 1, false),
+    Shape("is_fref", 1, 1, false),
+    Shape("log_size", 1, 1, false),
+    // of Ints,
+    Shape("min", 1, 1, false),
+    Shape("max", 1, 1, false),
+    Shape("value", 1, 1, false),
+    Shape("mask", 1, 1, false),
+    // of Floats,
+    Shape("sz", 1, 1, false),
+    Shape("is_f32", 1, 1, false),
+    Shape("float_value", 1, 1, false),
+    Shape("reading", 1, 1, false),
+    // of structs; the second number of `fields` and `offsets` is the length of the output.
+    Shape("name", 1, 1, false),
+    Shape("fields", 2, 2, false),
+    Shape("find", 2, 2, false),
+    Shape("find_alias", 2, 2, false),
+    Shape("is_ary", 1, 1, false),
+    Shape("offset", 2, 2, false),
+    Shape("offsets", 2, 2, false),
+    Shape("ary_base", 1, 1, false),
+    Shape("ary_scale", 1, 1, false),
 ];
 
 /// The name of a call as these programs know it.

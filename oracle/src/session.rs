@@ -13,10 +13,18 @@ use std::panic::{catch_unwind, AssertUnwindSafe};
 pub enum Answer {
     /// A handle, or another number.
     Number(u64),
+    Signed(i64),
     Flag(bool),
+    /// There is no such number.
+    Absent,
+    /// The readings of a float: a constant's bits, or a size.
+    Constant(u64),
+    Size(i8),
     Refused(u8),
     Accepted,
     Words(Vec<u64>),
+    /// An output: the words that were filled, and the length of the whole. All words behind the filled ones are what they were.
+    Filled(Vec<u64>, usize),
     /// No call. The line itself is printed after it.
     Malformed,
     /// The Rust cannot be asked, for this reason: not to be compared.
@@ -27,12 +35,21 @@ impl fmt::Display for Answer {
     fn fmt(&self, f: &mut fmt::Formatter<'_>) -> fmt::Result {
         match self {
             Answer::Number(n) => write!(f, "{n}"),
+            Answer::Signed(n) => write!(f, "={n}"),
+            Answer::Absent => f.write_str("absent"),
+            Answer::Constant(bits) => write!(f, "constant {bits}"),
+            Answer::Size(size) => write!(f, "size ={size}"),
             Answer::Flag(yes) => write!(f, "{}", u8::from(*yes)),
             Answer::Refused(row) => write!(f, "-{row}"),
             Answer::Accepted => f.write_str("ok"),
             Answer::Words(words) => {
                 let words: Vec<String> = words.iter().map(u64::to_string).collect();
                 f.write_str(&words.join(" "))
+            }
+            Answer::Filled(words, length) => {
+                write!(f, "{} :", words.len())?;
+                let kept = std::iter::repeat_n(&KEPT, length - words.len());
+                words.iter().chain(kept).try_for_each(|word| write!(f, " {word}"))
             }
             Answer::Malformed => f.write_str("?"),
             Answer::NotHeld(reason) => write!(f, "! {reason}"),
@@ -42,6 +59,10 @@ impl fmt::Display for Answer {
 
 /// The program `calls` has room for this many words.
 const MOST_WORDS: u64 = 65_536;
+
+/// It has room for outputs of this many, each of which holds this number before the call.
+pub const MOST_OUTPUT: u64 = 4096;
+const KEPT: u64 = 7777;
 
 /// The list that calls are lent.
 enum Lent<'a, 't> {
@@ -90,6 +111,7 @@ impl<'a, 't> Session<'a, 't> {
     pub fn run(&mut self, call: &Call) -> Answer {
         match (call.name, &call.numbers[..]) {
             ("list" | "fresh", [n, ..]) if *n > self.most_words => Answer::Malformed,
+            ("fields" | "offsets", [_, length]) if *length > MOST_OUTPUT => Answer::Malformed,
             ("list", [n]) => self.lend(*n, 0),
             ("list", [n, value]) => self.lend(*n, *value),
             ("fresh", []) => self.fresh(),
@@ -177,8 +199,7 @@ impl<'a, 't> Session<'a, 't> {
         let clock = &mut self.clock;
         let told = catch_unwind(AssertUnwindSafe(|| ask(store, call, clock)));
         let reason = match told {
-            Ok(Told::Flag(yes)) => return Answer::Flag(yes),
-            Ok(Told::Number(n)) => return Answer::Number(n),
+            Ok(Told::Said(answer)) => return answer,
             Ok(Told::Made(made)) => return store.append(&made).map_or(Answer::Refused(12), Answer::Number),
             Ok(Told::NotHeld(reason)) => reason,
             Err(_) => "the Rust panicked",

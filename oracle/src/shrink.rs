@@ -124,7 +124,7 @@ impl Shrinker<'_> {
     fn simplify(&mut self, i: usize, k: usize) -> io::Result<()> {
         let now = self.asked[i].call.numbers[k];
         let itself = if now < SHORTEST as u64 { now } else { 0 };
-        for number in [0, 1, 5, 6, 9, 12, 18, 20, 94, 400, itself] {
+        for number in [0, 1, 5, 6, 9, 12, 18, 20, 25, 55, 61, 88, 94, 400, itself] {
             if i >= self.steps.len() || self.tries >= MOST_TRIES || !is_simpler(number, self.steps[i].args[k]) {
                 continue;
             }

@@ -39,6 +39,16 @@ pub struct Asked {
     pub answer: Answer,
 }
 
+impl Asked {
+    /// The answer as the program has to print it: the line itself behind the mark where it is no call.
+    pub fn line(&self) -> String {
+        match &self.answer {
+            Answer::Malformed => format!("? {}", self.call),
+            answer => answer.to_string(),
+        }
+    }
+}
+
 /// What steps refer to.
 struct Outcome {
     answer: u64,

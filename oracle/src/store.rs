@@ -82,6 +82,14 @@ impl<'a, 't> Store<'a, 't> {
         self.place.get(&handle).copied()
     }
 
+    /// The handle of a name or type that has one.
+    pub fn handle_of(&self, held: Held<'t>) -> u64 {
+        match held {
+            Held::Name(name) => self.handle_of_name[name],
+            Held::Type(ty) => self.handle_of_type[&ty],
+        }
+    }
+
     /// The words of an entry, its head included.
     pub fn words_at(&self, place: usize) -> &[u64] {
         let start = self.entries[place].handle as usize;

@@ -40,6 +40,35 @@ pub fn int(random: &mut Random) -> u64 {
     }
 }
 
+/// The ends of an Int that has a mask to think about: about a power of two, with the same bits above some place, all numbers with the same
+/// bits above it, across zero; a constant or any; now and then high.
+pub fn range(random: &mut Random) -> [u64; 2] {
+    let below = (1u64 << random.below(64)) - 1;
+    let word = (random.word() as i64 >> random.below(64)) as u64;
+    let near = |random: &mut Random, n: u64| n.wrapping_add(random.below(5) as u64).wrapping_sub(2);
+    let power = if random.percent(30) { (below + 1).wrapping_neg() } else { below + 1 };
+    let ends = match random.below(8) {
+        0 => [near(random, power), near(random, power)],
+        1 | 2 => [(); 2].map(|()| (word & !below) | (random.word() & below)),
+        3 => [word & !below, word | below],
+        4 => [near(random, word & !below), near(random, word | below)],
+        5 => [(random.word() >> (1 + random.below(63))).wrapping_neg(), random.word() >> (1 + random.below(63))],
+        6 => [word; 2],
+        _ => [int(random), int(random)],
+    };
+    let is_high = random.percent(12);
+    if (ends[0] as i64 > ends[1] as i64) != is_high {
+        return [ends[1], ends[0]];
+    }
+    ends
+}
+
+/// The ends of an Int with 0 at one of them, or beside them.
+pub fn range_at_zero(random: &mut Random) -> [u64; 2] {
+    let (zero, other) = (random.of(&[0, 0, 0, 0, 1, u64::MAX]), int(random));
+    random.of(&[[zero, other], [other, zero]])
+}
+
 const FLOAT_EDGES: &[u64] = &[
     0,
     1 << 63,               // -0.0

@@ -21,6 +21,13 @@ pub data Reply : Type 0 where
   flag : Bool → Reply
   accepted : Reply
   refused : ℕ → Reply
+  -- a signed number, as its two's complement word
+  signedNumber : ℕ → Reply
+  -- "first match, or absent"
+  absent : Reply
+  -- "a constant with its value, or a size alone": the constant's bits, the size as a signed number
+  constantBits : ℕ → Reply
+  sizeAlone : ℕ → Reply
 
 pub record Outcome : Type 0 where
   pub reply : Reply
@@ -39,6 +46,10 @@ told (Answer-variants.Handle h) = handle h
 told (Answer-variants.Number n) = number n
 told (Answer-variants.Flag b) = flag b
 told (Answer-variants.Refused n) = refused n
+told (Answer-variants.Signed w) = signedNumber w
+told Answer-variants.Absent = absent
+told (Answer-variants.Constant bits) = constantBits bits
+told (Answer-variants.Size w) = sizeAlone w
 
 abbrev pub done : Done → Reply
 done Done-variants.Accepted = accepted
@@ -87,3 +98,22 @@ replyAfter (suc n) r = refused (suc n)
 -- row 1, and the call's own rows
 unfoldable pub ask : (List ℕ → ℕ) → (List ℕ → Reply) → List ℕ → Outcome
 ask rows answer ws = left (replyAfter (1 when not (wellFormed ws) otherwise rows (usedWords ws)) (answer (usedWords ws))) ws
+
+-- ---- a call that fills a lent output
+
+-- row 11: "output shorter than the answer", where the output has n words
+abbrev pub outputRows : (List ℕ → ℕ) → (List ℕ → List ℕ) → ℕ → List ℕ → ℕ
+outputRows rows answer n u = rows u otherwise 11 when ltb n (length (answer u))
+
+-- it answers how many words it fills
+abbrev pub fill : (List ℕ → ℕ) → (List ℕ → List ℕ) → ℕ → List ℕ → Outcome
+fill rows answer n = ask (outputRows rows answer n) (λ u. number (length (answer u)))
+
+-- "Words of an output past its answer keep", and "store and outputs keep every word" where the call is refused
+abbrev pub outputAfter : ℕ → List ℕ → List ℕ → List ℕ
+outputAfter zero answer out = answer ++ drop (length answer) out
+outputAfter (suc n) answer out = out
+
+-- what the output holds afterwards
+unfoldable pub filledOutput : (List ℕ → ℕ) → (List ℕ → List ℕ) → List ℕ → List ℕ → List ℕ
+filledOutput rows answer ws out = outputAfter (1 when not (wellFormed ws) otherwise outputRows rows answer (length out) (usedWords ws)) (answer (usedWords ws)) out

@@ -19,12 +19,17 @@ pub enum Made {
     Refused(u8),
 }
 
-// The answer of a call that only reads: a handle, a number, or yes or no, by the call.
+// The answer of a call that only reads, by the call: a handle, a number, yes or no; a signed number, as its two's complement word; that there is none; or what a float
+// is read as, a constant with its bits or a size alone, as a two's complement word.
 pub enum Answer {
     Handle(u64),
     Number(u64),
     Flag(bool),
     Refused(u8),
+    Signed(u64),
+    Absent,
+    Constant(u64),
+    Size(u64),
 }
 
 // The answer of a call that tells nothing more.

@@ -1,16 +1,27 @@
 // The lines that are calls: which call a line names, as a value, and the call made.
 use asking::Asking;
+use call::Answer;
 use making::Making;
+use of_types::OfType;
+use of_values::OfFloat;
+use of_values::OfInt;
 use replies::Reply;
 use replies::arg;
 use replies::is;
 use replies::made;
 use replies::told;
+use struct_calls::Filling;
+use struct_calls::OfStruct;
 use walk_rules::Walk;
 ghost use Prim.Native.Nat.{_≤_};
 ghost use lib.ListN.{length};
 ghost use Rattle.opened.specs.OpenStore.{OpenStore};
 ghost use Rattle.call_lines.specs.OpenIf.{OpenIf};
+
+// What the words of an output hold before a call, and how many a line may ask for.
+const BLANK: u64 = 7777;
+
+const MOST_OUTPUT: u64 = 4096;
 
 // Whether a line has a text behind its numbers, and then how many numbers.
 pub enum Shape {
@@ -34,6 +45,8 @@ pub fn behind(name: &[u8]) -> Shape {
 pub enum Line {
     Append(Making),
     Ask(Asking),
+    // of a struct, into an output of so many words
+    Fill(Filling, u64, usize),
     Other,
 }
 
@@ -130,6 +143,114 @@ fn texts(name: &[u8], a: &[u64]) -> Line {
     if is(name, n, b"ary", 4) {
         return Line::Append(Making::MakeAry(arg(a, 0), arg(a, 1), arg(a, 2), arg(a, 3)));
     }
+    types(name, a)
+}
+
+// What is told of a type.
+fn types(name: &[u8], a: &[u64]) -> Line {
+    let n = a.len();
+    let x = arg(a, 0);
+    if is(name, n, b"make_init", 1) {
+        return Line::Ask(Asking::Type(OfType::MakeInit, x));
+    }
+    if is(name, n, b"make_zero", 1) {
+        return Line::Ask(Asking::Type(OfType::MakeZero, x));
+    }
+    if is(name, n, b"non_zero", 1) {
+        return Line::Append(Making::NonZero(x));
+    }
+    if is(name, n, b"is_high", 1) {
+        return Line::Ask(Asking::Type(OfType::IsHigh, x));
+    }
+    if is(name, n, b"is_high_or_constant", 1) {
+        return Line::Ask(Asking::Type(OfType::IsHighOrConstant, x));
+    }
+    if is(name, n, b"is_constant", 1) {
+        return Line::Ask(Asking::Type(OfType::IsConstant, x));
+    }
+    if is(name, n, b"is_fref", 1) {
+        return Line::Ask(Asking::Type(OfType::IsFref, x));
+    }
+    if is(name, n, b"log_size", 1) {
+        return Line::Ask(Asking::Type(OfType::LogSize, x));
+    }
+    numbers(name, a)
+}
+
+// What is told of an Int and of a Float.
+fn numbers(name: &[u8], a: &[u64]) -> Line {
+    let n = a.len();
+    let x = arg(a, 0);
+    if is(name, n, b"min", 1) {
+        return Line::Ask(Asking::Int(OfInt::Min, x));
+    }
+    if is(name, n, b"max", 1) {
+        return Line::Ask(Asking::Int(OfInt::Max, x));
+    }
+    if is(name, n, b"value", 1) {
+        return Line::Ask(Asking::Int(OfInt::Value, x));
+    }
+    if is(name, n, b"mask", 1) {
+        return Line::Ask(Asking::Int(OfInt::Mask, x));
+    }
+    if is(name, n, b"sz", 1) {
+        return Line::Ask(Asking::Float(OfFloat::Sz, x));
+    }
+    if is(name, n, b"is_f32", 1) {
+        return Line::Ask(Asking::Float(OfFloat::IsF32, x));
+    }
+    if is(name, n, b"float_value", 1) {
+        return Line::Ask(Asking::Float(OfFloat::Value, x));
+    }
+    if is(name, n, b"reading", 1) {
+        return Line::Ask(Asking::Float(OfFloat::Reading, x));
+    }
+    structs(name, a)
+}
+
+// What is told of a struct.
+fn structs(name: &[u8], a: &[u64]) -> Line {
+    let n = a.len();
+    let x = arg(a, 0);
+    let y = arg(a, 1);
+    if is(name, n, b"name", 1) {
+        return Line::Ask(Asking::Struct(OfStruct::Name, x));
+    }
+    if is(name, n, b"find", 2) {
+        return Line::Ask(Asking::Struct(OfStruct::Find(y), x));
+    }
+    if is(name, n, b"find_alias", 2) {
+        return Line::Ask(Asking::Struct(OfStruct::FindAlias(y), x));
+    }
+    if is(name, n, b"is_ary", 1) {
+        return Line::Ask(Asking::Struct(OfStruct::IsAry, x));
+    }
+    if is(name, n, b"offset", 2) {
+        return Line::Ask(Asking::Struct(OfStruct::Offset(y), x));
+    }
+    if is(name, n, b"ary_base", 1) {
+        return Line::Ask(Asking::Struct(OfStruct::AryBase, x));
+    }
+    if is(name, n, b"ary_scale", 1) {
+        return Line::Ask(Asking::Struct(OfStruct::AryScale, x));
+    }
+    fillings(name, a)
+}
+
+// What fills an output. One that is longer than the program's is no call.
+fn fillings(name: &[u8], a: &[u64]) -> Line {
+    let n = a.len();
+    let x = arg(a, 0);
+    let y = arg(a, 1);
+    if y > MOST_OUTPUT {
+        return Line::Other;
+    }
+    if is(name, n, b"fields", 2) {
+        return Line::Fill(Filling::Fields, x, y as usize);
+    }
+    if is(name, n, b"offsets", 2) {
+        return Line::Fill(Filling::Offsets, x, y as usize);
+    }
     Line::Other
 }
 
@@ -148,11 +269,34 @@ fn list_from(name: &[u8], a: &[u64]) -> usize
     0
 }
 
+// How many words of the output a line wants, at most as many as there are.
+fn wanted(line: Line, room: usize) -> usize
+    ensures { λ r. ⌜ r ≤ room ⌝ }
+{
+    if let Line::Fill(_, _, k) = line {
+        if k <= room {
+            return k;
+        }
+    }
+    0
+}
+
+// An answer, or an output of n words with a count.
+fn filled(answer: Answer, n: usize) -> Reply {
+    if let Answer::Number(k) = answer {
+        return Reply::Output(k, n);
+    }
+    told(answer)
+}
+
 // Makes a call, which tests row 1 first.
-fn on_plain(line: Line, words: &mut [u64], list: &[u64], text: &[u8]) -> Reply {
+fn on_plain(line: Line, words: &mut [u64], list: &[u64], text: &[u8], output: &mut [u64]) -> Reply {
     match line {
         Line::Append(making) => made(plain::append(words, making, list, text)),
         Line::Ask(asking) => told(plain::ask(words, asking)),
+        Line::Fill(filling, s, _) => {
+            filled(plain::fill(words, filling, s, output), output.len())
+        }
         Line::Other => Reply::Malformed,
     }
 }
@@ -165,6 +309,7 @@ fn on_opened(
     memory: &mut [u64],
     list: &[u64],
     text: &[u8],
+    output: &mut [u64],
 ) -> Reply
     requires { ⌜ OpenStore (now words) (now index) (now memory) ⌝ }
     ensures { λ _. ⌜ OpenStore (now (words .exit)) (now (index .exit)) (now (memory .exit)) ⌝ }
@@ -172,11 +317,36 @@ fn on_opened(
     match line {
         Line::Append(making) => made(opened::append(words, index, memory, making, list, text)),
         Line::Ask(asking) => told(opened::ask(words, index, memory, asking)),
+        Line::Fill(filling, s, _) => {
+            let answer = opened::fill(words, index, memory, filling, s, output);
+            filled(answer, output.len())
+        }
         Line::Other => Reply::Malformed,
     }
 }
 
-// Makes the call that a line names: on an opened store with its index and its memory, else the plain way.
+// Makes a call on an opened store with its index and its memory, else the plain way. The output holds the same in every word before.
+fn answer(
+    line: Line,
+    list: &[u64],
+    text: &[u8],
+    words: &mut [u64],
+    index: &mut [u64],
+    memory: &mut [u64],
+    opened: bool,
+    output: &mut [u64],
+) -> Reply
+    requires { ⌜ OpenIf opened (now words) (now index) (now memory) ⌝ }
+    ensures { λ _. ⌜ OpenIf opened (now (words .exit)) (now (index .exit)) (now (memory .exit)) ⌝ }
+{
+    replies::fill(output, BLANK);
+    if opened {
+        return on_opened(line, words, index, memory, list, text, output);
+    }
+    on_plain(line, words, list, text, output)
+}
+
+// Makes the call that a line names. Where it fills an output, that is the first words of the lent one.
 pub fn reply(
     name: &[u8],
     a: &[u64],
@@ -185,14 +355,22 @@ pub fn reply(
     index: &mut [u64],
     memory: &mut [u64],
     opened: bool,
+    output: &mut [u64],
 ) -> Reply
     requires { ⌜ OpenIf opened (now words) (now index) (now memory) ⌝ }
     ensures { λ _. ⌜ OpenIf opened (now (words .exit)) (now (index .exit)) (now (memory .exit)) ⌝ }
 {
     let line = line_of(name, a);
     let from = list_from(name, a);
-    if opened {
-        return on_opened(line, words, index, memory, &a[from..], text);
-    }
-    on_plain(line, words, &a[from..], text)
+    let k = wanted(line, output.len());
+    answer(
+        line,
+        &a[from..],
+        text,
+        words,
+        index,
+        memory,
+        opened,
+        &mut output[..k],
+    )
 }

@@ -5,7 +5,7 @@ ghost use lib.ListN.{length};
 ghost use Rattle.calls.specs.Kept.{Kept};
 use libc::STDIN_FILENO;
 
-// The room that the program has: bytes of a line, and of answers that are not written yet; words of a list, and of its index (opened/specs/OpenStore.antt) and memory where it is open; numbers of a line, and bytes of a text.
+// The room that the program has: bytes of a line, and of answers that are not written yet; words of a list, and of its index (opened/specs/OpenStore.antt) and memory where it is open; numbers of a line, bytes of a text, and words of the output that a call may fill.
 pub const LINE: usize = 262144;
 
 pub const OUT: usize = 65536;
@@ -19,6 +19,8 @@ pub const MEMORY: usize = 98304;
 pub const NUMBERS: usize = 131072;
 
 pub const TEXT: usize = 131072;
+
+pub const OUTPUT: usize = 4096;
 
 // What is kept from line to line.
 pub struct State {
@@ -46,6 +48,7 @@ pub fn script(
     memory: &mut [u64],
     numbers: &mut [u64; NUMBERS],
     text: &mut [u8; TEXT],
+    output: &mut [u64; OUTPUT],
 ) {
     let mut state = State {
         len: 0,
@@ -57,7 +60,17 @@ pub fn script(
     };
     let mut turns = u64::MAX;
     while 0 < turns {
-        state = turn(input, out, words, index, memory, numbers, text, state);
+        state = turn(
+            input,
+            out,
+            words,
+            index,
+            memory,
+            numbers,
+            text,
+            output,
+            state,
+        );
         if state.ended {
             return;
         }
@@ -74,6 +87,7 @@ fn turn(
     memory: &mut [u64],
     numbers: &mut [u64; NUMBERS],
     text: &mut [u8; TEXT],
+    output: &mut [u64; OUTPUT],
     state: State,
 ) -> State
     requires { ⌜ Kept state (now words) (now index) (now memory) (length (now out)) × (state .at ≤ length (now input)) ⌝ }
@@ -89,6 +103,7 @@ fn turn(
         memory,
         numbers,
         text,
+        output,
         state,
     );
     if end == waiting {
@@ -100,6 +115,7 @@ fn turn(
             memory,
             numbers,
             text,
+            output,
             after,
         );
     }
@@ -125,6 +141,7 @@ fn lines(
     memory: &mut [u64],
     numbers: &mut [u64; NUMBERS],
     text: &mut [u8; TEXT],
+    output: &mut [u64; OUTPUT],
     state: State,
 ) -> State
     requires { ⌜ Kept state (now words) (now index) (now memory) (length (now out)) ⌝ }
@@ -139,7 +156,17 @@ fn lines(
             return s;
         }
         let next = end + 1;
-        s = one(&input[at..end], out, words, index, memory, numbers, text, s);
+        s = one(
+            &input[at..end],
+            out,
+            words,
+            index,
+            memory,
+            numbers,
+            text,
+            output,
+            s,
+        );
         s.at = next;
         at = next;
     }
@@ -190,6 +217,7 @@ fn one(
     memory: &mut [u64],
     numbers: &mut [u64; NUMBERS],
     text: &mut [u8; TEXT],
+    output: &mut [u64; OUTPUT],
     state: State,
 ) -> State
     requires { ⌜ Kept state (now words) (now index) (now memory) (length (now out)) ⌝ }
@@ -205,10 +233,11 @@ fn one(
         state.opened,
         numbers,
         text,
+        output,
     );
     let len = outcome.len;
     let reply = outcome.reply;
-    let used = output::put(out, state.used, reply, line, &words[0..len], numbers);
+    let used = output::put(out, state.used, reply, line, &words[0..len], output);
     State {
         len: len,
         opened: outcome.opened,
@@ -228,6 +257,7 @@ fn last(
     memory: &mut [u64],
     numbers: &mut [u64; NUMBERS],
     text: &mut [u8; TEXT],
+    output: &mut [u64; OUTPUT],
     state: State,
 ) -> State
     requires { ⌜ Kept state (now words) (now index) (now memory) (length (now out)) ⌝ }
@@ -244,6 +274,7 @@ fn last(
         memory,
         numbers,
         text,
+        output,
         state,
     );
     output::flush(out, s.used);

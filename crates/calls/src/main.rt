@@ -9,6 +9,7 @@ fn main() {
     let mut memory = [0u64; input::MEMORY];
     let mut numbers = [0u64; input::NUMBERS];
     let mut text = [0u8; input::TEXT];
+    let mut output = [0u64; input::OUTPUT];
     whole(
         &mut line,
         &mut out,
@@ -17,6 +18,7 @@ fn main() {
         &mut memory,
         &mut numbers,
         &mut text,
+        &mut output,
     );
 }
 
@@ -29,6 +31,7 @@ fn whole(
     memory: &mut [u64; input::MEMORY],
     numbers: &mut [u64; input::NUMBERS],
     text: &mut [u8; input::TEXT],
+    output: &mut [u64; input::OUTPUT],
 ) {
-    input::script(line, out, words, index, memory, numbers, text);
+    input::script(line, out, words, index, memory, numbers, text, output);
 }

@@ -40,7 +40,7 @@ use Rattle.meaning.proofs.Meets.{Side, meet-right}
 use Rattle.meaning.proofs.Walks.{Rel, walk-right}
 use Rattle.meaning.proofs.ReadOnly.{ro-above}
 use Rattle.meaning.proofs.Joins.{join-right}
-use Rattle.every_call.specs.Run.{Call, meet, isa, join, dual, glb, lub, make_ro, run, allTyped}
+use Rattle.every_call.specs.Run.{Call, meet, isa, join, dual, glb, lub, make-ro, run, allTyped}
 use Rattle.demand3.specs.Demand3.{reaches, leaves, Gave, finalWords, Isa, Plain, Bracketing, single, pair, Member, AllPlain, SameSet, Laws, Demand3}
 use Rattle.demand3.proofs.Runs.{Store, Later, fresh-store, leaves-store, gave-at}
 use Rattle.demand3.proofs.Accepted.{accepted}
@@ -131,11 +131,11 @@ module _ (cs : List Call) (typed : allTyped cs ≡ true) (ws : List ℕ) (s : St
       one (Rel w) (walkOf w) (λ v a good p. answered (walk-nice w (suc a) .types v a 33 good (part-below (suc a) (omega arith) p)))
       (λ v a store p. walk-right w (suc a) v a store (part-below (suc a) (omega arith) p))
 
-  read-only : (a c : ℕ) → Gave run cs ws (make_ro a) c → One _⊑_ a c
+  read-only : (a c : ℕ) → Gave run cs ws (make-ro a) c → One _⊑_ a c
   read-only a c =
       one _⊑_ makeRoOf (λ v x good p. answered (make-ro-nice (suc x) .types v x 33 good (part-below (suc x) (omega arith) p)))
       (λ v x store p. ro-above (suc x) v x store (part-below (suc x) (omega arith) p))
-      (make_ro a) a c (λ vs. refl)
+      (make-ro a) a c (λ vs. refl)
 
   -- ---- calls on two: meet and join
 

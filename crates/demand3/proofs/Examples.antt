@@ -29,7 +29,7 @@ use Rattle.walk.specs.Walk.{walkEach, followForm, walkWithin}
 use Rattle.finals.specs.Final.{allFinal, isFinalWithin}
 use Rattle.make_ro.specs.ReadOnly.{readOnlyEach, makeRoWithin}
 use Rattle.every_call.specs.Ty.{meetCall}
-use Rattle.every_call.specs.Run.{Call, make_int, get_str, get_struct, make_struct_fref, get_mem, meet, join, dual, glb, lub, make_ro, runWith, run, allTyped}
+use Rattle.every_call.specs.Run.{Call, make-int, get-str, get-struct, make-struct-fref, get-mem, meet, join, dual, glb, lub, make-ro, runWith, run, allTyped}
 use Rattle.demand3.specs.Demand3.{some, reachesWithin, leaves, Gave, Isa, Plain, Bracketing, single, pair, Laws}
 use Rattle.demand3.proofs.Demand3.{demand3}
 
@@ -42,7 +42,7 @@ start = freshCall lent .words
 -- ---- "0..7 meet 8..8 = 0..8": 0..7 is 94, 8..8 is 97, and 0..8 is 100 in both orders
 
 abbrev calls : List Call
-calls = make_int 0 7 ∷ make_int 8 8 ∷ meet 94 97 ∷ meet 97 94 ∷ []
+calls = make-int 0 7 ∷ make-int 8 8 ∷ meet 94 97 ∷ meet 97 94 ∷ []
 
 calls-typed : allTyped calls ≡ true
 unfolding allTyped all
@@ -84,7 +84,7 @@ agree = demand3 lent refl calls calls-typed .meets-agree one other (λ x i. ⊎-
 -- ---- "0..7 join 4..9 = 4..7": 0..7 is 94, 4..9 is 97, and 4..7 is 109 in both orders, behind the two duals and their meet; "dual of 88 = 91"; the lub of 88 is 85, whose glb is 88
 
 abbrev others : List Call
-others = make_int 0 7 ∷ make_int 4 9 ∷ join 94 97 ∷ join 97 94 ∷ dual 88 ∷ dual 91 ∷ lub 88 ∷ glb 85 ∷ []
+others = make-int 0 7 ∷ make-int 4 9 ∷ join 94 97 ∷ join 97 94 ∷ dual 88 ∷ dual 91 ∷ lub 88 ∷ glb 85 ∷ []
 
 others-typed : allTyped others ≡ true
 unfolding allTyped all
@@ -128,13 +128,13 @@ abbrev name : List ℕ
 name = 88 ∷ []
 
 abbrev finals : List Call
-finals = get_str name ∷ get_struct 94 (94 ∷ 9 ∷ 0 ∷ 0 ∷ []) ∷ make_ro 96 ∷ []
+finals = get-str name ∷ get-struct 94 (94 ∷ 9 ∷ 0 ∷ 0 ∷ []) ∷ make-ro 96 ∷ []
 
 finals-typed : allTyped finals ≡ true
 unfolding allTyped all
 finals-typed = refl
 
-pub finals-gave : Gave run finals start (make_ro 96) 101 × Plain run finals start 96
+pub finals-gave : Gave run finals start (make-ro 96) 101 × Plain run finals start 96
 unfolding leaves call wellFormed okEntries okRows okEntry allZero headsAt nowhere also mostOf every namesIn typesIn all deepest floatOk zeroFilled valuesOk fills eqs rows entries sizeOf wordsAfter freshWords freshCall make findIn firstOf isAt typesRows structRows ofBytes packed nameEntry fieldWords makeRoWithin readOnlyEach isFinalWithin allFinal remake fieldsWith some reachesWithin
 finals-gave = (inr (inr (inl (refl, refl))), record { type = refl; memory = refl; forward = refl })
 
@@ -162,7 +162,7 @@ shortcut-fails laws =
 -- ---- memory: Mem (1, Top) is 94, Mem (2, Top) is 97; their meet is 76, which yields, so that its meet with 94 is 94: two handles for the set of 94 and 97
 
 abbrev memories : List Call
-memories = get_mem 1 6 ∷ get_mem 2 6 ∷ meet 94 97 ∷ meet 76 94 ∷ []
+memories = get-mem 1 6 ∷ get-mem 2 6 ∷ meet 94 97 ∷ meet 76 94 ∷ []
 
 pub memory-outside : Gave run memories start (meet 94 97) 76 × Gave run memories start (meet 76 94) 94
 unfolding call wellFormed okEntries okRows okEntry allZero headsAt nowhere also mostOf every namesIn typesIn all deepest floatOk zeroFilled valuesOk fills eqs rows entries sizeOf wordsAfter freshWords freshCall make findIn firstOf isAt typesRows partRows meetWithin follow ruleFor pairRule
@@ -171,7 +171,7 @@ memory-outside = (inr (inr (inl (refl, refl))), inr (inr (inr (inl (refl, refl))
 -- ---- forward references: the name X is 94, its forward reference 96, the struct X without fields 98; each of the two is its own dual, 96 isa 98, and 98 is not isa 96
 
 abbrev forwards : List Call
-forwards = get_str name ∷ make_struct_fref 94 ∷ get_struct 94 [] ∷ dual 96 ∷ dual 98 ∷ []
+forwards = get-str name ∷ make-struct-fref 94 ∷ get-struct 94 [] ∷ dual 96 ∷ dual 98 ∷ []
 
 pub forward-outside : Gave run forwards start (dual 96) 96 × Gave run forwards start (dual 98) 98 × Isa run forwards start 96 98 × (Isa run forwards start 98 96 → ⊥)
 unfolding leaves call ask wellFormed okEntries okRows okEntry allZero headsAt nowhere also mostOf every namesIn typesIn all deepest floatOk zeroFilled valuesOk fills eqs rows entries sizeOf wordsAfter freshWords freshCall make findIn firstOf isAt typesRows frefRows structRows ofBytes packed nameEntry fieldWords meetWithin follow ruleFor pairRule meetStruct followStruct structRule namedRule sameWords walkWithin followForm walkEach formFor walkFields finalsOf remake fieldsWith
@@ -180,7 +180,7 @@ forward-outside = (inr (inr (inr (inl (refl, refl)))), inr (inr (inr (inr (inl (
 -- ---- the third type of a join: the forward reference X, 96, isa the structs X without fields, 98, and with one, 100, and is not isa their join, $TOP
 
 abbrev thirds : List Call
-thirds = get_str name ∷ make_struct_fref 94 ∷ get_struct 94 [] ∷ get_struct 94 (94 ∷ 25 ∷ 0 ∷ 0 ∷ []) ∷ join 98 100 ∷ []
+thirds = get-str name ∷ make-struct-fref 94 ∷ get-struct 94 [] ∷ get-struct 94 (94 ∷ 25 ∷ 0 ∷ 0 ∷ []) ∷ join 98 100 ∷ []
 
 pub third-outside : Gave run thirds start (join 98 100) 18 × Isa run thirds start 96 98 × Isa run thirds start 96 100 × (Isa run thirds start 96 18 → ⊥)
 unfolding leaves call ask wellFormed okEntries okRows okEntry allZero headsAt nowhere also mostOf every namesIn typesIn all deepest floatOk zeroFilled valuesOk fills eqs rows entries sizeOf wordsAfter freshWords freshCall make findIn firstOf isAt typesRows frefRows structRows ofBytes packed nameEntry fieldWords meetWithin follow ruleFor pairRule meetStruct followStruct structRule namedRule sameWords walkWithin followForm walkEach formFor walkFields finalsOf remake fieldsWith

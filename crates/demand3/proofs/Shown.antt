@@ -27,7 +27,7 @@ use Rattle.walk_rules.specs.Tables.{formFor}
 use Rattle.walk.specs.Walk.{followForm, walkWithin}
 use Rattle.finals.specs.Final.{allFinal, isFinalWithin}
 use Rattle.make_ro.specs.ReadOnly.{readOnlyEach, makeRoWithin}
-use Rattle.every_call.specs.Run.{Call, make_int, get_str, get_struct, meet, isa, join, dual, glb, lub, make_ro, run, allTyped}
+use Rattle.every_call.specs.Run.{Call, make-int, get-str, get-struct, meet, isa, join, dual, glb, lub, make-ro, run, allTyped}
 use Rattle.demand3.specs.Demand3.{some, reachesWithin, reaches, leaves, Gave, Isa, Plain, Bracketing, single, pair, AllPlain, SameSet, Laws}
 use Rattle.demand3.proofs.Demand3.{demand3}
 
@@ -42,7 +42,7 @@ start = freshCall lent .words
 -- a is 94, b is 97, c is 100
 abbrev calls : List Call
 calls =
-    make_int 0 9 ∷ make_int 1 12 ∷ make_int 2 20 ∷
+    make-int 0 9 ∷ make-int 1 12 ∷ make-int 2 20 ∷
     -- the meets (a ∧ b) ∧ c, then c ∧ (b ∧ (a ∧ a)), then a ∧ (b ∧ c)
     meet 94 97 ∷ meet 103 100 ∷
     meet 94 94 ∷ meet 97 94 ∷ meet 100 103 ∷
@@ -54,7 +54,7 @@ calls =
     -- the duals of a, of that dual and of 0..20; lub and glb of a
     dual 94 ∷ dual 112 ∷ dual 106 ∷ lub 94 ∷ glb 94 ∷
     -- the name X, the struct X with one field of type a that is not final, and its read-only form
-    get_str (88 ∷ []) ∷ get_struct 142 (142 ∷ 94 ∷ 0 ∷ 0 ∷ []) ∷ make_ro 144 ∷ []
+    get-str (88 ∷ []) ∷ get-struct 142 (142 ∷ 94 ∷ 0 ∷ 0 ∷ []) ∷ make-ro 144 ∷ []
 
 -- call by call
 abbrev given : List Reply
@@ -120,7 +120,7 @@ pub joined : Gave run calls start (join 94 97) 121 × Gave run calls start (join
 joined = (gave 10 (refl, refl), gave 11 (refl, refl), gave 12 (refl, refl), gave 13 (refl, refl), gave 14 (refl, refl), gave 15 (refl, refl), gave 16 (refl, refl))
 
 pub others : Gave run calls start (dual 94) 112 × Gave run calls start (dual 112) 94 × Gave run calls start (dual 106) 139
-    × Gave run calls start (lub 94) 22 × Gave run calls start (glb 94) 25 × Gave run calls start (make_ro 144) 149
+    × Gave run calls start (lub 94) 22 × Gave run calls start (glb 94) 25 × Gave run calls start (make-ro 144) 149
 others = (gave 17 (refl, refl), gave 18 (refl, refl), gave 19 (refl, refl), gave 20 (refl, refl), gave 21 (refl, refl), gave 24 (refl, refl))
 
 plain-in : (h : ℕ) → typesRows (h ∷ []) (usedWords store) ≡ 0 → reaches (usedWords store) Mem h ≡ false → reaches (usedWords store) Fref h ≡ false → Plain run calls start h

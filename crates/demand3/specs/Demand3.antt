@@ -17,7 +17,7 @@ use Rattle.call.specs.Call.{Outcome, handle, flag}
 use Rattle.call.specs.Handles.{typesRows}
 use Rattle.words.specs.Columns.{word, kindOn}
 use Rattle.makers.specs.Makers.{freshCall}
-use Rattle.every_call.specs.Run.{Call, meet, isa, join, dual, glb, lub, make_ro, run, allTyped}
+use Rattle.every_call.specs.Run.{Call, meet, isa, join, dual, glb, lub, make-ro, run, allTyped}
 
 -- ---- reaching: "A type reaches its own kind and all that its parts reach". `u` is the used words.
 
@@ -108,7 +108,7 @@ module _ (does : Call → List ℕ → Outcome) where
       -- lub isa t, t isa glb, t isa its read-only form
       pub lub-below : (t h : ℕ) → Plain t → Gave cs ws (lub t) h → Isa h t
       pub glb-above : (t h : ℕ) → Plain t → Gave cs ws (glb t) h → Isa t h
-      pub read-only-above : (t h : ℕ) → Plain t → Gave cs ws (make_ro t) h → Isa t h
+      pub read-only-above : (t h : ℕ) → Plain t → Gave cs ws (make-ro t) h → Isa t h
 
 -- demand 3: "The list starts from a fresh store of any length row 1 allows". ws is the lent list that `fresh` fills, cs the calls, "with any arguments": the ends of an Int are 64-bit
 -- words and a text is bytes, all else is any numbers at all.

@@ -1,5 +1,5 @@
 -- The list as a part of the words: it is lent, and comes back.
-use mathlib.Core.Path.{_≡_, sym, _∙_}
+use mathlib.Core.Path.{_≡_, _∙_}
 use mathlib.Core.Bool.{Bool}
 use mathlib.Core.List.{List, _++_}
 use Prim.Native.Nat.{ℕ, _≤_}
@@ -11,10 +11,6 @@ use Rattle.call.specs.declared.Done.the-variants.{Accepted}
 use Rattle.opened.specs.OpenStore.{OpenStore, Opening}
 use Rattle.call_lines.specs.OpenIf.{OpenIf}
 use Rattle.dispatch.specs.Held.{Held}
-
--- the list has as many words as its length says
-pub as-long : (ws : List ℕ) (n : ℕ) → n ≤ length ws → n ≡ length (take n ws)
-as-long ws n h = sym (length-take-le n ws h)
 
 -- what a call left of it, with the words behind it
 pub given-back : {flag : Bool} {index memory : List ℕ} (ws d : List ℕ) (n : ℕ) → n ≤ length ws → length d ≡ length (take n ws) → OpenIf flag d index memory → Held n flag (d ++ drop n ws) index memory

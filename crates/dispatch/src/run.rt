@@ -1,5 +1,5 @@
 // One line of a script: its words are read, and the call that it names is made. A call is lent the list, which is the first `len` words, and where that is an opened store, its
-// index and its memory.
+// index and its memory. A call that fills an output is lent one beside them.
 ghost use Prim.Native.Nat.{_≤_};
 ghost use lib.ListN.{length};
 ghost use Rattle.dispatch.specs.Held.{Held};
@@ -26,6 +26,7 @@ pub fn line(
     opened: bool,
     numbers: &mut [u64],
     text: &mut [u8],
+    output: &mut [u64],
 ) -> Outcome
     requires { ⌜ Held len opened (now words) (now index) (now memory) ⌝ }
     ensures { λ r. ⌜ Held (r .len) (r .opened) (now (words .exit)) (now (index .exit)) (now (memory .exit)) ⌝ }
@@ -47,6 +48,7 @@ pub fn line(
         opened,
         numbers,
         text,
+        output,
     )
 }
 
@@ -60,6 +62,7 @@ fn spoken(
     opened: bool,
     numbers: &mut [u64],
     text: &mut [u8],
+    output: &mut [u64],
 ) -> Outcome
     requires { ⌜ Held len opened (now words) (now index) (now memory) ⌝ }
     ensures { λ r. ⌜ Held (r .len) (r .opened) (now (words .exit)) (now (index .exit)) (now (memory .exit)) ⌝ }
@@ -79,9 +82,20 @@ fn spoken(
                 opened,
                 numbers,
                 text,
+                output,
             )
         }
-        Shape::Numbers => with_numbers(line, stop, words, len, index, memory, opened, numbers),
+        Shape::Numbers => with_numbers(
+            line,
+            stop,
+            words,
+            len,
+            index,
+            memory,
+            opened,
+            numbers,
+            output,
+        ),
     }
 }
 
@@ -95,6 +109,7 @@ fn with_numbers(
     memory: &mut [u64],
     opened: bool,
     numbers: &mut [u64],
+    output: &mut [u64],
 ) -> Outcome
     requires { ⌜ stop ≤ length (now line) ⌝ }
     requires { ⌜ Held len opened (now words) (now index) (now memory) ⌝ }
@@ -111,6 +126,7 @@ fn with_numbers(
                 index,
                 memory,
                 opened,
+                output,
             )
         }
         Count::Bad => Outcome {
@@ -133,6 +149,7 @@ fn with_text(
     opened: bool,
     numbers: &mut [u64],
     text: &mut [u8],
+    output: &mut [u64],
 ) -> Outcome
     requires { ⌜ stop ≤ length (now line) ⌝ }
     requires { ⌜ Held len opened (now words) (now index) (now memory) ⌝ }
@@ -152,6 +169,7 @@ fn with_text(
                 index,
                 memory,
                 opened,
+                output,
             );
         }
     }
@@ -171,6 +189,7 @@ fn ordered(
     index: &mut [u64],
     memory: &mut [u64],
     opened: bool,
+    output: &mut [u64],
 ) -> Outcome
     requires { ⌜ Held len opened (now words) (now index) (now memory) ⌝ }
     ensures { λ r. ⌜ Held (r .len) (r .opened) (now (words .exit)) (now (index .exit)) (now (memory .exit)) ⌝ }
@@ -195,7 +214,7 @@ fn ordered(
             }
         }
         Order::Open => open_list(words, len, index, memory),
-        Order::Call => call(name, a, b"", words, len, index, memory, opened),
+        Order::Call => call(name, a, b"", words, len, index, memory, opened, output),
     }
 }
 
@@ -229,11 +248,21 @@ fn call(
     index: &mut [u64],
     memory: &mut [u64],
     opened: bool,
+    output: &mut [u64],
 ) -> Outcome
     requires { ⌜ Held len opened (now words) (now index) (now memory) ⌝ }
     ensures { λ r. ⌜ Held (r .len) (r .opened) (now (words .exit)) (now (index .exit)) (now (memory .exit)) ⌝ }
 {
-    let reply = call_lines::reply(name, a, text, &mut words[..len], index, memory, opened);
+    let reply = call_lines::reply(
+        name,
+        a,
+        text,
+        &mut words[..len],
+        index,
+        memory,
+        opened,
+        output,
+    );
     Outcome {
         len: len,
         opened: opened,

@@ -7,10 +7,32 @@ use lib.ListN.{length, take, length-append}
 use lib.Seq.{length-take-le}
 use Rattle.words.specs.Ran.{Segments}
 use Rattle.call.specs.Handles.{typesRows}
-use Rattle.parts.specs.Parts.{Part, Ready, ReadyOne}
-use Rattle.parts.proofs.Good.{good-long, part-weak}
+use Rattle.wellformed.specs.Form.{usedWords}
+use Rattle.wellformed.proofs.Before.{tests}
+use Rattle.call.proofs.Ways.{Begun}
+use Rattle.parts.specs.Parts.{Good, Part, Ready, ReadyOne}
+use Rattle.parts.proofs.Good.{good-long, part-weak, well-good}
 use Rattle.every_call.specs.Cleared.{Cleared}
 use Rattle.every_call.proofs.Parts.{one-part, two-parts}
+
+-- ---- a store that row 1 has passed
+
+module _ (rows : List ℕ → ℕ) (ws : List ℕ) (used : ℕ) (begun : Begun ws used) (q : rows (take used ws) ≡ 0) where
+  good : Good (take used ws)
+  good = let e : usedWords ws ≡ take used ws = rw (begun .is) in rw e at (well-good ws (begun .ok))
+
+  -- the whole store is lent to be written
+  pub whole : Cleared rows [] ws used
+  whole = record {
+    over = omega arith;
+    within = omega (arith, begun .within);
+    small = omega (arith, tests ws (begun .ok) .most);
+    cut = begun .segments .cut;
+    good = good;
+    passed = q;
+  }
+
+-- ---- what the operations require
 
 module _ {old new : List ℕ} {used : ℕ} where
   long : {rows : List ℕ → ℕ} → Cleared rows old new used → length (take used (old ++ new)) ≡ used

@@ -31,8 +31,9 @@ use Rattle.finals.specs.Final.{isFinalOf}
 use Rattle.make_ro.specs.ReadOnly.{makeRoOf}
 use Rattle.make_ro.proofs.Nice.{make-ro-nice}
 use Rattle.every_call.specs.Ty.{meetCall, isaCall, walkCall, joinCall, isFinalCall, makeRoCall}
-use Rattle.every_call.specs.Run.{Call, kind, get_bool, get_int, make_int, get_float, make_float, get_tuple, get_str, get_struct, make_ary, make_struct_fref, get_mem_ptr, get_mem, meet, isa, join, dual, glb, lub, is_final, make_ro, run, typed}
+use Rattle.every_call.specs.Run.{Call, kind, get-bool, get-int, make-int, get-float, make-float, get-tuple, get-str, get-struct, make-ary, make-struct-fref, get-mem-ptr, get-mem, meet, isa, join, dual, glb, lub, is-final, make-ro, make-init, make-zero, non-zero, is-high, is-high-or-constant, is-constant, is-fref, log-size, int-min, int-max, int-value, int-mask, float-sz, float-is-f32, float-value, float-reading, struct-name, struct-fields, find, find-alias, is-ary, offset, offsets, ary-base, ary-scale, run, typed}
 use Rattle.every_call.proofs.Parts.{one-part, two-parts}
+use Rattle.every_call.proofs.NonZero.{non-zero-keeps}
 
 -- the meet of two types of good used words adds entries, and its answer is a type at most 32 deep, new where anything was added
 pub meet-answers : (u : List ℕ) (a b : ℕ) → Good u → typesRows (a ∷ b ∷ []) u ≡ 0 → Answers u 33 1 11 (meetOf u a b)
@@ -81,23 +82,48 @@ each-small (b ∷ bs) e (suc i) = each-small bs (and-right (ltb b 256) (all (λ 
 
 pub run-keeps : (c : Call) → typed c ≡ true → (ws : List ℕ) → wellFormed ws ≡ true → Keeps ws (run c ws)
 run-keeps (kind h) k = ask-keeps _ _
-run-keeps (get_bool value) k = ask-keeps _ _
-run-keeps (get_int value) k = int-keeps value value (word-small value k) (word-small value k)
-run-keeps (make_int min max) k = int-keeps min max (word-small min (and-left (ltb min (2 ^ 64)) (ltb max (2 ^ 64)) k)) (word-small max (and-right (ltb min (2 ^ 64)) (ltb max (2 ^ 64)) k))
-run-keeps (get_float bits) k = float-keeps 0 bits
-run-keeps (make_float sz bits) k = float-keeps sz bits
-run-keeps (get_tuple types) k = tuple-keeps types
-run-keeps (get_str name) k = str-keeps name (each-small name k)
-run-keeps (get_struct name fs) k = struct-keeps name fs
-run-keeps (make_ary len lenAlias body bodyAlias text) k = ary-keeps len lenAlias body bodyAlias text (each-small text k)
-run-keeps (make_struct_fref name) k = fref-keeps name
-run-keeps (get_mem_ptr to nil) k = pointer-keeps to nil
-run-keeps (get_mem alias t) k = memory-keeps alias t
+run-keeps (get-bool value) k = ask-keeps _ _
+run-keeps (get-int value) k = int-keeps value value (word-small value k) (word-small value k)
+run-keeps (make-int min max) k = int-keeps min max (word-small min (and-left (ltb min (2 ^ 64)) (ltb max (2 ^ 64)) k)) (word-small max (and-right (ltb min (2 ^ 64)) (ltb max (2 ^ 64)) k))
+run-keeps (get-float bits) k = float-keeps 0 bits
+run-keeps (make-float sz bits) k = float-keeps sz bits
+run-keeps (get-tuple types) k = tuple-keeps types
+run-keeps (get-str name) k = str-keeps name (each-small name k)
+run-keeps (get-struct name fs) k = struct-keeps name fs
+run-keeps (make-ary len lenAlias body bodyAlias text) k = ary-keeps len lenAlias body bodyAlias text (each-small text k)
+run-keeps (make-struct-fref name) k = fref-keeps name
+run-keeps (get-mem-ptr to nil) k = pointer-keeps to nil
+run-keeps (get-mem alias t) k = memory-keeps alias t
 run-keeps (meet a b) k = meet-keeps _ _
 run-keeps (isa a b) k = isa-keeps a b
 run-keeps (join a b) k = join-keeps a b
 run-keeps (dual a) k = walk-keeps Dual a
 run-keeps (glb a) k = walk-keeps Glb a
 run-keeps (lub a) k = walk-keeps Lub a
-run-keeps (is_final a) k = is-final-keeps a
-run-keeps (make_ro a) k = make-ro-keeps a
+run-keeps (is-final a) k = is-final-keeps a
+run-keeps (make-ro a) k = make-ro-keeps a
+run-keeps (make-init a) k = ask-keeps _ _
+run-keeps (make-zero a) k = ask-keeps _ _
+run-keeps (non-zero a) k = non-zero-keeps a
+run-keeps (is-high a) k = ask-keeps _ _
+run-keeps (is-high-or-constant a) k = ask-keeps _ _
+run-keeps (is-constant a) k = ask-keeps _ _
+run-keeps (is-fref a) k = ask-keeps _ _
+run-keeps (log-size a) k = ask-keeps _ _
+run-keeps (int-min a) k = ask-keeps _ _
+run-keeps (int-max a) k = ask-keeps _ _
+run-keeps (int-value a) k = ask-keeps _ _
+run-keeps (int-mask a) k = ask-keeps _ _
+run-keeps (float-sz a) k = ask-keeps _ _
+run-keeps (float-is-f32 a) k = ask-keeps _ _
+run-keeps (float-value a) k = ask-keeps _ _
+run-keeps (float-reading a) k = ask-keeps _ _
+run-keeps (struct-name s) k = ask-keeps _ _
+run-keeps (struct-fields s n) k = ask-keeps _ _
+run-keeps (find s name) k = ask-keeps _ _
+run-keeps (find-alias s alias) k = ask-keeps _ _
+run-keeps (is-ary s) k = ask-keeps _ _
+run-keeps (offset s i) k = ask-keeps _ _
+run-keeps (offsets s n) k = ask-keeps _ _
+run-keeps (ary-base s) k = ask-keeps _ _
+run-keeps (ary-scale s) k = ask-keeps _ _

@@ -1,3 +1,5 @@
 pub mod Parts
 pub mod Keeps
 pub mod Cleared
+pub mod NonZero
+pub mod Examples

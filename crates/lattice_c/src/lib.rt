@@ -1,16 +1,22 @@
-// The calls for C and Rust: a static library. A slice is a pointer and a length there. The answer is one word: a handle, a number, 1 or 0 for yes or no, 0 for accepted, or
-// refusal n as 2 to the 63 + n. The contracts here speak of slices as Rattle lends them; of a caller in C or Rust that is a promise which no call tests: each pointer is valid and aligned for its length and stays so during the call, and a
-// list that is written overlaps no other list of the call.
+// The calls for C and Rust: a static library. A slice is a pointer and a length there, a lent word a pointer to it. A function returns 0, or the number of a refusal; its
+// answer goes to the lent word `answer`: a handle, a number, or 1 or 0 for yes or no. On a refusal that word keeps. The contracts here speak of slices and words as Rattle lends them; of a caller in C or Rust that is a promise which no call tests:
+// each pointer is valid and aligned for its length and stays so during the call, and what is written overlaps nothing else that the call is lent.
 use asking::Asking;
 use making::Making;
+use of_types::OfType;
+use of_values::OfFloat;
+use of_values::OfInt;
+use struct_calls::Filling;
+use struct_calls::OfStruct;
 use walk_rules::Walk;
 ghost use mathlib.Core.Path.{_≡_};
 ghost use lib.ListN.{length};
 ghost use Rattle.wellformed.specs.Form.{wellFormed};
 ghost use Rattle.makers.specs.Makers.{freshCall};
-ghost use Rattle.every_call.specs.Run.{run, kind, get_bool, get_int, make_int, get_float, make_float, get_tuple, get_str, get_struct, make_ary, make_struct_fref, get_mem_ptr, get_mem, meet, isa, dual, join, glb, lub, is_final, make_ro};
+ghost use Rattle.every_call.specs.Others.{structFieldsOutput, offsetsOutput};
+ghost use Rattle.every_call.specs.Run.{run, kind, get-bool, get-int, make-int, get-float, make-float, get-tuple, get-str, get-struct, make-ary, make-struct-fref, get-mem-ptr, get-mem, meet, isa, dual, join, glb, lub, is-final, make-ro, make-init, make-zero, non-zero, is-high, is-high-or-constant, is-constant, is-fref, log-size, int-min, int-max, int-value, int-mask, float-sz, float-is-f32, float-value, float-reading, struct-name, struct-fields, find, find-alias, is-ary, offset, offsets, ary-base, ary-scale};
 ghost use Rattle.opened.specs.OpenStore.{OpenStore, openReply};
-ghost use Rattle.codes.specs.Code.{code, Coded, CodedOpening};
+ghost use Rattle.codes.specs.Code.{status, CodedDone, Coded, CodedWhich, CodedOpening};
 
 #[no_mangle]
 pub extern "C" fn ferigulan_well_formed(words: &[u64]) -> bool
@@ -20,73 +26,83 @@ pub extern "C" fn ferigulan_well_formed(words: &[u64]) -> bool
 }
 
 #[no_mangle]
-pub extern "C" fn ferigulan_fresh(words: &mut [u64]) -> u64
-    ensures { λ r. ⌜ Coded (freshCall (now (words .entry))) r (now (words .exit)) ⌝ }
+pub extern "C" fn ferigulan_fresh(words: &mut [u64]) -> u32
+    ensures { λ r. ⌜ CodedDone (freshCall (now (words .entry))) r (now (words .exit)) ⌝ }
 {
     codes::fresh(words)
 }
 
 #[no_mangle]
-pub extern "C" fn ferigulan_kind(words: &[u64], h: u64) -> u64
-    ensures { λ r. ⌜ Coded (run (kind h) (now (words .entry))) r (now (words .entry)) ⌝ }
+pub extern "C" fn ferigulan_kind(words: &[u64], h: u64, answer: &mut u64) -> u32
+    ensures { λ r. ⌜ Coded (run (kind h) (now (words .entry))) r (now (words .entry)) (now (answer .entry)) (now (answer .exit)) ⌝ }
 {
-    codes::ask(&*words, Asking::Kind(h))
+    codes::ask(&*words, Asking::Kind(h), answer)
 }
 
 #[no_mangle]
-pub extern "C" fn ferigulan_get_bool(words: &[u64], value: u64) -> u64
-    ensures { λ r. ⌜ Coded (run (get_bool value) (now (words .entry))) r (now (words .entry)) ⌝ }
+pub extern "C" fn ferigulan_get_bool(words: &[u64], value: u64, answer: &mut u64) -> u32
+    ensures { λ r. ⌜ Coded (run (get-bool value) (now (words .entry))) r (now (words .entry)) (now (answer .entry)) (now (answer .exit)) ⌝ }
 {
-    codes::ask(&*words, Asking::GetBool(value))
+    codes::ask(&*words, Asking::GetBool(value), answer)
 }
 
 #[no_mangle]
-pub extern "C" fn ferigulan_get_int(words: &mut [u64], value: u64) -> u64
-    ensures { λ r. ⌜ Coded (run (get_int value) (now (words .entry))) r (now (words .exit)) ⌝ }
+pub extern "C" fn ferigulan_get_int(words: &mut [u64], value: u64, answer: &mut u64) -> u32
+    ensures { λ r. ⌜ Coded (run (get-int value) (now (words .entry))) r (now (words .exit)) (now (answer .entry)) (now (answer .exit)) ⌝ }
 {
-    codes::make(words, Making::MakeInt(value, value))
+    codes::make(words, Making::MakeInt(value, value), answer)
 }
 
 #[no_mangle]
-pub extern "C" fn ferigulan_make_int(words: &mut [u64], min: u64, max: u64) -> u64
-    ensures { λ r. ⌜ Coded (run (make_int min max) (now (words .entry))) r (now (words .exit)) ⌝ }
+pub extern "C" fn ferigulan_make_int(words: &mut [u64], min: u64, max: u64, answer: &mut u64) -> u32
+    ensures { λ r. ⌜ Coded (run (make-int min max) (now (words .entry))) r (now (words .exit)) (now (answer .entry)) (now (answer .exit)) ⌝ }
 {
-    codes::make(words, Making::MakeInt(min, max))
+    codes::make(words, Making::MakeInt(min, max), answer)
 }
 
 #[no_mangle]
-pub extern "C" fn ferigulan_get_float(words: &mut [u64], bits: u64) -> u64
-    ensures { λ r. ⌜ Coded (run (get_float bits) (now (words .entry))) r (now (words .exit)) ⌝ }
+pub extern "C" fn ferigulan_get_float(words: &mut [u64], bits: u64, answer: &mut u64) -> u32
+    ensures { λ r. ⌜ Coded (run (get-float bits) (now (words .entry))) r (now (words .exit)) (now (answer .entry)) (now (answer .exit)) ⌝ }
 {
-    codes::make(words, Making::MakeFloat(0, bits))
+    codes::make(words, Making::MakeFloat(0, bits), answer)
 }
 
 #[no_mangle]
-pub extern "C" fn ferigulan_make_float(words: &mut [u64], sz: u64, bits: u64) -> u64
-    ensures { λ r. ⌜ Coded (run (make_float sz bits) (now (words .entry))) r (now (words .exit)) ⌝ }
+pub extern "C" fn ferigulan_make_float(
+    words: &mut [u64],
+    sz: u64,
+    bits: u64,
+    answer: &mut u64,
+) -> u32
+    ensures { λ r. ⌜ Coded (run (make-float sz bits) (now (words .entry))) r (now (words .exit)) (now (answer .entry)) (now (answer .exit)) ⌝ }
 {
-    codes::make(words, Making::MakeFloat(sz, bits))
+    codes::make(words, Making::MakeFloat(sz, bits), answer)
 }
 
 #[no_mangle]
-pub extern "C" fn ferigulan_get_tuple(words: &mut [u64], types: &[u64]) -> u64
-    ensures { λ r. ⌜ Coded (run (get_tuple (now (types .entry))) (now (words .entry))) r (now (words .exit)) ⌝ }
+pub extern "C" fn ferigulan_get_tuple(words: &mut [u64], types: &[u64], answer: &mut u64) -> u32
+    ensures { λ r. ⌜ Coded (run (get-tuple (now (types .entry))) (now (words .entry))) r (now (words .exit)) (now (answer .entry)) (now (answer .exit)) ⌝ }
 {
-    codes::append(words, Making::GetTuple, &*types, b"")
+    codes::append(words, Making::GetTuple, &*types, b"", answer)
 }
 
 #[no_mangle]
-pub extern "C" fn ferigulan_get_str(words: &mut [u64], name: &[u8]) -> u64
-    ensures { λ r. ⌜ Coded (run (get_str (now (name .entry))) (now (words .entry))) r (now (words .exit)) ⌝ }
+pub extern "C" fn ferigulan_get_str(words: &mut [u64], name: &[u8], answer: &mut u64) -> u32
+    ensures { λ r. ⌜ Coded (run (get-str (now (name .entry))) (now (words .entry))) r (now (words .exit)) (now (answer .entry)) (now (answer .exit)) ⌝ }
 {
-    codes::append(words, Making::GetStr, &[], &*name)
+    codes::append(words, Making::GetStr, &[], &*name, answer)
 }
 
 #[no_mangle]
-pub extern "C" fn ferigulan_get_struct(words: &mut [u64], name: u64, fields: &[u64]) -> u64
-    ensures { λ r. ⌜ Coded (run (get_struct name (now (fields .entry))) (now (words .entry))) r (now (words .exit)) ⌝ }
+pub extern "C" fn ferigulan_get_struct(
+    words: &mut [u64],
+    name: u64,
+    fields: &[u64],
+    answer: &mut u64,
+) -> u32
+    ensures { λ r. ⌜ Coded (run (get-struct name (now (fields .entry))) (now (words .entry))) r (now (words .exit)) (now (answer .entry)) (now (answer .exit)) ⌝ }
 {
-    codes::append(words, Making::GetStruct(name), &*fields, b"")
+    codes::append(words, Making::GetStruct(name), &*fields, b"", answer)
 }
 
 #[no_mangle]
@@ -97,92 +113,325 @@ pub extern "C" fn ferigulan_make_ary(
     body: u64,
     body_alias: u64,
     text: &[u8],
-) -> u64
-    ensures { λ r. ⌜ Coded (run (make_ary len «len_alias» body «body_alias» (now (text .entry))) (now (words .entry))) r (now (words .exit)) ⌝ }
+    answer: &mut u64,
+) -> u32
+    ensures { λ r. ⌜ Coded (run (make-ary len «len_alias» body «body_alias» (now (text .entry))) (now (words .entry))) r (now (words .exit)) (now (answer .entry)) (now (answer .exit)) ⌝ }
 {
     codes::append(
         words,
         Making::MakeAry(len, len_alias, body, body_alias),
         &[],
         &*text,
+        answer,
     )
 }
 
 #[no_mangle]
-pub extern "C" fn ferigulan_make_struct_fref(words: &mut [u64], name: u64) -> u64
-    ensures { λ r. ⌜ Coded (run (make_struct_fref name) (now (words .entry))) r (now (words .exit)) ⌝ }
+pub extern "C" fn ferigulan_make_struct_fref(words: &mut [u64], name: u64, answer: &mut u64) -> u32
+    ensures { λ r. ⌜ Coded (run (make-struct-fref name) (now (words .entry))) r (now (words .exit)) (now (answer .entry)) (now (answer .exit)) ⌝ }
 {
-    codes::make(words, Making::MakeStructFref(name))
+    codes::make(words, Making::MakeStructFref(name), answer)
 }
 
 #[no_mangle]
-pub extern "C" fn ferigulan_get_mem_ptr(words: &mut [u64], to: u64, nil: u64) -> u64
-    ensures { λ r. ⌜ Coded (run (get_mem_ptr to nil) (now (words .entry))) r (now (words .exit)) ⌝ }
+pub extern "C" fn ferigulan_get_mem_ptr(
+    words: &mut [u64],
+    to: u64,
+    nil: u64,
+    answer: &mut u64,
+) -> u32
+    ensures { λ r. ⌜ Coded (run (get-mem-ptr to nil) (now (words .entry))) r (now (words .exit)) (now (answer .entry)) (now (answer .exit)) ⌝ }
 {
-    codes::make(words, Making::GetMemPtr(to, nil))
+    codes::make(words, Making::GetMemPtr(to, nil), answer)
 }
 
 #[no_mangle]
-pub extern "C" fn ferigulan_get_mem(words: &mut [u64], alias: u64, t: u64) -> u64
-    ensures { λ r. ⌜ Coded (run (get_mem alias t) (now (words .entry))) r (now (words .exit)) ⌝ }
+pub extern "C" fn ferigulan_get_mem(words: &mut [u64], alias: u64, t: u64, answer: &mut u64) -> u32
+    ensures { λ r. ⌜ Coded (run (get-mem alias t) (now (words .entry))) r (now (words .exit)) (now (answer .entry)) (now (answer .exit)) ⌝ }
 {
-    codes::make(words, Making::GetMem(alias, t))
+    codes::make(words, Making::GetMem(alias, t), answer)
 }
 
 #[no_mangle]
-pub extern "C" fn ferigulan_meet(words: &mut [u64], a: u64, b: u64) -> u64
-    ensures { λ r. ⌜ Coded (run (meet a b) (now (words .entry))) r (now (words .exit)) ⌝ }
+pub extern "C" fn ferigulan_meet(words: &mut [u64], a: u64, b: u64, answer: &mut u64) -> u32
+    ensures { λ r. ⌜ Coded (run (meet a b) (now (words .entry))) r (now (words .exit)) (now (answer .entry)) (now (answer .exit)) ⌝ }
 {
-    codes::make(words, Making::Meet(a, b))
+    codes::make(words, Making::Meet(a, b), answer)
 }
 
 #[no_mangle]
-pub extern "C" fn ferigulan_isa(words: &[u64], a: u64, b: u64) -> u64
-    ensures { λ r. ⌜ Coded (run (isa a b) (now (words .entry))) r (now (words .entry)) ⌝ }
+pub extern "C" fn ferigulan_isa(words: &[u64], a: u64, b: u64, answer: &mut u64) -> u32
+    ensures { λ r. ⌜ Coded (run (isa a b) (now (words .entry))) r (now (words .entry)) (now (answer .entry)) (now (answer .exit)) ⌝ }
 {
-    codes::ask(&*words, Asking::Isa(a, b))
+    codes::ask(&*words, Asking::Isa(a, b), answer)
 }
 
 #[no_mangle]
-pub extern "C" fn ferigulan_dual(words: &mut [u64], a: u64) -> u64
-    ensures { λ r. ⌜ Coded (run (dual a) (now (words .entry))) r (now (words .exit)) ⌝ }
+pub extern "C" fn ferigulan_dual(words: &mut [u64], a: u64, answer: &mut u64) -> u32
+    ensures { λ r. ⌜ Coded (run (dual a) (now (words .entry))) r (now (words .exit)) (now (answer .entry)) (now (answer .exit)) ⌝ }
 {
-    codes::make(words, Making::Walk(Walk::Dual, a))
+    codes::make(words, Making::Walk(Walk::Dual, a), answer)
 }
 
 #[no_mangle]
-pub extern "C" fn ferigulan_join(words: &mut [u64], a: u64, b: u64) -> u64
-    ensures { λ r. ⌜ Coded (run (join a b) (now (words .entry))) r (now (words .exit)) ⌝ }
+pub extern "C" fn ferigulan_join(words: &mut [u64], a: u64, b: u64, answer: &mut u64) -> u32
+    ensures { λ r. ⌜ Coded (run (join a b) (now (words .entry))) r (now (words .exit)) (now (answer .entry)) (now (answer .exit)) ⌝ }
 {
-    codes::make(words, Making::Join(a, b))
+    codes::make(words, Making::Join(a, b), answer)
 }
 
 #[no_mangle]
-pub extern "C" fn ferigulan_glb(words: &mut [u64], a: u64) -> u64
-    ensures { λ r. ⌜ Coded (run (glb a) (now (words .entry))) r (now (words .exit)) ⌝ }
+pub extern "C" fn ferigulan_glb(words: &mut [u64], a: u64, answer: &mut u64) -> u32
+    ensures { λ r. ⌜ Coded (run (glb a) (now (words .entry))) r (now (words .exit)) (now (answer .entry)) (now (answer .exit)) ⌝ }
 {
-    codes::make(words, Making::Walk(Walk::Glb, a))
+    codes::make(words, Making::Walk(Walk::Glb, a), answer)
 }
 
 #[no_mangle]
-pub extern "C" fn ferigulan_lub(words: &mut [u64], a: u64) -> u64
-    ensures { λ r. ⌜ Coded (run (lub a) (now (words .entry))) r (now (words .exit)) ⌝ }
+pub extern "C" fn ferigulan_lub(words: &mut [u64], a: u64, answer: &mut u64) -> u32
+    ensures { λ r. ⌜ Coded (run (lub a) (now (words .entry))) r (now (words .exit)) (now (answer .entry)) (now (answer .exit)) ⌝ }
 {
-    codes::make(words, Making::Walk(Walk::Lub, a))
+    codes::make(words, Making::Walk(Walk::Lub, a), answer)
 }
 
 #[no_mangle]
-pub extern "C" fn ferigulan_is_final(words: &[u64], a: u64) -> u64
-    ensures { λ r. ⌜ Coded (run (is_final a) (now (words .entry))) r (now (words .entry)) ⌝ }
+pub extern "C" fn ferigulan_is_final(words: &[u64], a: u64, answer: &mut u64) -> u32
+    ensures { λ r. ⌜ Coded (run (is-final a) (now (words .entry))) r (now (words .entry)) (now (answer .entry)) (now (answer .exit)) ⌝ }
 {
-    codes::ask(&*words, Asking::IsFinal(a))
+    codes::ask(&*words, Asking::IsFinal(a), answer)
 }
 
 #[no_mangle]
-pub extern "C" fn ferigulan_make_ro(words: &mut [u64], a: u64) -> u64
-    ensures { λ r. ⌜ Coded (run (make_ro a) (now (words .entry))) r (now (words .exit)) ⌝ }
+pub extern "C" fn ferigulan_make_ro(words: &mut [u64], a: u64, answer: &mut u64) -> u32
+    ensures { λ r. ⌜ Coded (run (make-ro a) (now (words .entry))) r (now (words .exit)) (now (answer .entry)) (now (answer .exit)) ⌝ }
 {
-    codes::make(words, Making::MakeRo(a))
+    codes::make(words, Making::MakeRo(a), answer)
+}
+
+// ---- what is told of types, numbers and structs. `which` is 1 where there is an answer, and 0 where it is absent or, of a reading, a size alone
+
+#[no_mangle]
+pub extern "C" fn ferigulan_make_init(words: &[u64], a: u64, answer: &mut u64) -> u32
+    ensures { λ r. ⌜ Coded (run (make-init a) (now (words .entry))) r (now (words .entry)) (now (answer .entry)) (now (answer .exit)) ⌝ }
+{
+    codes::ask(&*words, Asking::Type(OfType::MakeInit, a), answer)
+}
+
+#[no_mangle]
+pub extern "C" fn ferigulan_make_zero(words: &[u64], a: u64, answer: &mut u64) -> u32
+    ensures { λ r. ⌜ Coded (run (make-zero a) (now (words .entry))) r (now (words .entry)) (now (answer .entry)) (now (answer .exit)) ⌝ }
+{
+    codes::ask(&*words, Asking::Type(OfType::MakeZero, a), answer)
+}
+
+#[no_mangle]
+pub extern "C" fn ferigulan_non_zero(words: &mut [u64], a: u64, answer: &mut u64) -> u32
+    ensures { λ r. ⌜ Coded (run (non-zero a) (now (words .entry))) r (now (words .exit)) (now (answer .entry)) (now (answer .exit)) ⌝ }
+{
+    codes::make(words, Making::NonZero(a), answer)
+}
+
+#[no_mangle]
+pub extern "C" fn ferigulan_is_high(words: &[u64], a: u64, answer: &mut u64) -> u32
+    ensures { λ r. ⌜ Coded (run (is-high a) (now (words .entry))) r (now (words .entry)) (now (answer .entry)) (now (answer .exit)) ⌝ }
+{
+    codes::ask(&*words, Asking::Type(OfType::IsHigh, a), answer)
+}
+
+#[no_mangle]
+pub extern "C" fn ferigulan_is_high_or_constant(words: &[u64], a: u64, answer: &mut u64) -> u32
+    ensures { λ r. ⌜ Coded (run (is-high-or-constant a) (now (words .entry))) r (now (words .entry)) (now (answer .entry)) (now (answer .exit)) ⌝ }
+{
+    codes::ask(&*words, Asking::Type(OfType::IsHighOrConstant, a), answer)
+}
+
+#[no_mangle]
+pub extern "C" fn ferigulan_is_constant(words: &[u64], a: u64, answer: &mut u64) -> u32
+    ensures { λ r. ⌜ Coded (run (is-constant a) (now (words .entry))) r (now (words .entry)) (now (answer .entry)) (now (answer .exit)) ⌝ }
+{
+    codes::ask(&*words, Asking::Type(OfType::IsConstant, a), answer)
+}
+
+#[no_mangle]
+pub extern "C" fn ferigulan_is_fref(words: &[u64], a: u64, answer: &mut u64) -> u32
+    ensures { λ r. ⌜ Coded (run (is-fref a) (now (words .entry))) r (now (words .entry)) (now (answer .entry)) (now (answer .exit)) ⌝ }
+{
+    codes::ask(&*words, Asking::Type(OfType::IsFref, a), answer)
+}
+
+#[no_mangle]
+pub extern "C" fn ferigulan_log_size(words: &[u64], a: u64, answer: &mut u64) -> u32
+    ensures { λ r. ⌜ Coded (run (log-size a) (now (words .entry))) r (now (words .entry)) (now (answer .entry)) (now (answer .exit)) ⌝ }
+{
+    codes::ask(&*words, Asking::Type(OfType::LogSize, a), answer)
+}
+
+#[no_mangle]
+pub extern "C" fn ferigulan_int_min(words: &[u64], a: u64, answer: &mut u64) -> u32
+    ensures { λ r. ⌜ Coded (run (int-min a) (now (words .entry))) r (now (words .entry)) (now (answer .entry)) (now (answer .exit)) ⌝ }
+{
+    codes::ask(&*words, Asking::Int(OfInt::Min, a), answer)
+}
+
+#[no_mangle]
+pub extern "C" fn ferigulan_int_max(words: &[u64], a: u64, answer: &mut u64) -> u32
+    ensures { λ r. ⌜ Coded (run (int-max a) (now (words .entry))) r (now (words .entry)) (now (answer .entry)) (now (answer .exit)) ⌝ }
+{
+    codes::ask(&*words, Asking::Int(OfInt::Max, a), answer)
+}
+
+#[no_mangle]
+pub extern "C" fn ferigulan_int_value(
+    words: &[u64],
+    a: u64,
+    which: &mut u64,
+    answer: &mut u64,
+) -> u32
+    ensures { λ r. ⌜ CodedWhich (run (int-value a) (now (words .entry))) r (now (words .entry)) (now (which .entry)) (now (which .exit)) (now (answer .entry)) (now (answer .exit)) ⌝ }
+{
+    codes::ask_which(&*words, Asking::Int(OfInt::Value, a), which, answer)
+}
+
+#[no_mangle]
+pub extern "C" fn ferigulan_int_mask(words: &[u64], a: u64, answer: &mut u64) -> u32
+    ensures { λ r. ⌜ Coded (run (int-mask a) (now (words .entry))) r (now (words .entry)) (now (answer .entry)) (now (answer .exit)) ⌝ }
+{
+    codes::ask(&*words, Asking::Int(OfInt::Mask, a), answer)
+}
+
+#[no_mangle]
+pub extern "C" fn ferigulan_float_sz(words: &[u64], a: u64, answer: &mut u64) -> u32
+    ensures { λ r. ⌜ Coded (run (float-sz a) (now (words .entry))) r (now (words .entry)) (now (answer .entry)) (now (answer .exit)) ⌝ }
+{
+    codes::ask(&*words, Asking::Float(OfFloat::Sz, a), answer)
+}
+
+#[no_mangle]
+pub extern "C" fn ferigulan_float_is_f32(words: &[u64], a: u64, answer: &mut u64) -> u32
+    ensures { λ r. ⌜ Coded (run (float-is-f32 a) (now (words .entry))) r (now (words .entry)) (now (answer .entry)) (now (answer .exit)) ⌝ }
+{
+    codes::ask(&*words, Asking::Float(OfFloat::IsF32, a), answer)
+}
+
+#[no_mangle]
+pub extern "C" fn ferigulan_float_value(
+    words: &[u64],
+    a: u64,
+    which: &mut u64,
+    answer: &mut u64,
+) -> u32
+    ensures { λ r. ⌜ CodedWhich (run (float-value a) (now (words .entry))) r (now (words .entry)) (now (which .entry)) (now (which .exit)) (now (answer .entry)) (now (answer .exit)) ⌝ }
+{
+    codes::ask_which(&*words, Asking::Float(OfFloat::Value, a), which, answer)
+}
+
+#[no_mangle]
+pub extern "C" fn ferigulan_float_reading(
+    words: &[u64],
+    a: u64,
+    which: &mut u64,
+    answer: &mut u64,
+) -> u32
+    ensures { λ r. ⌜ CodedWhich (run (float-reading a) (now (words .entry))) r (now (words .entry)) (now (which .entry)) (now (which .exit)) (now (answer .entry)) (now (answer .exit)) ⌝ }
+{
+    codes::ask_which(&*words, Asking::Float(OfFloat::Reading, a), which, answer)
+}
+
+#[no_mangle]
+pub extern "C" fn ferigulan_struct_name(words: &[u64], s: u64, answer: &mut u64) -> u32
+    ensures { λ r. ⌜ Coded (run (struct-name s) (now (words .entry))) r (now (words .entry)) (now (answer .entry)) (now (answer .exit)) ⌝ }
+{
+    codes::ask(&*words, Asking::Struct(OfStruct::Name, s), answer)
+}
+
+#[no_mangle]
+pub extern "C" fn ferigulan_struct_fields(
+    words: &[u64],
+    s: u64,
+    output: &mut [u64],
+    answer: &mut u64,
+) -> u32
+    ensures { λ r. ⌜ Coded (run (struct-fields s (length (now (output .entry)))) (now (words .entry))) r (now (words .entry)) (now (answer .entry)) (now (answer .exit)) ⌝ }
+    ensures { λ _. ⌜ now (output .exit) ≡ structFieldsOutput s (now (words .entry)) (now (output .entry)) ⌝ }
+{
+    codes::fill(&*words, Filling::Fields, s, output, answer)
+}
+
+#[no_mangle]
+pub extern "C" fn ferigulan_find(
+    words: &[u64],
+    s: u64,
+    name: u64,
+    which: &mut u64,
+    answer: &mut u64,
+) -> u32
+    ensures { λ r. ⌜ CodedWhich (run (find s name) (now (words .entry))) r (now (words .entry)) (now (which .entry)) (now (which .exit)) (now (answer .entry)) (now (answer .exit)) ⌝ }
+{
+    codes::ask_which(
+        &*words,
+        Asking::Struct(OfStruct::Find(name), s),
+        which,
+        answer,
+    )
+}
+
+#[no_mangle]
+pub extern "C" fn ferigulan_find_alias(
+    words: &[u64],
+    s: u64,
+    alias: u64,
+    which: &mut u64,
+    answer: &mut u64,
+) -> u32
+    ensures { λ r. ⌜ CodedWhich (run (find-alias s alias) (now (words .entry))) r (now (words .entry)) (now (which .entry)) (now (which .exit)) (now (answer .entry)) (now (answer .exit)) ⌝ }
+{
+    codes::ask_which(
+        &*words,
+        Asking::Struct(OfStruct::FindAlias(alias), s),
+        which,
+        answer,
+    )
+}
+
+#[no_mangle]
+pub extern "C" fn ferigulan_is_ary(words: &[u64], s: u64, answer: &mut u64) -> u32
+    ensures { λ r. ⌜ Coded (run (is-ary s) (now (words .entry))) r (now (words .entry)) (now (answer .entry)) (now (answer .exit)) ⌝ }
+{
+    codes::ask(&*words, Asking::Struct(OfStruct::IsAry, s), answer)
+}
+
+#[no_mangle]
+pub extern "C" fn ferigulan_offset(words: &[u64], s: u64, i: u64, answer: &mut u64) -> u32
+    ensures { λ r. ⌜ Coded (run (offset s i) (now (words .entry))) r (now (words .entry)) (now (answer .entry)) (now (answer .exit)) ⌝ }
+{
+    codes::ask(&*words, Asking::Struct(OfStruct::Offset(i), s), answer)
+}
+
+#[no_mangle]
+pub extern "C" fn ferigulan_offsets(
+    words: &[u64],
+    s: u64,
+    output: &mut [u64],
+    answer: &mut u64,
+) -> u32
+    ensures { λ r. ⌜ Coded (run (offsets s (length (now (output .entry)))) (now (words .entry))) r (now (words .entry)) (now (answer .entry)) (now (answer .exit)) ⌝ }
+    ensures { λ _. ⌜ now (output .exit) ≡ offsetsOutput s (now (words .entry)) (now (output .entry)) ⌝ }
+{
+    codes::fill(&*words, Filling::Offsets, s, output, answer)
+}
+
+#[no_mangle]
+pub extern "C" fn ferigulan_ary_base(words: &[u64], s: u64, answer: &mut u64) -> u32
+    ensures { λ r. ⌜ Coded (run (ary-base s) (now (words .entry))) r (now (words .entry)) (now (answer .entry)) (now (answer .exit)) ⌝ }
+{
+    codes::ask(&*words, Asking::Struct(OfStruct::AryBase, s), answer)
+}
+
+#[no_mangle]
+pub extern "C" fn ferigulan_ary_scale(words: &[u64], s: u64, answer: &mut u64) -> u32
+    ensures { λ r. ⌜ Coded (run (ary-scale s) (now (words .entry))) r (now (words .entry)) (now (answer .entry)) (now (answer .exit)) ⌝ }
+{
+    codes::ask(&*words, Asking::Struct(OfStruct::AryScale, s), answer)
 }
 
 // ---- the calls on an opened store
@@ -193,8 +442,8 @@ pub extern "C" fn ferigulan_make_ro(words: &mut [u64], a: u64) -> u64
 
 // Tests row 1, and makes the index and a blank memory; any words may stand in the two lists before.
 #[no_mangle]
-pub extern "C" fn ferigulan_open(words: &[u64], index: &mut [u64], memory: &mut [u64]) -> u64
-    ensures { λ r. ⌜ r ≡ code (openReply (now (words .entry)) (length (now (index .entry)))) ⌝ }
+pub extern "C" fn ferigulan_open(words: &[u64], index: &mut [u64], memory: &mut [u64]) -> u32
+    ensures { λ r. ⌜ r ≡ status (openReply (now (words .entry)) (length (now (index .entry)))) ⌝ }
     ensures { λ r. ⌜ CodedOpening (now (words .entry)) (now (index .entry)) (now (memory .entry)) (now (index .exit)) (now (memory .exit)) r ⌝ }
 {
     codes::open(&*words, index, memory)
@@ -206,12 +455,13 @@ pub extern "C" fn ferigulan_opened_kind(
     index: &[u64],
     memory: &mut [u64],
     h: u64,
-) -> u64
+    answer: &mut u64,
+) -> u32
     requires { ⌜ OpenStore (now words) (now index) (now memory) ⌝ }
-    ensures { λ r. ⌜ Coded (run (kind h) (now (words .entry))) r (now (words .entry)) ⌝ }
+    ensures { λ r. ⌜ Coded (run (kind h) (now (words .entry))) r (now (words .entry)) (now (answer .entry)) (now (answer .exit)) ⌝ }
     ensures { λ _. ⌜ OpenStore (now (words .entry)) (now (index .entry)) (now (memory .exit)) ⌝ }
 {
-    codes::opened_ask(&*words, &*index, memory, Asking::Kind(h))
+    codes::opened_ask(&*words, &*index, memory, Asking::Kind(h), answer)
 }
 
 #[no_mangle]
@@ -220,12 +470,13 @@ pub extern "C" fn ferigulan_opened_get_bool(
     index: &[u64],
     memory: &mut [u64],
     value: u64,
-) -> u64
+    answer: &mut u64,
+) -> u32
     requires { ⌜ OpenStore (now words) (now index) (now memory) ⌝ }
-    ensures { λ r. ⌜ Coded (run (get_bool value) (now (words .entry))) r (now (words .entry)) ⌝ }
+    ensures { λ r. ⌜ Coded (run (get-bool value) (now (words .entry))) r (now (words .entry)) (now (answer .entry)) (now (answer .exit)) ⌝ }
     ensures { λ _. ⌜ OpenStore (now (words .entry)) (now (index .entry)) (now (memory .exit)) ⌝ }
 {
-    codes::opened_ask(&*words, &*index, memory, Asking::GetBool(value))
+    codes::opened_ask(&*words, &*index, memory, Asking::GetBool(value), answer)
 }
 
 #[no_mangle]
@@ -234,9 +485,10 @@ pub extern "C" fn ferigulan_opened_get_int(
     index: &mut [u64],
     memory: &mut [u64],
     value: u64,
-) -> u64
+    answer: &mut u64,
+) -> u32
     requires { ⌜ OpenStore (now words) (now index) (now memory) ⌝ }
-    ensures { λ r. ⌜ Coded (run (get_int value) (now (words .entry))) r (now (words .exit)) ⌝ }
+    ensures { λ r. ⌜ Coded (run (get-int value) (now (words .entry))) r (now (words .exit)) (now (answer .entry)) (now (answer .exit)) ⌝ }
     ensures { λ _. ⌜ OpenStore (now (words .exit)) (now (index .exit)) (now (memory .exit)) ⌝ }
 {
     codes::opened_append(
@@ -246,6 +498,7 @@ pub extern "C" fn ferigulan_opened_get_int(
         Making::MakeInt(value, value),
         &[],
         b"",
+        answer,
     )
 }
 
@@ -256,12 +509,21 @@ pub extern "C" fn ferigulan_opened_make_int(
     memory: &mut [u64],
     min: u64,
     max: u64,
-) -> u64
+    answer: &mut u64,
+) -> u32
     requires { ⌜ OpenStore (now words) (now index) (now memory) ⌝ }
-    ensures { λ r. ⌜ Coded (run (make_int min max) (now (words .entry))) r (now (words .exit)) ⌝ }
+    ensures { λ r. ⌜ Coded (run (make-int min max) (now (words .entry))) r (now (words .exit)) (now (answer .entry)) (now (answer .exit)) ⌝ }
     ensures { λ _. ⌜ OpenStore (now (words .exit)) (now (index .exit)) (now (memory .exit)) ⌝ }
 {
-    codes::opened_append(words, index, memory, Making::MakeInt(min, max), &[], b"")
+    codes::opened_append(
+        words,
+        index,
+        memory,
+        Making::MakeInt(min, max),
+        &[],
+        b"",
+        answer,
+    )
 }
 
 #[no_mangle]
@@ -270,12 +532,21 @@ pub extern "C" fn ferigulan_opened_get_float(
     index: &mut [u64],
     memory: &mut [u64],
     bits: u64,
-) -> u64
+    answer: &mut u64,
+) -> u32
     requires { ⌜ OpenStore (now words) (now index) (now memory) ⌝ }
-    ensures { λ r. ⌜ Coded (run (get_float bits) (now (words .entry))) r (now (words .exit)) ⌝ }
+    ensures { λ r. ⌜ Coded (run (get-float bits) (now (words .entry))) r (now (words .exit)) (now (answer .entry)) (now (answer .exit)) ⌝ }
     ensures { λ _. ⌜ OpenStore (now (words .exit)) (now (index .exit)) (now (memory .exit)) ⌝ }
 {
-    codes::opened_append(words, index, memory, Making::MakeFloat(0, bits), &[], b"")
+    codes::opened_append(
+        words,
+        index,
+        memory,
+        Making::MakeFloat(0, bits),
+        &[],
+        b"",
+        answer,
+    )
 }
 
 #[no_mangle]
@@ -285,12 +556,21 @@ pub extern "C" fn ferigulan_opened_make_float(
     memory: &mut [u64],
     sz: u64,
     bits: u64,
-) -> u64
+    answer: &mut u64,
+) -> u32
     requires { ⌜ OpenStore (now words) (now index) (now memory) ⌝ }
-    ensures { λ r. ⌜ Coded (run (make_float sz bits) (now (words .entry))) r (now (words .exit)) ⌝ }
+    ensures { λ r. ⌜ Coded (run (make-float sz bits) (now (words .entry))) r (now (words .exit)) (now (answer .entry)) (now (answer .exit)) ⌝ }
     ensures { λ _. ⌜ OpenStore (now (words .exit)) (now (index .exit)) (now (memory .exit)) ⌝ }
 {
-    codes::opened_append(words, index, memory, Making::MakeFloat(sz, bits), &[], b"")
+    codes::opened_append(
+        words,
+        index,
+        memory,
+        Making::MakeFloat(sz, bits),
+        &[],
+        b"",
+        answer,
+    )
 }
 
 #[no_mangle]
@@ -299,12 +579,13 @@ pub extern "C" fn ferigulan_opened_get_tuple(
     index: &mut [u64],
     memory: &mut [u64],
     types: &[u64],
-) -> u64
+    answer: &mut u64,
+) -> u32
     requires { ⌜ OpenStore (now words) (now index) (now memory) ⌝ }
-    ensures { λ r. ⌜ Coded (run (get_tuple (now (types .entry))) (now (words .entry))) r (now (words .exit)) ⌝ }
+    ensures { λ r. ⌜ Coded (run (get-tuple (now (types .entry))) (now (words .entry))) r (now (words .exit)) (now (answer .entry)) (now (answer .exit)) ⌝ }
     ensures { λ _. ⌜ OpenStore (now (words .exit)) (now (index .exit)) (now (memory .exit)) ⌝ }
 {
-    codes::opened_append(words, index, memory, Making::GetTuple, &*types, b"")
+    codes::opened_append(words, index, memory, Making::GetTuple, &*types, b"", answer)
 }
 
 #[no_mangle]
@@ -313,12 +594,13 @@ pub extern "C" fn ferigulan_opened_get_str(
     index: &mut [u64],
     memory: &mut [u64],
     name: &[u8],
-) -> u64
+    answer: &mut u64,
+) -> u32
     requires { ⌜ OpenStore (now words) (now index) (now memory) ⌝ }
-    ensures { λ r. ⌜ Coded (run (get_str (now (name .entry))) (now (words .entry))) r (now (words .exit)) ⌝ }
+    ensures { λ r. ⌜ Coded (run (get-str (now (name .entry))) (now (words .entry))) r (now (words .exit)) (now (answer .entry)) (now (answer .exit)) ⌝ }
     ensures { λ _. ⌜ OpenStore (now (words .exit)) (now (index .exit)) (now (memory .exit)) ⌝ }
 {
-    codes::opened_append(words, index, memory, Making::GetStr, &[], &*name)
+    codes::opened_append(words, index, memory, Making::GetStr, &[], &*name, answer)
 }
 
 #[no_mangle]
@@ -328,12 +610,21 @@ pub extern "C" fn ferigulan_opened_get_struct(
     memory: &mut [u64],
     name: u64,
     fields: &[u64],
-) -> u64
+    answer: &mut u64,
+) -> u32
     requires { ⌜ OpenStore (now words) (now index) (now memory) ⌝ }
-    ensures { λ r. ⌜ Coded (run (get_struct name (now (fields .entry))) (now (words .entry))) r (now (words .exit)) ⌝ }
+    ensures { λ r. ⌜ Coded (run (get-struct name (now (fields .entry))) (now (words .entry))) r (now (words .exit)) (now (answer .entry)) (now (answer .exit)) ⌝ }
     ensures { λ _. ⌜ OpenStore (now (words .exit)) (now (index .exit)) (now (memory .exit)) ⌝ }
 {
-    codes::opened_append(words, index, memory, Making::GetStruct(name), &*fields, b"")
+    codes::opened_append(
+        words,
+        index,
+        memory,
+        Making::GetStruct(name),
+        &*fields,
+        b"",
+        answer,
+    )
 }
 
 #[no_mangle]
@@ -346,9 +637,10 @@ pub extern "C" fn ferigulan_opened_make_ary(
     body: u64,
     body_alias: u64,
     text: &[u8],
-) -> u64
+    answer: &mut u64,
+) -> u32
     requires { ⌜ OpenStore (now words) (now index) (now memory) ⌝ }
-    ensures { λ r. ⌜ Coded (run (make_ary len «len_alias» body «body_alias» (now (text .entry))) (now (words .entry))) r (now (words .exit)) ⌝ }
+    ensures { λ r. ⌜ Coded (run (make-ary len «len_alias» body «body_alias» (now (text .entry))) (now (words .entry))) r (now (words .exit)) (now (answer .entry)) (now (answer .exit)) ⌝ }
     ensures { λ _. ⌜ OpenStore (now (words .exit)) (now (index .exit)) (now (memory .exit)) ⌝ }
 {
     codes::opened_append(
@@ -358,6 +650,7 @@ pub extern "C" fn ferigulan_opened_make_ary(
         Making::MakeAry(len, len_alias, body, body_alias),
         &[],
         &*text,
+        answer,
     )
 }
 
@@ -367,12 +660,21 @@ pub extern "C" fn ferigulan_opened_make_struct_fref(
     index: &mut [u64],
     memory: &mut [u64],
     name: u64,
-) -> u64
+    answer: &mut u64,
+) -> u32
     requires { ⌜ OpenStore (now words) (now index) (now memory) ⌝ }
-    ensures { λ r. ⌜ Coded (run (make_struct_fref name) (now (words .entry))) r (now (words .exit)) ⌝ }
+    ensures { λ r. ⌜ Coded (run (make-struct-fref name) (now (words .entry))) r (now (words .exit)) (now (answer .entry)) (now (answer .exit)) ⌝ }
     ensures { λ _. ⌜ OpenStore (now (words .exit)) (now (index .exit)) (now (memory .exit)) ⌝ }
 {
-    codes::opened_append(words, index, memory, Making::MakeStructFref(name), &[], b"")
+    codes::opened_append(
+        words,
+        index,
+        memory,
+        Making::MakeStructFref(name),
+        &[],
+        b"",
+        answer,
+    )
 }
 
 #[no_mangle]
@@ -382,12 +684,21 @@ pub extern "C" fn ferigulan_opened_get_mem_ptr(
     memory: &mut [u64],
     to: u64,
     nil: u64,
-) -> u64
+    answer: &mut u64,
+) -> u32
     requires { ⌜ OpenStore (now words) (now index) (now memory) ⌝ }
-    ensures { λ r. ⌜ Coded (run (get_mem_ptr to nil) (now (words .entry))) r (now (words .exit)) ⌝ }
+    ensures { λ r. ⌜ Coded (run (get-mem-ptr to nil) (now (words .entry))) r (now (words .exit)) (now (answer .entry)) (now (answer .exit)) ⌝ }
     ensures { λ _. ⌜ OpenStore (now (words .exit)) (now (index .exit)) (now (memory .exit)) ⌝ }
 {
-    codes::opened_append(words, index, memory, Making::GetMemPtr(to, nil), &[], b"")
+    codes::opened_append(
+        words,
+        index,
+        memory,
+        Making::GetMemPtr(to, nil),
+        &[],
+        b"",
+        answer,
+    )
 }
 
 #[no_mangle]
@@ -397,12 +708,21 @@ pub extern "C" fn ferigulan_opened_get_mem(
     memory: &mut [u64],
     alias: u64,
     t: u64,
-) -> u64
+    answer: &mut u64,
+) -> u32
     requires { ⌜ OpenStore (now words) (now index) (now memory) ⌝ }
-    ensures { λ r. ⌜ Coded (run (get_mem alias t) (now (words .entry))) r (now (words .exit)) ⌝ }
+    ensures { λ r. ⌜ Coded (run (get-mem alias t) (now (words .entry))) r (now (words .exit)) (now (answer .entry)) (now (answer .exit)) ⌝ }
     ensures { λ _. ⌜ OpenStore (now (words .exit)) (now (index .exit)) (now (memory .exit)) ⌝ }
 {
-    codes::opened_append(words, index, memory, Making::GetMem(alias, t), &[], b"")
+    codes::opened_append(
+        words,
+        index,
+        memory,
+        Making::GetMem(alias, t),
+        &[],
+        b"",
+        answer,
+    )
 }
 
 #[no_mangle]
@@ -412,12 +732,13 @@ pub extern "C" fn ferigulan_opened_meet(
     memory: &mut [u64],
     a: u64,
     b: u64,
-) -> u64
+    answer: &mut u64,
+) -> u32
     requires { ⌜ OpenStore (now words) (now index) (now memory) ⌝ }
-    ensures { λ r. ⌜ Coded (run (meet a b) (now (words .entry))) r (now (words .exit)) ⌝ }
+    ensures { λ r. ⌜ Coded (run (meet a b) (now (words .entry))) r (now (words .exit)) (now (answer .entry)) (now (answer .exit)) ⌝ }
     ensures { λ _. ⌜ OpenStore (now (words .exit)) (now (index .exit)) (now (memory .exit)) ⌝ }
 {
-    codes::opened_append(words, index, memory, Making::Meet(a, b), &[], b"")
+    codes::opened_append(words, index, memory, Making::Meet(a, b), &[], b"", answer)
 }
 
 #[no_mangle]
@@ -427,12 +748,13 @@ pub extern "C" fn ferigulan_opened_isa(
     memory: &mut [u64],
     a: u64,
     b: u64,
-) -> u64
+    answer: &mut u64,
+) -> u32
     requires { ⌜ OpenStore (now words) (now index) (now memory) ⌝ }
-    ensures { λ r. ⌜ Coded (run (isa a b) (now (words .entry))) r (now (words .entry)) ⌝ }
+    ensures { λ r. ⌜ Coded (run (isa a b) (now (words .entry))) r (now (words .entry)) (now (answer .entry)) (now (answer .exit)) ⌝ }
     ensures { λ _. ⌜ OpenStore (now (words .entry)) (now (index .entry)) (now (memory .exit)) ⌝ }
 {
-    codes::opened_ask(&*words, &*index, memory, Asking::Isa(a, b))
+    codes::opened_ask(&*words, &*index, memory, Asking::Isa(a, b), answer)
 }
 
 #[no_mangle]
@@ -441,12 +763,21 @@ pub extern "C" fn ferigulan_opened_dual(
     index: &mut [u64],
     memory: &mut [u64],
     a: u64,
-) -> u64
+    answer: &mut u64,
+) -> u32
     requires { ⌜ OpenStore (now words) (now index) (now memory) ⌝ }
-    ensures { λ r. ⌜ Coded (run (dual a) (now (words .entry))) r (now (words .exit)) ⌝ }
+    ensures { λ r. ⌜ Coded (run (dual a) (now (words .entry))) r (now (words .exit)) (now (answer .entry)) (now (answer .exit)) ⌝ }
     ensures { λ _. ⌜ OpenStore (now (words .exit)) (now (index .exit)) (now (memory .exit)) ⌝ }
 {
-    codes::opened_append(words, index, memory, Making::Walk(Walk::Dual, a), &[], b"")
+    codes::opened_append(
+        words,
+        index,
+        memory,
+        Making::Walk(Walk::Dual, a),
+        &[],
+        b"",
+        answer,
+    )
 }
 
 #[no_mangle]
@@ -456,12 +787,13 @@ pub extern "C" fn ferigulan_opened_join(
     memory: &mut [u64],
     a: u64,
     b: u64,
-) -> u64
+    answer: &mut u64,
+) -> u32
     requires { ⌜ OpenStore (now words) (now index) (now memory) ⌝ }
-    ensures { λ r. ⌜ Coded (run (join a b) (now (words .entry))) r (now (words .exit)) ⌝ }
+    ensures { λ r. ⌜ Coded (run (join a b) (now (words .entry))) r (now (words .exit)) (now (answer .entry)) (now (answer .exit)) ⌝ }
     ensures { λ _. ⌜ OpenStore (now (words .exit)) (now (index .exit)) (now (memory .exit)) ⌝ }
 {
-    codes::opened_append(words, index, memory, Making::Join(a, b), &[], b"")
+    codes::opened_append(words, index, memory, Making::Join(a, b), &[], b"", answer)
 }
 
 #[no_mangle]
@@ -470,12 +802,21 @@ pub extern "C" fn ferigulan_opened_glb(
     index: &mut [u64],
     memory: &mut [u64],
     a: u64,
-) -> u64
+    answer: &mut u64,
+) -> u32
     requires { ⌜ OpenStore (now words) (now index) (now memory) ⌝ }
-    ensures { λ r. ⌜ Coded (run (glb a) (now (words .entry))) r (now (words .exit)) ⌝ }
+    ensures { λ r. ⌜ Coded (run (glb a) (now (words .entry))) r (now (words .exit)) (now (answer .entry)) (now (answer .exit)) ⌝ }
     ensures { λ _. ⌜ OpenStore (now (words .exit)) (now (index .exit)) (now (memory .exit)) ⌝ }
 {
-    codes::opened_append(words, index, memory, Making::Walk(Walk::Glb, a), &[], b"")
+    codes::opened_append(
+        words,
+        index,
+        memory,
+        Making::Walk(Walk::Glb, a),
+        &[],
+        b"",
+        answer,
+    )
 }
 
 #[no_mangle]
@@ -484,12 +825,21 @@ pub extern "C" fn ferigulan_opened_lub(
     index: &mut [u64],
     memory: &mut [u64],
     a: u64,
-) -> u64
+    answer: &mut u64,
+) -> u32
     requires { ⌜ OpenStore (now words) (now index) (now memory) ⌝ }
-    ensures { λ r. ⌜ Coded (run (lub a) (now (words .entry))) r (now (words .exit)) ⌝ }
+    ensures { λ r. ⌜ Coded (run (lub a) (now (words .entry))) r (now (words .exit)) (now (answer .entry)) (now (answer .exit)) ⌝ }
     ensures { λ _. ⌜ OpenStore (now (words .exit)) (now (index .exit)) (now (memory .exit)) ⌝ }
 {
-    codes::opened_append(words, index, memory, Making::Walk(Walk::Lub, a), &[], b"")
+    codes::opened_append(
+        words,
+        index,
+        memory,
+        Making::Walk(Walk::Lub, a),
+        &[],
+        b"",
+        answer,
+    )
 }
 
 #[no_mangle]
@@ -498,12 +848,13 @@ pub extern "C" fn ferigulan_opened_is_final(
     index: &[u64],
     memory: &mut [u64],
     a: u64,
-) -> u64
+    answer: &mut u64,
+) -> u32
     requires { ⌜ OpenStore (now words) (now index) (now memory) ⌝ }
-    ensures { λ r. ⌜ Coded (run (is_final a) (now (words .entry))) r (now (words .entry)) ⌝ }
+    ensures { λ r. ⌜ Coded (run (is-final a) (now (words .entry))) r (now (words .entry)) (now (answer .entry)) (now (answer .exit)) ⌝ }
     ensures { λ _. ⌜ OpenStore (now (words .entry)) (now (index .entry)) (now (memory .exit)) ⌝ }
 {
-    codes::opened_ask(&*words, &*index, memory, Asking::IsFinal(a))
+    codes::opened_ask(&*words, &*index, memory, Asking::IsFinal(a), answer)
 }
 
 #[no_mangle]
@@ -512,10 +863,531 @@ pub extern "C" fn ferigulan_opened_make_ro(
     index: &mut [u64],
     memory: &mut [u64],
     a: u64,
-) -> u64
+    answer: &mut u64,
+) -> u32
     requires { ⌜ OpenStore (now words) (now index) (now memory) ⌝ }
-    ensures { λ r. ⌜ Coded (run (make_ro a) (now (words .entry))) r (now (words .exit)) ⌝ }
+    ensures { λ r. ⌜ Coded (run (make-ro a) (now (words .entry))) r (now (words .exit)) (now (answer .entry)) (now (answer .exit)) ⌝ }
     ensures { λ _. ⌜ OpenStore (now (words .exit)) (now (index .exit)) (now (memory .exit)) ⌝ }
 {
-    codes::opened_append(words, index, memory, Making::MakeRo(a), &[], b"")
+    codes::opened_append(words, index, memory, Making::MakeRo(a), &[], b"", answer)
+}
+
+#[no_mangle]
+pub extern "C" fn ferigulan_opened_make_init(
+    words: &[u64],
+    index: &[u64],
+    memory: &mut [u64],
+    a: u64,
+    answer: &mut u64,
+) -> u32
+    requires { ⌜ OpenStore (now words) (now index) (now memory) ⌝ }
+    ensures { λ r. ⌜ Coded (run (make-init a) (now (words .entry))) r (now (words .entry)) (now (answer .entry)) (now (answer .exit)) ⌝ }
+    ensures { λ _. ⌜ OpenStore (now (words .entry)) (now (index .entry)) (now (memory .exit)) ⌝ }
+{
+    codes::opened_ask(
+        &*words,
+        &*index,
+        memory,
+        Asking::Type(OfType::MakeInit, a),
+        answer,
+    )
+}
+
+#[no_mangle]
+pub extern "C" fn ferigulan_opened_make_zero(
+    words: &[u64],
+    index: &[u64],
+    memory: &mut [u64],
+    a: u64,
+    answer: &mut u64,
+) -> u32
+    requires { ⌜ OpenStore (now words) (now index) (now memory) ⌝ }
+    ensures { λ r. ⌜ Coded (run (make-zero a) (now (words .entry))) r (now (words .entry)) (now (answer .entry)) (now (answer .exit)) ⌝ }
+    ensures { λ _. ⌜ OpenStore (now (words .entry)) (now (index .entry)) (now (memory .exit)) ⌝ }
+{
+    codes::opened_ask(
+        &*words,
+        &*index,
+        memory,
+        Asking::Type(OfType::MakeZero, a),
+        answer,
+    )
+}
+
+#[no_mangle]
+pub extern "C" fn ferigulan_opened_non_zero(
+    words: &mut [u64],
+    index: &mut [u64],
+    memory: &mut [u64],
+    a: u64,
+    answer: &mut u64,
+) -> u32
+    requires { ⌜ OpenStore (now words) (now index) (now memory) ⌝ }
+    ensures { λ r. ⌜ Coded (run (non-zero a) (now (words .entry))) r (now (words .exit)) (now (answer .entry)) (now (answer .exit)) ⌝ }
+    ensures { λ _. ⌜ OpenStore (now (words .exit)) (now (index .exit)) (now (memory .exit)) ⌝ }
+{
+    codes::opened_append(words, index, memory, Making::NonZero(a), &[], b"", answer)
+}
+
+#[no_mangle]
+pub extern "C" fn ferigulan_opened_is_high(
+    words: &[u64],
+    index: &[u64],
+    memory: &mut [u64],
+    a: u64,
+    answer: &mut u64,
+) -> u32
+    requires { ⌜ OpenStore (now words) (now index) (now memory) ⌝ }
+    ensures { λ r. ⌜ Coded (run (is-high a) (now (words .entry))) r (now (words .entry)) (now (answer .entry)) (now (answer .exit)) ⌝ }
+    ensures { λ _. ⌜ OpenStore (now (words .entry)) (now (index .entry)) (now (memory .exit)) ⌝ }
+{
+    codes::opened_ask(
+        &*words,
+        &*index,
+        memory,
+        Asking::Type(OfType::IsHigh, a),
+        answer,
+    )
+}
+
+#[no_mangle]
+pub extern "C" fn ferigulan_opened_is_high_or_constant(
+    words: &[u64],
+    index: &[u64],
+    memory: &mut [u64],
+    a: u64,
+    answer: &mut u64,
+) -> u32
+    requires { ⌜ OpenStore (now words) (now index) (now memory) ⌝ }
+    ensures { λ r. ⌜ Coded (run (is-high-or-constant a) (now (words .entry))) r (now (words .entry)) (now (answer .entry)) (now (answer .exit)) ⌝ }
+    ensures { λ _. ⌜ OpenStore (now (words .entry)) (now (index .entry)) (now (memory .exit)) ⌝ }
+{
+    codes::opened_ask(
+        &*words,
+        &*index,
+        memory,
+        Asking::Type(OfType::IsHighOrConstant, a),
+        answer,
+    )
+}
+
+#[no_mangle]
+pub extern "C" fn ferigulan_opened_is_constant(
+    words: &[u64],
+    index: &[u64],
+    memory: &mut [u64],
+    a: u64,
+    answer: &mut u64,
+) -> u32
+    requires { ⌜ OpenStore (now words) (now index) (now memory) ⌝ }
+    ensures { λ r. ⌜ Coded (run (is-constant a) (now (words .entry))) r (now (words .entry)) (now (answer .entry)) (now (answer .exit)) ⌝ }
+    ensures { λ _. ⌜ OpenStore (now (words .entry)) (now (index .entry)) (now (memory .exit)) ⌝ }
+{
+    codes::opened_ask(
+        &*words,
+        &*index,
+        memory,
+        Asking::Type(OfType::IsConstant, a),
+        answer,
+    )
+}
+
+#[no_mangle]
+pub extern "C" fn ferigulan_opened_is_fref(
+    words: &[u64],
+    index: &[u64],
+    memory: &mut [u64],
+    a: u64,
+    answer: &mut u64,
+) -> u32
+    requires { ⌜ OpenStore (now words) (now index) (now memory) ⌝ }
+    ensures { λ r. ⌜ Coded (run (is-fref a) (now (words .entry))) r (now (words .entry)) (now (answer .entry)) (now (answer .exit)) ⌝ }
+    ensures { λ _. ⌜ OpenStore (now (words .entry)) (now (index .entry)) (now (memory .exit)) ⌝ }
+{
+    codes::opened_ask(
+        &*words,
+        &*index,
+        memory,
+        Asking::Type(OfType::IsFref, a),
+        answer,
+    )
+}
+
+#[no_mangle]
+pub extern "C" fn ferigulan_opened_log_size(
+    words: &[u64],
+    index: &[u64],
+    memory: &mut [u64],
+    a: u64,
+    answer: &mut u64,
+) -> u32
+    requires { ⌜ OpenStore (now words) (now index) (now memory) ⌝ }
+    ensures { λ r. ⌜ Coded (run (log-size a) (now (words .entry))) r (now (words .entry)) (now (answer .entry)) (now (answer .exit)) ⌝ }
+    ensures { λ _. ⌜ OpenStore (now (words .entry)) (now (index .entry)) (now (memory .exit)) ⌝ }
+{
+    codes::opened_ask(
+        &*words,
+        &*index,
+        memory,
+        Asking::Type(OfType::LogSize, a),
+        answer,
+    )
+}
+
+#[no_mangle]
+pub extern "C" fn ferigulan_opened_int_min(
+    words: &[u64],
+    index: &[u64],
+    memory: &mut [u64],
+    a: u64,
+    answer: &mut u64,
+) -> u32
+    requires { ⌜ OpenStore (now words) (now index) (now memory) ⌝ }
+    ensures { λ r. ⌜ Coded (run (int-min a) (now (words .entry))) r (now (words .entry)) (now (answer .entry)) (now (answer .exit)) ⌝ }
+    ensures { λ _. ⌜ OpenStore (now (words .entry)) (now (index .entry)) (now (memory .exit)) ⌝ }
+{
+    codes::opened_ask(&*words, &*index, memory, Asking::Int(OfInt::Min, a), answer)
+}
+
+#[no_mangle]
+pub extern "C" fn ferigulan_opened_int_max(
+    words: &[u64],
+    index: &[u64],
+    memory: &mut [u64],
+    a: u64,
+    answer: &mut u64,
+) -> u32
+    requires { ⌜ OpenStore (now words) (now index) (now memory) ⌝ }
+    ensures { λ r. ⌜ Coded (run (int-max a) (now (words .entry))) r (now (words .entry)) (now (answer .entry)) (now (answer .exit)) ⌝ }
+    ensures { λ _. ⌜ OpenStore (now (words .entry)) (now (index .entry)) (now (memory .exit)) ⌝ }
+{
+    codes::opened_ask(&*words, &*index, memory, Asking::Int(OfInt::Max, a), answer)
+}
+
+#[no_mangle]
+pub extern "C" fn ferigulan_opened_int_value(
+    words: &[u64],
+    index: &[u64],
+    memory: &mut [u64],
+    a: u64,
+    which: &mut u64,
+    answer: &mut u64,
+) -> u32
+    requires { ⌜ OpenStore (now words) (now index) (now memory) ⌝ }
+    ensures { λ r. ⌜ CodedWhich (run (int-value a) (now (words .entry))) r (now (words .entry)) (now (which .entry)) (now (which .exit)) (now (answer .entry)) (now (answer .exit)) ⌝ }
+    ensures { λ _. ⌜ OpenStore (now (words .entry)) (now (index .entry)) (now (memory .exit)) ⌝ }
+{
+    codes::opened_ask_which(
+        &*words,
+        &*index,
+        memory,
+        Asking::Int(OfInt::Value, a),
+        which,
+        answer,
+    )
+}
+
+#[no_mangle]
+pub extern "C" fn ferigulan_opened_int_mask(
+    words: &[u64],
+    index: &[u64],
+    memory: &mut [u64],
+    a: u64,
+    answer: &mut u64,
+) -> u32
+    requires { ⌜ OpenStore (now words) (now index) (now memory) ⌝ }
+    ensures { λ r. ⌜ Coded (run (int-mask a) (now (words .entry))) r (now (words .entry)) (now (answer .entry)) (now (answer .exit)) ⌝ }
+    ensures { λ _. ⌜ OpenStore (now (words .entry)) (now (index .entry)) (now (memory .exit)) ⌝ }
+{
+    codes::opened_ask(
+        &*words,
+        &*index,
+        memory,
+        Asking::Int(OfInt::Mask, a),
+        answer,
+    )
+}
+
+#[no_mangle]
+pub extern "C" fn ferigulan_opened_float_sz(
+    words: &[u64],
+    index: &[u64],
+    memory: &mut [u64],
+    a: u64,
+    answer: &mut u64,
+) -> u32
+    requires { ⌜ OpenStore (now words) (now index) (now memory) ⌝ }
+    ensures { λ r. ⌜ Coded (run (float-sz a) (now (words .entry))) r (now (words .entry)) (now (answer .entry)) (now (answer .exit)) ⌝ }
+    ensures { λ _. ⌜ OpenStore (now (words .entry)) (now (index .entry)) (now (memory .exit)) ⌝ }
+{
+    codes::opened_ask(
+        &*words,
+        &*index,
+        memory,
+        Asking::Float(OfFloat::Sz, a),
+        answer,
+    )
+}
+
+#[no_mangle]
+pub extern "C" fn ferigulan_opened_float_is_f32(
+    words: &[u64],
+    index: &[u64],
+    memory: &mut [u64],
+    a: u64,
+    answer: &mut u64,
+) -> u32
+    requires { ⌜ OpenStore (now words) (now index) (now memory) ⌝ }
+    ensures { λ r. ⌜ Coded (run (float-is-f32 a) (now (words .entry))) r (now (words .entry)) (now (answer .entry)) (now (answer .exit)) ⌝ }
+    ensures { λ _. ⌜ OpenStore (now (words .entry)) (now (index .entry)) (now (memory .exit)) ⌝ }
+{
+    codes::opened_ask(
+        &*words,
+        &*index,
+        memory,
+        Asking::Float(OfFloat::IsF32, a),
+        answer,
+    )
+}
+
+#[no_mangle]
+pub extern "C" fn ferigulan_opened_float_value(
+    words: &[u64],
+    index: &[u64],
+    memory: &mut [u64],
+    a: u64,
+    which: &mut u64,
+    answer: &mut u64,
+) -> u32
+    requires { ⌜ OpenStore (now words) (now index) (now memory) ⌝ }
+    ensures { λ r. ⌜ CodedWhich (run (float-value a) (now (words .entry))) r (now (words .entry)) (now (which .entry)) (now (which .exit)) (now (answer .entry)) (now (answer .exit)) ⌝ }
+    ensures { λ _. ⌜ OpenStore (now (words .entry)) (now (index .entry)) (now (memory .exit)) ⌝ }
+{
+    codes::opened_ask_which(
+        &*words,
+        &*index,
+        memory,
+        Asking::Float(OfFloat::Value, a),
+        which,
+        answer,
+    )
+}
+
+#[no_mangle]
+pub extern "C" fn ferigulan_opened_float_reading(
+    words: &[u64],
+    index: &[u64],
+    memory: &mut [u64],
+    a: u64,
+    which: &mut u64,
+    answer: &mut u64,
+) -> u32
+    requires { ⌜ OpenStore (now words) (now index) (now memory) ⌝ }
+    ensures { λ r. ⌜ CodedWhich (run (float-reading a) (now (words .entry))) r (now (words .entry)) (now (which .entry)) (now (which .exit)) (now (answer .entry)) (now (answer .exit)) ⌝ }
+    ensures { λ _. ⌜ OpenStore (now (words .entry)) (now (index .entry)) (now (memory .exit)) ⌝ }
+{
+    codes::opened_ask_which(
+        &*words,
+        &*index,
+        memory,
+        Asking::Float(OfFloat::Reading, a),
+        which,
+        answer,
+    )
+}
+
+#[no_mangle]
+pub extern "C" fn ferigulan_opened_struct_name(
+    words: &[u64],
+    index: &[u64],
+    memory: &mut [u64],
+    s: u64,
+    answer: &mut u64,
+) -> u32
+    requires { ⌜ OpenStore (now words) (now index) (now memory) ⌝ }
+    ensures { λ r. ⌜ Coded (run (struct-name s) (now (words .entry))) r (now (words .entry)) (now (answer .entry)) (now (answer .exit)) ⌝ }
+    ensures { λ _. ⌜ OpenStore (now (words .entry)) (now (index .entry)) (now (memory .exit)) ⌝ }
+{
+    codes::opened_ask(
+        &*words,
+        &*index,
+        memory,
+        Asking::Struct(OfStruct::Name, s),
+        answer,
+    )
+}
+
+#[no_mangle]
+pub extern "C" fn ferigulan_opened_struct_fields(
+    words: &[u64],
+    index: &[u64],
+    memory: &mut [u64],
+    s: u64,
+    output: &mut [u64],
+    answer: &mut u64,
+) -> u32
+    requires { ⌜ OpenStore (now words) (now index) (now memory) ⌝ }
+    ensures { λ r. ⌜ Coded (run (struct-fields s (length (now (output .entry)))) (now (words .entry))) r (now (words .entry)) (now (answer .entry)) (now (answer .exit)) ⌝ }
+    ensures { λ _. ⌜ now (output .exit) ≡ structFieldsOutput s (now (words .entry)) (now (output .entry)) ⌝ }
+    ensures { λ _. ⌜ OpenStore (now (words .entry)) (now (index .entry)) (now (memory .exit)) ⌝ }
+{
+    codes::opened_fill(&*words, &*index, memory, Filling::Fields, s, output, answer)
+}
+
+#[no_mangle]
+pub extern "C" fn ferigulan_opened_find(
+    words: &[u64],
+    index: &[u64],
+    memory: &mut [u64],
+    s: u64,
+    name: u64,
+    which: &mut u64,
+    answer: &mut u64,
+) -> u32
+    requires { ⌜ OpenStore (now words) (now index) (now memory) ⌝ }
+    ensures { λ r. ⌜ CodedWhich (run (find s name) (now (words .entry))) r (now (words .entry)) (now (which .entry)) (now (which .exit)) (now (answer .entry)) (now (answer .exit)) ⌝ }
+    ensures { λ _. ⌜ OpenStore (now (words .entry)) (now (index .entry)) (now (memory .exit)) ⌝ }
+{
+    codes::opened_ask_which(
+        &*words,
+        &*index,
+        memory,
+        Asking::Struct(OfStruct::Find(name), s),
+        which,
+        answer,
+    )
+}
+
+#[no_mangle]
+pub extern "C" fn ferigulan_opened_find_alias(
+    words: &[u64],
+    index: &[u64],
+    memory: &mut [u64],
+    s: u64,
+    alias: u64,
+    which: &mut u64,
+    answer: &mut u64,
+) -> u32
+    requires { ⌜ OpenStore (now words) (now index) (now memory) ⌝ }
+    ensures { λ r. ⌜ CodedWhich (run (find-alias s alias) (now (words .entry))) r (now (words .entry)) (now (which .entry)) (now (which .exit)) (now (answer .entry)) (now (answer .exit)) ⌝ }
+    ensures { λ _. ⌜ OpenStore (now (words .entry)) (now (index .entry)) (now (memory .exit)) ⌝ }
+{
+    codes::opened_ask_which(
+        &*words,
+        &*index,
+        memory,
+        Asking::Struct(OfStruct::FindAlias(alias), s),
+        which,
+        answer,
+    )
+}
+
+#[no_mangle]
+pub extern "C" fn ferigulan_opened_is_ary(
+    words: &[u64],
+    index: &[u64],
+    memory: &mut [u64],
+    s: u64,
+    answer: &mut u64,
+) -> u32
+    requires { ⌜ OpenStore (now words) (now index) (now memory) ⌝ }
+    ensures { λ r. ⌜ Coded (run (is-ary s) (now (words .entry))) r (now (words .entry)) (now (answer .entry)) (now (answer .exit)) ⌝ }
+    ensures { λ _. ⌜ OpenStore (now (words .entry)) (now (index .entry)) (now (memory .exit)) ⌝ }
+{
+    codes::opened_ask(
+        &*words,
+        &*index,
+        memory,
+        Asking::Struct(OfStruct::IsAry, s),
+        answer,
+    )
+}
+
+#[no_mangle]
+pub extern "C" fn ferigulan_opened_offset(
+    words: &[u64],
+    index: &[u64],
+    memory: &mut [u64],
+    s: u64,
+    i: u64,
+    answer: &mut u64,
+) -> u32
+    requires { ⌜ OpenStore (now words) (now index) (now memory) ⌝ }
+    ensures { λ r. ⌜ Coded (run (offset s i) (now (words .entry))) r (now (words .entry)) (now (answer .entry)) (now (answer .exit)) ⌝ }
+    ensures { λ _. ⌜ OpenStore (now (words .entry)) (now (index .entry)) (now (memory .exit)) ⌝ }
+{
+    codes::opened_ask(
+        &*words,
+        &*index,
+        memory,
+        Asking::Struct(OfStruct::Offset(i), s),
+        answer,
+    )
+}
+
+#[no_mangle]
+pub extern "C" fn ferigulan_opened_offsets(
+    words: &[u64],
+    index: &[u64],
+    memory: &mut [u64],
+    s: u64,
+    output: &mut [u64],
+    answer: &mut u64,
+) -> u32
+    requires { ⌜ OpenStore (now words) (now index) (now memory) ⌝ }
+    ensures { λ r. ⌜ Coded (run (offsets s (length (now (output .entry)))) (now (words .entry))) r (now (words .entry)) (now (answer .entry)) (now (answer .exit)) ⌝ }
+    ensures { λ _. ⌜ now (output .exit) ≡ offsetsOutput s (now (words .entry)) (now (output .entry)) ⌝ }
+    ensures { λ _. ⌜ OpenStore (now (words .entry)) (now (index .entry)) (now (memory .exit)) ⌝ }
+{
+    codes::opened_fill(
+        &*words,
+        &*index,
+        memory,
+        Filling::Offsets,
+        s,
+        output,
+        answer,
+    )
+}
+
+#[no_mangle]
+pub extern "C" fn ferigulan_opened_ary_base(
+    words: &[u64],
+    index: &[u64],
+    memory: &mut [u64],
+    s: u64,
+    answer: &mut u64,
+) -> u32
+    requires { ⌜ OpenStore (now words) (now index) (now memory) ⌝ }
+    ensures { λ r. ⌜ Coded (run (ary-base s) (now (words .entry))) r (now (words .entry)) (now (answer .entry)) (now (answer .exit)) ⌝ }
+    ensures { λ _. ⌜ OpenStore (now (words .entry)) (now (index .entry)) (now (memory .exit)) ⌝ }
+{
+    codes::opened_ask(
+        &*words,
+        &*index,
+        memory,
+        Asking::Struct(OfStruct::AryBase, s),
+        answer,
+    )
+}
+
+#[no_mangle]
+pub extern "C" fn ferigulan_opened_ary_scale(
+    words: &[u64],
+    index: &[u64],
+    memory: &mut [u64],
+    s: u64,
+    answer: &mut u64,
+) -> u32
+    requires { ⌜ OpenStore (now words) (now index) (now memory) ⌝ }
+    ensures { λ r. ⌜ Coded (run (ary-scale s) (now (words .entry))) r (now (words .entry)) (now (answer .entry)) (now (answer .exit)) ⌝ }
+    ensures { λ _. ⌜ OpenStore (now (words .entry)) (now (index .entry)) (now (memory .exit)) ⌝ }
+{
+    codes::opened_ask(
+        &*words,
+        &*index,
+        memory,
+        Asking::Struct(OfStruct::AryScale, s),
+        answer,
+    )
 }

@@ -127,7 +127,7 @@ fn list(words: &mut [u64], n: u64, value: u64) -> Reply {
     if words.len() as u64 != n {
         return Reply::Malformed;
     }
-    fill(words, value);
+    replies::fill(words, value);
     Reply::Short(Answer::Accepted)
 }
 
@@ -135,7 +135,7 @@ fn fresh(words: &mut [u64], n: u64) -> Reply {
     if words.len() as u64 != n {
         return Reply::Malformed;
     }
-    fill(words, 0);
+    replies::fill(words, 0);
     done(fresh_store::fresh(words))
 }
 
@@ -145,14 +145,6 @@ fn poke(words: &mut [u64], i: u64, value: u64) -> Reply {
     }
     words[i as usize] = value;
     Reply::Short(Answer::Accepted)
-}
-
-fn fill(words: &mut [u64], value: u64) {
-    let mut i: usize = 0;
-    while i < words.len() {
-        words[i] = value;
-        i += 1;
-    }
 }
 
 // ---- lines that read

@@ -7,6 +7,7 @@ use lib.ListN.{take}
 use Rattle.words.specs.Ran.{Ran}
 use Rattle.words.specs.declared.Interned.{Interned}
 use Rattle.lent_memory.specs.Memory.{Right, RightThen}
+use Rattle.lent_memory.proofs.Laws.{then-kept}
 use Rattle.every_call.specs.Run.{typed}
 use Rattle.making.specs.declared.Making.{Making}
 use Rattle.making.specs.Making.{appended, rowsOf, opOf}
@@ -14,7 +15,6 @@ use Rattle.every_call.specs.Cleared.{Cleared}
 use Rattle.every_call.proofs.Cleared.{segments}
 use Rattle.making.proofs.As.{as-ran, as-typed}
 use Rattle.making.proofs.Grows.{making-grows}
-use Rattle.making.proofs.Kept.{right-grown}
 
 module _ {m n : Making} (is : m ≡ n) (list text : List ℕ) {old new new′ memory : List ℕ} {used : ℕ} {r : Interned} where
   -- a maker, which asks no memory
@@ -22,7 +22,7 @@ module _ {m n : Making} (is : m ≡ n) (list text : List ℕ) {old new new′ me
       → Ran used (opOf m list text (take used (old ++ new))) (old ++ new) (old ++ new′) r × (RightThen old new′ r memory × (typed (appended m list text) ≡ true))
   made-arm c right ran t =
       let run = as-ran is list text (take used (old ++ new)) ran in
-      (run, (right-grown (segments c) right (opOf m list text (take used (old ++ new))) (making-grows m list text (take used (old ++ new))) run, as-typed is list text t))
+      (run, (then-kept (segments c) right (opOf m list text (take used (old ++ new))) (making-grows m list text (take used (old ++ new))) new′ run, as-typed is list text t))
 
 -- an operation that says itself what it leaves of the memory
 pub answered-arm : {m n : Making} → m ≡ n → (list text u : List ℕ) {used : ℕ} {ws ws′ old new′ memory : List ℕ} {r : Interned} → Ran used (opOf n list text u) ws ws′ r → RightThen old new′ r memory → typed (appended n list text) ≡ true

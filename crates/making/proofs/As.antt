@@ -33,6 +33,7 @@ appended-is (Making-variants.Walk Dual a) list text ws = refl
 appended-is (Making-variants.Walk Glb a) list text ws = refl
 appended-is (Making-variants.Walk Lub a) list text ws = refl
 appended-is (Making-variants.MakeRo a) list text ws = refl
+appended-is (Making-variants.NonZero a) list text ws = refl
 
 module _ {m n : Making} (is : m ≡ n) (list text : List ℕ) where
   pub as-rows : (u : List ℕ) {x : ℕ} → x ≡ rowsOf n list text u → x ≡ rowsOf m list text u

@@ -15,6 +15,7 @@ use Rattle.walk.proofs.Grows.{walk-grows}
 use Rattle.join.specs.Join.{joinWith, joinOf}
 use Rattle.join.proofs.Steps.{with-grows}
 use Rattle.make_ro.proofs.Grows.{make-ro-grows}
+use Rattle.every_call.proofs.NonZero.{non-zero-grows}
 use Rattle.making.specs.declared.Making.{Making}
 use Rattle.making.specs.declared.Making.the-variants as Making-variants
 use Rattle.making.specs.Making.{opOf}
@@ -51,3 +52,4 @@ making-grows (Making-variants.Meet a b) list text u = meet-grows (suc (max a b))
 making-grows (Making-variants.Join a b) list text u = join-grows u a b
 making-grows (Making-variants.Walk walk a) list text u = walk-grows walk (suc a) u a
 making-grows (Making-variants.MakeRo a) list text u = make-ro-grows (suc a) u a
+making-grows (Making-variants.NonZero a) list text u = non-zero-grows u a

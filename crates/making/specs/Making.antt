@@ -19,6 +19,7 @@ use Rattle.walk_rules.specs.declared.Walk.the-variants.{Dual, Glb, Lub}
 use Rattle.walk.specs.Walk.{walkOf}
 use Rattle.join.specs.Join.{joinOf}
 use Rattle.make_ro.specs.ReadOnly.{makeRoOf}
+use Rattle.every_call.specs.NonZero.{nonZeroOf}
 use Rattle.every_call.specs.Run as Run
 use Rattle.making.specs.declared.Making.{Making}
 use Rattle.making.specs.declared.Making.the-variants as Making-variants
@@ -30,19 +31,20 @@ walked Lub a = Run.lub a
 
 -- the call that a value is, with its lists
 abbrev pub appended : Making → List ℕ → List ℕ → Run.Call
-appended (Making-variants.MakeInt min max) list text = Run.make_int min max
-appended (Making-variants.MakeFloat sz bits) list text = Run.make_float sz bits
-appended Making-variants.GetStr list text = Run.get_str text
-appended Making-variants.GetTuple list text = Run.get_tuple list
-appended (Making-variants.GetStruct name) list text = Run.get_struct name list
-appended (Making-variants.MakeAry len lenAlias body bodyAlias) list text = Run.make_ary len lenAlias body bodyAlias text
-appended (Making-variants.MakeStructFref name) list text = Run.make_struct_fref name
-appended (Making-variants.GetMemPtr to nil) list text = Run.get_mem_ptr to nil
-appended (Making-variants.GetMem alias t) list text = Run.get_mem alias t
+appended (Making-variants.MakeInt min max) list text = Run.make-int min max
+appended (Making-variants.MakeFloat sz bits) list text = Run.make-float sz bits
+appended Making-variants.GetStr list text = Run.get-str text
+appended Making-variants.GetTuple list text = Run.get-tuple list
+appended (Making-variants.GetStruct name) list text = Run.get-struct name list
+appended (Making-variants.MakeAry len lenAlias body bodyAlias) list text = Run.make-ary len lenAlias body bodyAlias text
+appended (Making-variants.MakeStructFref name) list text = Run.make-struct-fref name
+appended (Making-variants.GetMemPtr to nil) list text = Run.get-mem-ptr to nil
+appended (Making-variants.GetMem alias t) list text = Run.get-mem alias t
 appended (Making-variants.Meet a b) list text = Run.meet a b
 appended (Making-variants.Join a b) list text = Run.join a b
 appended (Making-variants.Walk walk a) list text = walked walk a
-appended (Making-variants.MakeRo a) list text = Run.make_ro a
+appended (Making-variants.MakeRo a) list text = Run.make-ro a
+appended (Making-variants.NonZero a) list text = Run.non-zero a
 
 -- its rows, past row 1 and before row 12
 abbrev pub rowsOf : Making → List ℕ → List ℕ → List ℕ → ℕ
@@ -59,6 +61,7 @@ rowsOf (Making-variants.Meet a b) list text = typesRows (a ∷ b ∷ [])
 rowsOf (Making-variants.Join a b) list text = typesRows (a ∷ b ∷ [])
 rowsOf (Making-variants.Walk walk a) list text = typesRows (a ∷ [])
 rowsOf (Making-variants.MakeRo a) list text = typesRows (a ∷ [])
+rowsOf (Making-variants.NonZero a) list text = typesRows (a ∷ [])
 
 -- its operation
 abbrev pub opOf : Making → List ℕ → List ℕ → List ℕ → Grown
@@ -75,3 +78,4 @@ opOf (Making-variants.Meet a b) list text = λ u. meetOf u a b
 opOf (Making-variants.Join a b) list text = λ u. joinOf u a b
 opOf (Making-variants.Walk walk a) list text = λ u. walkOf walk u a
 opOf (Making-variants.MakeRo a) list text = λ u. makeRoOf u a
+opOf (Making-variants.NonZero a) list text = λ u. nonZeroOf u a

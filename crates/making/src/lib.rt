@@ -38,6 +38,7 @@ pub enum Making {
     Join(u64, u64),
     Walk(Walk, u64),
     MakeRo(u64),
+    NonZero(u64),
 }
 
 // ---- rows
@@ -88,6 +89,7 @@ pub fn rows_of(
         Making::Join(a, b) => rows::types_rows(&*words, used, &*bits, &[a, b]),
         Making::Walk(_, a) => rows::types_rows(&*words, used, &*bits, &[a]),
         Making::MakeRo(a) => rows::types_rows(&*words, used, &*bits, &[a]),
+        Making::NonZero(a) => rows::types_rows(&*words, used, &*bits, &[a]),
     }
 }
 
@@ -147,6 +149,7 @@ pub fn operate(
         Making::MakeRo(a) => {
             lent_memory::make_ro(&*old, new, used, a as usize, scratch, memory, &*index)
         }
+        Making::NonZero(a) => { non_zero::non_zero(&*old, new, used, a as usize, memory, &*index) }
     }
 }
 

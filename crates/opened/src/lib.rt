@@ -6,6 +6,8 @@ use call::Answer;
 use call::Done;
 use call::Made;
 use making::Making;
+use struct_calls::Filling;
+use struct_calls::OfStruct;
 ghost use mathlib.Core.Path.{_≡_};
 ghost use mathlib.Core.Bool.{true};
 ghost use mathlib.Core.List.{[]};
@@ -18,7 +20,7 @@ ghost use Rattle.wellformed.specs.Form.{wellFormed, longestAllowed};
 ghost use Rattle.call.specs.Call.{left, made, told, done};
 ghost use Rattle.every_call.specs.Run.{run};
 ghost use Rattle.making.specs.Making.{appended};
-ghost use Rattle.asking.specs.Asking.{asked};
+ghost use Rattle.asking.specs.Asking.{askedFilling, asked, outputOf};
 ghost use Rattle.opened.specs.OpenStore.{marksSize, IndexOf, OpenStore, openReply, Opening};
 ghost use Rattle.opened.specs.Steps.{Stale};
 
@@ -143,4 +145,25 @@ pub fn ask(words: &[u64], index: &[u64], memory: &mut [u64], asking: Asking) -> 
     }
     let mut none = [0u64; 0];
     asking::tell(&*words, used, asking, &mut none, memory, &index[k..])
+}
+
+// A call that fills a lent output.
+pub fn fill(
+    words: &[u64],
+    index: &[u64],
+    memory: &mut [u64],
+    filling: Filling,
+    s: u64,
+    output: &mut [u64],
+) -> Answer
+    requires { ⌜ OpenStore (now words) (now index) (now memory) ⌝ }
+    ensures { λ r. ⌜ left (told r) (now (words .entry)) ≡ run (askedFilling filling s (length (now (output .entry)))) (now (words .entry)) ⌝ }
+    ensures { λ _. ⌜ now (output .exit) ≡ outputOf filling s (now (words .entry)) (now (output .entry)) ⌝ }
+    ensures { λ _. ⌜ OpenStore (now (words .entry)) (now (index .entry)) (now (memory .exit)) ⌝ }
+{
+    let n = output.len() as u64;
+    let asking = Asking::Struct(OfStruct::Fill(filling, n), s);
+    let answer = ask(&*words, &*index, memory, asking);
+    asking::fill(&*words, filling, s, answer, output);
+    answer
 }

@@ -4,6 +4,8 @@ use asking::Asking;
 use call::Answer;
 use call::Made;
 use making::Making;
+use struct_calls::Filling;
+use struct_calls::OfStruct;
 ghost use mathlib.Core.Path.{_≡_};
 ghost use mathlib.Core.List.{[]};
 ghost use Prim.Native.Nat.{_*_, _≤_, min};
@@ -11,7 +13,7 @@ ghost use lib.ListN.{length};
 ghost use Rattle.call.specs.Call.{left, made, told};
 ghost use Rattle.every_call.specs.Run.{run};
 ghost use Rattle.making.specs.Making.{appended};
-ghost use Rattle.asking.specs.Asking.{asked};
+ghost use Rattle.asking.specs.Asking.{askedFilling, asked, outputOf};
 ghost use Rattle.wellformed.specs.Form.{longestAllowed};
 ghost use Rattle.bitset.specs.Bitset.{wordBits};
 
@@ -88,4 +90,15 @@ pub fn ask(words: &[u64], asking: Asking) -> Answer
     }
     let mut bits = [0u64; wellformed::LARGE_MARKS];
     ask_in(words, &mut bits, asking)
+}
+
+// A call that fills a lent output.
+pub fn fill(words: &[u64], filling: Filling, s: u64, output: &mut [u64]) -> Answer
+    ensures { λ r. ⌜ left (told r) (now (words .entry)) ≡ run (askedFilling filling s (length (now (output .entry)))) (now (words .entry)) ⌝ }
+    ensures { λ _. ⌜ now (output .exit) ≡ outputOf filling s (now (words .entry)) (now (output .entry)) ⌝ }
+{
+    let n = output.len() as u64;
+    let answer = ask(words, Asking::Struct(OfStruct::Fill(filling, n), s));
+    asking::fill(words, filling, s, answer, output);
+    answer
 }

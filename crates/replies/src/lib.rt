@@ -61,5 +61,18 @@ pub fn told(answer: call::Answer) -> Reply {
         call::Answer::Number(n) => Reply::Short(Answer::Number(n)),
         call::Answer::Flag(yes) => flag(yes),
         call::Answer::Refused(n) => Reply::Short(Answer::Refused(n)),
+        call::Answer::Signed(w) => Reply::Short(Answer::Signed(w)),
+        call::Answer::Absent => Reply::Short(Answer::Absent),
+        call::Answer::Constant(bits) => Reply::Short(Answer::Constant(bits)),
+        call::Answer::Size(w) => Reply::Short(Answer::Size(w)),
+    }
+}
+
+// Puts a value into every word of a list.
+pub fn fill(words: &mut [u64], value: u64) {
+    let mut i: usize = 0;
+    while i < words.len() {
+        words[i] = value;
+        i += 1;
     }
 }

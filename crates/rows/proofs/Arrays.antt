@@ -25,15 +25,15 @@ bracketed text = omega (arith, length-append text (93 ∷ []))
 
 -- ---- never_nil
 
--- past the used words there is no pointer
-pub pointer-inside : (ws : List ℕ) (used body k : ℕ) → used ≤ length ws → k ≡ kindOn (take used ws) body → k ≡ 10 → body < used
-pointer-inside ws used body k within is e = go (decLt body used)
+-- past the used words there is no kind but a name's
+pub kind-inside : (ws : List ℕ) (used h k : ℕ) → used ≤ length ws → k ≡ kindOn (take used ws) h → 0 < k → h < used
+kind-inside ws used h k within is some = go (decLt h used)
   where
-    go : Dec (body < used) → body < used
-    go (yes h) = h
-    go (no h) =
-        let out : length (take used ws) ≤ body = omega (arith, length-take-le used ws within) in
-        let z : word (take used ws) body ≡ 0 = List·getD-eq-default (take used ws) 0 out in
+    go : Dec (h < used) → h < used
+    go (yes l) = l
+    go (no l) =
+        let out : length (take used ws) ≤ h = omega (arith, length-take-le used ws within) in
+        let z : word (take used ws) h ≡ 0 = List·getD-eq-default (take used ws) 0 out in
         let n : k ≡ 0 = is ∙ rw z in
         absurd (omega arith)
 

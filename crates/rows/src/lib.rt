@@ -219,7 +219,7 @@ pub fn struct_rows(words: &[u64], used: usize, bits: &[u64], name: u64, fields: 
 // ---- arrays
 
 // Whether the body is a pointer without nil.
-fn never_nil(words: &[u64], used: usize, body: u64) -> bool
+pub fn never_nil(words: &[u64], used: usize, body: u64) -> bool
     requires { ⌜ used ≤ length (now words) ⌝ }
     ensures { λ r. ⌜ r ≡ neverNil (take used (now (words .entry))) body ⌝ }
 {

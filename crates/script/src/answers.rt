@@ -14,6 +14,10 @@ pub enum Answer {
     No,
     Absent,
     Accepted,
+    // a constant's bits
+    Constant(u64),
+    // a size alone, as a two's complement word
+    Size(u64),
 }
 
 // Puts an answer's line, its end included, at the start of out, and answers how many bytes it has.
@@ -23,29 +27,32 @@ pub fn spell(answer: Answer, out: &mut [u8]) -> usize
 {
     match answer {
         Answer::Number(n) => put_line(b"", n, out),
-        Answer::Signed(w) => put_signed(w, out),
+        Answer::Signed(w) => put_signed(b"=", b"=-", w, out),
         Answer::Refused(n) => put_line(b"-", wide(n), out),
         Answer::Yes => bytes::copy(b"1\n", out),
         Answer::No => bytes::copy(b"0\n", out),
         Answer::Absent => bytes::copy(b"absent\n", out),
         Answer::Accepted => bytes::copy(b"ok\n", out),
+        Answer::Constant(bits) => put_line(b"constant ", bits, out),
+        Answer::Size(w) => put_signed(b"size =", b"size =-", w, out),
     }
 }
 
-// A two's complement word as a signed number's line.
-fn put_signed(word: u64, out: &mut [u8]) -> usize
+// A two's complement word as a signed number's line: what stands before a number that is not negative, and before the magnitude of one that is.
+fn put_signed(plus: &[u8], minus: &[u8], word: u64, out: &mut [u8]) -> usize
+    requires { ⌜ (length (now plus) ≤ 11) × (length (now minus) ≤ 11) ⌝ }
     requires { ⌜ 32 ≤ length (now out) ⌝ }
     ensures { λ r. ⌜ r ≤ length (now (out .exit)) ⌝ }
 {
     if word < 0x8000_0000_0000_0000 {
-        return put_line(b"=", word, out);
+        return put_line(plus, word, out);
     }
-    put_line(b"=-", u64::MAX - word + 1, out)
+    put_line(minus, u64::MAX - word + 1, out)
 }
 
 // A line of a few bytes and a number.
 fn put_line(before: &[u8], n: u64, out: &mut [u8]) -> usize
-    requires { ⌜ length (now before) ≤ 2 ⌝ }
+    requires { ⌜ length (now before) ≤ 11 ⌝ }
     requires { ⌜ 32 ≤ length (now out) ⌝ }
     ensures { λ r. ⌜ r ≤ length (now (out .exit)) ⌝ }
 {

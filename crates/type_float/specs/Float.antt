@@ -3,7 +3,6 @@ use Prim.Native.Nat.{ℕ}
 use mathlib.Core.Bool.{Bool, cond, _||_}
 use lib.IntN.{ℤ, pos, natAbs, _+ℤ_, _-ℤ_}
 use lib.Dec.{eqb}
-use lib.Ieee.{Float as F64, binary64, ofBits}
 use Rattle.type_float.specs.declared.Float.{Float}
 use Rattle.type_float.specs.declared.Reading.{Reading}
 use Rattle.type_float.specs.declared.Reading.the-variants.{Constant, Sized}
@@ -31,8 +30,3 @@ isSize sz = eqb (natAbs sz) 0 || eqb (natAbs sz) 32 || eqb (natAbs sz) 64
 -- "A reading of a float is a constant with its value, or a size alone"; a constant has size 0
 abbrev pub readingOf : Float → Reading
 readingOf f = cond (eqb (natAbs (f .sz)) 0) (Constant (f .con)) (Sized (f .sz))
-
--- for the functions alone: a constant's value, and 0.0 for a size
-abbrev pub valueOf : Reading → F64
-valueOf (Constant x) = x
-valueOf (Sized sz) = ofBits binary64 0

@@ -3,7 +3,7 @@
 ghost use mathlib.Core.Path.{_≡_};
 ghost use mathlib.Core.Bool.{true};
 ghost use lib.Ieee.{nanBits, binary64, ofBits};
-ghost use Rattle.type_float.specs.Float.{sizeFrom, wordOf, isSizeWord, isSize, readingOf, valueOf};
+ghost use Rattle.type_float.specs.Float.{sizeFrom, wordOf, isSizeWord, isSize, readingOf};
 ghost use Rattle.type_float.specs.Single.{isSingle};
 
 // An entry keeps a float's size plus 64.
@@ -76,16 +76,6 @@ pub fn reading_of(f: Float) -> Reading
         return Reading::Constant(f.con);
     }
     Reading::Sized(f.sz)
-}
-
-// The constant that was read, and 0.0 for a size.
-pub fn value_of(r: Reading) -> f64
-    ensures { λ x. ⌜ x ≡ valueOf r ⌝ }
-{
-    match r {
-        Reading::Constant(x) => x,
-        Reading::Sized(_) => 0.0,
-    }
 }
 
 // Whether binary32 holds the value of the double with these bits: by the exponent's field x and the digits t.

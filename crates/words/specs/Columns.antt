@@ -98,6 +98,9 @@ nextField p = p + fieldSize
 abbrev pub fieldNameAt : List ℕ → ℕ → ℕ
 fieldNameAt u p = word u p
 
+abbrev pub fieldTypeAt : List ℕ → ℕ → ℕ
+fieldTypeAt u p = word u (p + 1)
+
 abbrev pub flagsAt : List ℕ → ℕ → ℕ
 flagsAt u p = word u (p + 2)
 

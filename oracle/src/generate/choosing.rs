@@ -2,11 +2,11 @@
 
 use super::{Generator, MOST_VISITS};
 use crate::steps::Arg;
-use crate::store::{Entry, Store};
+use crate::store::{Entry, Store, SHORTEST};
 use original::sea_of_nodes::types::{Field, Ty, Type};
 
-impl<'t> Generator<'_, 't, '_> {
-    pub(super) fn store(&self) -> &Store<'_, 't> {
+impl<'a, 't> Generator<'a, 't, '_> {
+    pub(super) fn store(&self) -> &Store<'a, 't> {
         self.runner.session.store().expect("a list's calls are made in a store")
     }
 
@@ -29,6 +29,13 @@ impl<'t> Generator<'_, 't, '_> {
 
     pub(super) fn name(&mut self) -> Arg {
         let place = self.one(|entry| entry.kind == 0);
+        self.origins[place]
+    }
+
+    /// A type of one of these kinds, now and then one of the fresh store's, some of which have answers of their own.
+    pub(super) fn of_kind(&mut self, kinds: &[u8]) -> Arg {
+        let from_fresh = self.random.percent(15);
+        let place = self.one(|entry| kinds.contains(&entry.kind) && (entry.handle < SHORTEST as u64 || !from_fresh));
         self.origins[place]
     }
 

@@ -1,5 +1,5 @@
 -- `codes::fresh` meets its contract.
-use Rattle.codes.proofs.Told.{coded}
+use Rattle.codes.proofs.Told.{coded-done}
 use borrow.Author.Needs.{needs}
 use Rattle.codes.proofs.fresh.Statement.{statement}
 use Rattle.codes.proofs.fresh.Tie as tie
@@ -14,7 +14,7 @@ same-length : tie.Need-same-length
 same-length c = search needs
 
 returns : tie.Need-returns
-returns c = search coded
+returns c = search coded-done
 
 pub fresh-spec : {M : Type 1} → statement M
 fresh-spec = tie.close (tie.spec fresh-requires of-done-requires same-length returns)

@@ -1,11 +1,13 @@
 -- `codes::of_made` meets its contract.
-use Rattle.codes.proofs.Told.{made-refused}
 use borrow.Author.Needs.{needs}
 use Rattle.codes.proofs.of_made.Statement.{statement}
 use Rattle.codes.proofs.of_made.Tie as tie
 
 enum-known-m : tie.Need-enum-known-m
 enum-known-m c = search needs
+
+tell-requires : tie.Need-tell-requires
+tell-requires c κs = search needs
 
 enum-known-m-2 : tie.Need-enum-known-m-2
 enum-known-m-2 c = search needs
@@ -17,7 +19,7 @@ returns : tie.Need-returns
 returns c = search needs
 
 returns-2 : tie.Need-returns-2
-returns-2 c = search made-refused
+returns-2 c = search needs
 
 pub of-made-spec : {M : Type 1} → statement M
-of-made-spec = tie.close (tie.spec enum-known-m enum-known-m-2 refusal-requires returns returns-2)
+of-made-spec = tie.close (tie.spec enum-known-m tell-requires enum-known-m-2 refusal-requires returns returns-2)

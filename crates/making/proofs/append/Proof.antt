@@ -4,7 +4,8 @@ use native.Mathlib.Omega.{arith}
 use Rattle.call.proofs.Ways.{begun, ended}
 use Rattle.making.proofs.As.{appended-is}
 use Rattle.making.proofs.Grows.{making-grows}
-use Rattle.making.proofs.Kept.{whole, kept-call}
+use Rattle.every_call.proofs.Cleared.{whole}
+use Rattle.making.proofs.Kept.{kept-call}
 use borrow.Author.Needs.{needs}
 use Rattle.making.proofs.append.Statement.{statement}
 use Rattle.making.proofs.append.Tie as tie

@@ -1,7 +1,7 @@
 -- A call that reads, on an opened store.
 use mathlib.Core.Path.{sym, _∙_}
 use Rattle.call.proofs.Ways.{begun, read-back, answered}
-use Rattle.making.proofs.Kept.{whole}
+use Rattle.every_call.proofs.Cleared.{whole}
 use Rattle.asking.proofs.As.{asked-is}
 use Rattle.opened.proofs.Index.{marks-long}
 use Rattle.opened.proofs.Store.{first-word, few-words, used-is, used-some, marked-rows, lent-covers}

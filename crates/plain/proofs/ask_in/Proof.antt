@@ -2,7 +2,7 @@
 use mathlib.Core.Path.{sym, _∙_}
 use Rattle.call.proofs.Ways.{begun, unread, read-back, answered}
 use Rattle.lent_memory.proofs.Laws.{right-none}
-use Rattle.making.proofs.Kept.{whole}
+use Rattle.every_call.proofs.Cleared.{whole}
 use Rattle.asking.proofs.As.{asked-is}
 use borrow.Author.Needs.{needs}
 use Rattle.plain.proofs.ask_in.Statement.{statement}

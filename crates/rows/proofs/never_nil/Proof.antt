@@ -1,7 +1,7 @@
 -- `rows::never_nil` meets its contract.
 use denote.Ref.{now}
 use native.Mathlib.Omega.{arith}
-use Rattle.rows.proofs.Arrays.{pointer-inside, no-pointer, a-pointer}
+use Rattle.rows.proofs.Arrays.{kind-inside, no-pointer, a-pointer}
 use borrow.Author.Needs.{needs}
 use Rattle.rows.proofs.never_nil.Statement.{statement}
 use Rattle.rows.proofs.never_nil.Tie as tie
@@ -22,7 +22,7 @@ add-word : tie.Need-add-word
 add-word c =
     let k = c .before .before in
     let s = k .before .before .before in
-    omega (arith, pointer-inside (now (s .args .words)) (s .args .used) (s .args .body) (k .kind-on .result) (s .pre) (k .kind-on .ensures) (c .before .if1 .left))
+    omega (arith, kind-inside (now (s .args .words)) (s .args .used) (s .args .body) (k .kind-on .result) (s .pre) (k .kind-on .ensures) (omega (arith, c .before .if1 .left)))
 
 word-requires : tie.Need-word-requires
 word-requires c κs = search needs

@@ -1,11 +1,12 @@
 -- `dispatch::open_list`: where the list was opened, it is an opened store.
-use Rattle.dispatch.proofs.Lent.{as-long, opened-list}
+use Rattle.dispatch.proofs.Lent.{opened-list}
+use Rattle.call_lines.proofs.Flags.{part-long}
 use borrow.Author.Needs.{needs}
 use Rattle.dispatch.proofs.run.open_list.Statement.{statement}
 use Rattle.dispatch.proofs.run.open_list.Tie as tie
 
 slice-aggregate-open : tie.Need-slice-aggregate-open
-slice-aggregate-open c = as-long (c .before .before .before .before .args .words .now) _ (c .before .before .before .before .pre)
+slice-aggregate-open c = part-long _ (c .before .before .before .before .args .words .now) (c .before .before .before .before .pre)
 
 open-requires : tie.Need-open-requires
 open-requires c κs = search needs

@@ -1,0 +1,21 @@
+-- `codes::opened_ask_which` meets its contract.
+use Rattle.codes.proofs.Told.{coded-which}
+use borrow.Author.Needs.{needs}
+use Rattle.codes.proofs.opened_ask_which.Statement.{statement}
+use Rattle.codes.proofs.opened_ask_which.Tie as tie
+
+ask-requires : tie.Need-ask-requires
+ask-requires c κs = search needs
+
+of-answer-which-requires : tie.Need-of-answer-which-requires
+of-answer-which-requires c κs = search needs
+
+same-length : tie.Need-same-length
+same-length c = search needs
+
+returns : tie.Need-returns
+returns c = (search coded-which, search needs)
+
+pub opened-ask-which-spec : {M : Type 1} → statement M
+opened-ask-which-spec =
+    tie.close (tie.spec ask-requires of-answer-which-requires same-length returns)

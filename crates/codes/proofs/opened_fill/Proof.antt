@@ -1,0 +1,24 @@
+-- `codes::opened_fill` meets its contract.
+use Rattle.codes.proofs.Told.{coded}
+use borrow.Author.Needs.{needs}
+use Rattle.codes.proofs.opened_fill.Statement.{statement}
+use Rattle.codes.proofs.opened_fill.Tie as tie
+
+fill-requires : tie.Need-fill-requires
+fill-requires c κs = search needs
+
+of-answer-requires : tie.Need-of-answer-requires
+of-answer-requires c κs = search needs
+
+same-length : tie.Need-same-length
+same-length c = search needs
+
+same-length-2 : tie.Need-same-length-2
+same-length-2 c = search needs
+
+returns : tie.Need-returns
+returns c = (search coded, (search needs, search needs))
+
+pub opened-fill-spec : {M : Type 1} → statement M
+opened-fill-spec =
+    tie.close (tie.spec fill-requires of-answer-requires same-length same-length-2 returns)

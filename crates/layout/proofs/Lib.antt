@@ -1,0 +1,4 @@
+pub mod Bytes
+pub mod Pass
+pub mod Meaning
+pub mod Examples

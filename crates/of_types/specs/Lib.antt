@@ -1,0 +1,2 @@
+pub mod OfTypes
+pub mod Tells

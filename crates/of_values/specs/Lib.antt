@@ -1,0 +1,3 @@
+pub mod OfValues
+pub mod Read
+pub mod Tells

@@ -1,0 +1,3 @@
+pub mod Callers
+pub mod As
+pub mod Needs
