@@ -1,0 +1,87 @@
+//! The calls as functions over lent words, whatever the words are.
+//!
+//! Every one of them but [`fresh`] and [`well_formed`] tests the whole list first, and is refused with
+//! [`NotWellFormed`](Refusal::NotWellFormed) where the words are not those of a store. [`Store`](crate::Store) has the same calls as methods,
+//! on words that were tested once.
+//!
+//! ```
+//! use ferigulan::{calls, Refusal};
+//!
+//! let mut words = [0; 200];
+//! assert_eq!(calls::make_int(&mut words, 0, 7), Err(Refusal::NotWellFormed));
+//! calls::fresh(&mut words)?;
+//! let low = calls::make_int(&mut words, 0, 7)?;
+//! let eight = calls::get_int(&mut words, 8)?;
+//! let met = calls::meet(&mut words, low, eight)?;
+//! assert_eq!((calls::int_min(&words, met)?, calls::int_max(&words, met)?), (0, 8));
+//! # Ok::<(), Refusal>(())
+//! ```
+use crate::sys;
+use crate::word::{argument, word, Told};
+use crate::{Handle, Kind, Reading, Refusal};
+
+/// Writes a fresh store into the words: the 94 of the fresh types, and 0 behind them.
+///
+/// It tests the length alone, from 94 to 1,048,576, and is refused with [`NotWellFormed`](Refusal::NotWellFormed) where it is another; then
+/// no word has changed.
+///
+/// ```
+/// use ferigulan::{calls, Refusal};
+///
+/// let mut words = [7; 100];
+/// calls::fresh(&mut words)?;
+/// assert!(calls::well_formed(&words));
+/// assert_eq!((words[0], words[99]), (94, 0));
+/// assert_eq!(calls::fresh(&mut words[..93]), Err(Refusal::NotWellFormed));
+/// # Ok::<(), Refusal>(())
+/// ```
+pub fn fresh(words: &mut [u64]) -> Result<(), Refusal> {
+    sys::fresh(words)
+}
+
+/// Whether the words are well formed: those of a store.
+///
+/// ```
+/// use ferigulan::calls;
+///
+/// let mut words = [0; 100];
+/// assert!(!calls::well_formed(&words));
+/// calls::fresh(&mut words)?;
+/// assert!(calls::well_formed(&words));
+/// # Ok::<(), ferigulan::Refusal>(())
+/// ```
+pub fn well_formed(words: &[u64]) -> bool {
+    sys::well_formed(words)
+}
+
+/// How a call is lent the words: to append, or to read.
+macro_rules! lent {
+    (make) => {
+        &mut [u64]
+    };
+    ($reads:ident) => {
+        &[u64]
+    };
+}
+
+macro_rules! plain_calls {
+    ($(
+        $(#[$doc:meta])*
+        $shape:ident $name:ident($($arg:ident: $kind:ident),*) $(with $list:ident: [$element:ty])? $(into $output:ident)? -> $answer:ty
+        = $plain:ident, $opened:ident refuses [$($row:ident)*] $example:tt
+    )*) => {$(
+        $(#[$doc])*
+        #[doc = ""]
+        #[doc = refused_with!(NotWellFormed $($row)*)]
+        #[doc = ""]
+        #[doc = example_at!($name)]
+        #[inline]
+        pub fn $name(
+            words: lent!($shape), $($arg: argument!($kind),)* $($list: &[$element],)? $($output: &mut [u64],)?
+        ) -> Result<$answer, Refusal> {
+            sys::plain::$name(words, $(word!($kind, $arg),)* $($list,)? $($output,)?).map(Told::told)
+        }
+    )*};
+}
+
+for_every_call!(plain_calls);

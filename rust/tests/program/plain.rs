@@ -1,0 +1,117 @@
+//! The plain form, which is that of the program `calls`.
+use crate::running::{answers, ferigulan, read, repository, run, Random};
+use std::process::Command;
+
+#[test]
+fn plain_gives_the_lines_that_calls_must_give() {
+    let ran = ferigulan(&["run", "--plain"], read("crates/calls/stdin"));
+    assert!(ran.out == read("crates/calls/stdout"), "other lines than crates/calls/stdout");
+    assert_eq!((ran.status, ran.err.as_str()), (0, ""));
+}
+
+const LONGEST: usize = 262_144;
+
+/// Lines that are no calls, and what is printed for each.
+fn malformed() -> Vec<(Vec<u8>, Vec<u8>)> {
+    let long = |n: usize| vec![b'x'; n];
+    let echo = |line: &[u8]| [b"? ", line, b"\n"].concat();
+    let mut cases = vec![
+        (b"".to_vec(), b"".to_vec()),
+        (b"list 0\ncheck".to_vec(), b"ok\n0\n".to_vec()),
+        (b"che\0ck\n\0\n".to_vec(), b"? che\0ck\n? \0\n".to_vec()),
+        (b"check\r\ncheck ;\r\n\r\n".to_vec(), b"? check\r\n0\n? \r\n".to_vec()),
+        (b"\xff\xfe\xc3\x28 1\n".to_vec(), b"? \xff\xfe\xc3\x28 1\n".to_vec()),
+        (b" \n  ;\n;\ncheck \ncheck  ; c\n".to_vec(), b"?  \n? check \n0\n".to_vec()),
+        (b"dump\npeek 0\nfields 18 4097\n".to_vec(), b"\n? peek 0\n? fields 18 4097\n".to_vec()),
+    ];
+    for n in [LONGEST - 1, LONGEST, LONGEST + 1, 2 * LONGEST, 3 * LONGEST + 5] {
+        let printed = echo(&long(n.min(LONGEST)));
+        cases.push((long(n), printed.clone()));
+        cases.push(([&long(n), &b"\ncheck\n"[..]].concat(), [&printed, &b"0\n"[..]].concat()));
+    }
+    let comment = [b";".repeat(LONGEST), b"\n".to_vec()].concat();
+    cases.push((comment.clone(), echo(&comment[..LONGEST])));
+    cases.push((comment[1..].to_vec(), Vec::new()));
+    cases
+}
+
+#[test]
+fn plain_prints_what_is_no_call() {
+    for (input, printed) in malformed() {
+        let ran = ferigulan(&["run", "--plain"], &input);
+        assert!(ran.out == printed, "{:?}", String::from_utf8_lossy(&input[..input.len().min(80)]));
+        assert_eq!((ran.status, ran.err.as_str()), (0, ""));
+    }
+}
+
+const NAMES: &str =
+    "list fresh poke peek dump dumpall check open close kind get_bool int float tuple str struct fref ptr mem ary meet isa \
+    dual join glb lub is_final make_ro make_init make_zero non_zero is_high is_high_or_constant is_constant is_fref \
+    log_size min max value mask sz is_f32 float_value reading name fields find find_alias is_ary offset offsets ary_base \
+    ary_scale get_int foo";
+
+fn random_number(random: &mut Random) -> String {
+    const HANDLES: [u64; 24] = [1, 3, 5, 6, 7, 8, 9, 12, 15, 18, 20, 22, 25, 40, 55, 58, 61, 64, 76, 85, 88, 94, 97, 100];
+    const ODD: [&str; 12] =
+        ["", "x", "-", "0x", "4096", "4097", "65536", "65537", "18446744073709551616", "+1", "0xfG", "-9223372036854775809"];
+    match random.below(10) {
+        0..=4 => random.of(&HANDLES).to_string(),
+        5..=6 => random.below(130).to_string(),
+        7 => random.next().to_string(),
+        8 => format!("-{}", random.next() >> random.below(64)),
+        _ => random.of(&ODD).to_string(),
+    }
+}
+
+fn random_line(random: &mut Random) -> String {
+    let names: Vec<&str> = NAMES.split_whitespace().chain([""]).collect();
+    let name = *random.of(&names);
+    let count = match name {
+        "str" => 0,
+        "ary" => 4,
+        "dual" | "kind" | "glb" => 1,
+        "meet" | "isa" | "join" | "ptr" => 2,
+        "struct" => 5,
+        _ => random.below(4),
+    };
+    let mut line = name.to_string();
+    (0..count).for_each(|_| line += &format!(" {}", random_number(random)));
+    if name == "str" || name == "ary" {
+        line += random.of::<&str>(&["", " ", " 61", " 6", " 6G", " 61 62", "  61"]);
+    }
+    line += random.of::<&str>(&["", "", "", "", "", "", " ", ";", "  ; c", "\r", "\0"]);
+    line
+}
+
+pub fn random_script(random: &mut Random) -> String {
+    let first = format!("fresh {}\n", random.of(&[94, 110, 200, 400]));
+    first + &(0..200).map(|_| random_line(random)).collect::<Vec<_>>().join("\n")
+}
+
+#[test]
+fn plain_is_calls_on_random_scripts() {
+    let calls = repository("target/bin/calls");
+    if !calls.exists() {
+        eprintln!("skipped: there is no {}, which 'sh run.sh' builds", calls.display());
+        return;
+    }
+    let mut random = Random(13);
+    let scripts = (0..150).map(|_| random_script(&mut random).into_bytes());
+    for script in scripts.chain(malformed().into_iter().map(|(input, _)| input)) {
+        let wanted = run(Command::new(&calls), &script);
+        let ran = ferigulan(&["run", "--plain"], &script);
+        assert!(ran.out == wanted.out, "not the same lines: {:?}", String::from_utf8_lossy(&script[..script.len().min(9000)]));
+        assert_eq!((ran.status, ran.err.as_str()), (0, ""));
+    }
+}
+
+#[test]
+fn long_lists_have_1048576_words() {
+    let script = "list 1048577\nlist 1048576\nfresh\nopen\nint 3 4\npeek 0\noffsets 18 1048576\noffsets 18 1048577\nfresh 65537\n";
+    let ran = ferigulan(&["run", "--plain", "--long"], script);
+    let output = format!("1 : 0{}", " 7777".repeat(1_048_575));
+    assert_eq!(ran.text(), format!("? list 1048577\nok\nok\nok\n94\n97\n{output}\n? offsets 18 1048577\nok\n"));
+    assert_eq!(answers(&ferigulan(&["run"], script).text())[1..6], ["ok", "ok", "ok", "94 3..4", "97"]);
+    let short = ferigulan(&["run", "--plain"], "list 65536\noffsets 18 4096\nlist 65537\nfields 18 4097\n");
+    assert_eq!(short.text(), "ok\n-1\n? list 65537\n? fields 18 4097\n");
+}

@@ -1,0 +1,48 @@
+//! The deepest calls in a thread with no more stack than README.md states for lists of that length. `cargo run --release --example stack`
+//! measures how much they need.
+use std::thread;
+
+use ferigulan::index_len;
+
+mod common;
+use common::towers::{deep, memory_lengths, Tower, TOWERS};
+
+const KIB: usize = 1024;
+
+macro_rules! enough {
+    ($($test:ident: $length:literal words, $stack:literal KiB;)*) => {$(
+        #[test]
+        fn $test() {
+            enough($length, $stack * KIB);
+        }
+    )*};
+}
+
+// By the length of the list: how much stack is enough for a thread that makes any call. One test a line.
+enough! {
+    lists_of_94: 94 words, 512 KiB;
+    lists_of_512: 512 words, 512 KiB;
+    lists_of_4_096: 4_096 words, 512 KiB;
+    lists_of_65_536: 65_536 words, 512 KiB;
+    lists_of_1_048_576: 1_048_576 words, 512 KiB;
+}
+
+fn enough(length: usize, bytes: usize) {
+    let all = move || TOWERS.into_iter().for_each(|shape| run(length, shape));
+    let thread = thread::Builder::new().stack_size(bytes).spawn(all).expect("a thread");
+    thread.join().expect("the thread's calls end");
+}
+
+/// Every call on one tower, plain and opened.
+fn run(length: usize, shape: Tower) {
+    let mut deep = deep(length, shape);
+    let (mut index, mut memory) = (vec![0; index_len(length)], vec![0; memory_lengths(length)[0]]);
+    for call in deep.calls() {
+        let mut output = call.output();
+        let plain = deep.plain(|words| call.on_words(words, &mut output));
+        for m in memory_lengths(length) {
+            let opened = deep.opened(&mut index, &mut memory[..m], |opened| call.on_opened(opened, &mut output));
+            assert_eq!(opened, plain, "{length} words, {shape:?}: {call:?}");
+        }
+    }
+}
