@@ -58,13 +58,14 @@ fn operate(
     }
 }
 
-// Stores of at most 512 words.
+// At most 512 lines.
 fn up_to_512(
     op: Operation,
     old: &[u64],
     new: &mut [u64],
     used: usize,
     a: usize,
+    lines: usize,
     known: &mut [u64],
     index: &[u64],
 ) -> Interned
@@ -74,12 +75,11 @@ fn up_to_512(
     ensures { λ r. ⌜ Done op (now (old .entry)) (now (new .entry)) used a (now (new .exit)) r ⌝ }
     ensures { λ r. ⌜ KnowsAfter op (now (old .entry)) (now (new .exit)) r (now (known .exit)) ⌝ }
 {
-    let n = old.len() + new.len();
-    if n <= 128 {
+    if lines <= 128 {
         let mut memo = [0u64; 128];
         return operate(op, old, new, used, a, &mut memo, known, index);
     }
-    if n <= 256 {
+    if lines <= 256 {
         let mut memo = [0u64; 256];
         return operate(op, old, new, used, a, &mut memo, known, index);
     }
@@ -87,8 +87,32 @@ fn up_to_512(
     operate(op, old, new, used, a, &mut memo, known, index)
 }
 
-// Larger stores.
-fn large(
+// At most 2,048.
+fn up_to_2048(
+    op: Operation,
+    old: &[u64],
+    new: &mut [u64],
+    used: usize,
+    a: usize,
+    lines: usize,
+    known: &mut [u64],
+    index: &[u64],
+) -> Interned
+    requires { ⌜ Asked op (now old) (now new) used a ⌝ }
+    requires { ⌜ Knows (take used (now old ++ now new)) (now known) ⌝ }
+    requires { ⌜ Covers (take used (now old ++ now new)) (now index) ⌝ }
+    ensures { λ r. ⌜ Done op (now (old .entry)) (now (new .entry)) used a (now (new .exit)) r ⌝ }
+    ensures { λ r. ⌜ KnowsAfter op (now (old .entry)) (now (new .exit)) r (now (known .exit)) ⌝ }
+{
+    if lines <= 1024 {
+        let mut memo = [0u64; 1024];
+        return operate(op, old, new, used, a, &mut memo, known, index);
+    }
+    let mut memo = [0u64; 2048];
+    operate(op, old, new, used, a, &mut memo, known, index)
+}
+
+fn lines_4096(
     op: Operation,
     old: &[u64],
     new: &mut [u64],
@@ -103,31 +127,37 @@ fn large(
     ensures { λ r. ⌜ Done op (now (old .entry)) (now (new .entry)) used a (now (new .exit)) r ⌝ }
     ensures { λ r. ⌜ KnowsAfter op (now (old .entry)) (now (new .exit)) r (now (known .exit)) ⌝ }
 {
-    let n = old.len() + new.len();
-    if n <= 1024 {
-        let mut memo = [0u64; 1024];
-        return operate(op, old, new, used, a, &mut memo, known, index);
-    }
-    if n <= 2048 {
-        let mut memo = [0u64; 2048];
-        return operate(op, old, new, used, a, &mut memo, known, index);
-    }
-    if n <= 4096 {
-        let mut memo = [0u64; 4096];
-        return operate(op, old, new, used, a, &mut memo, known, index);
-    }
+    let mut memo = [0u64; 4096];
+    operate(op, old, new, used, a, &mut memo, known, index)
+}
+
+fn lines_8192(
+    op: Operation,
+    old: &[u64],
+    new: &mut [u64],
+    used: usize,
+    a: usize,
+    known: &mut [u64],
+    index: &[u64],
+) -> Interned
+    requires { ⌜ Asked op (now old) (now new) used a ⌝ }
+    requires { ⌜ Knows (take used (now old ++ now new)) (now known) ⌝ }
+    requires { ⌜ Covers (take used (now old ++ now new)) (now index) ⌝ }
+    ensures { λ r. ⌜ Done op (now (old .entry)) (now (new .entry)) used a (now (new .exit)) r ⌝ }
+    ensures { λ r. ⌜ KnowsAfter op (now (old .entry)) (now (new .exit)) r (now (known .exit)) ⌝ }
+{
     let mut memo = [0u64; 8192];
     operate(op, old, new, used, a, &mut memo, known, index)
 }
 
-// By the store; `few` where the types are small.
+// As many lines as are asked for, or a few more; where that is more than 8,192, half as many, and so on.
 fn sized(
     op: Operation,
     old: &[u64],
     new: &mut [u64],
     used: usize,
     a: usize,
-    few: bool,
+    lines: usize,
     known: &mut [u64],
     index: &[u64],
 ) -> Interned
@@ -137,14 +167,30 @@ fn sized(
     ensures { λ r. ⌜ Done op (now (old .entry)) (now (new .entry)) used a (now (new .exit)) r ⌝ }
     ensures { λ r. ⌜ KnowsAfter op (now (old .entry)) (now (new .exit)) r (now (known .exit)) ⌝ }
 {
-    if few {
+    if lines <= FEW_LINES {
         let mut memo = [0u64; FEW_LINES];
         return operate(op, old, new, used, a, &mut memo, known, index);
     }
-    if old.len() + new.len() <= SHORT_LIST {
-        return up_to_512(op, old, new, used, a, known, index);
+    if lines <= 512 {
+        return up_to_512(op, old, new, used, a, lines, known, index);
     }
-    large(op, old, new, used, a, known, index)
+    if lines <= 2048 {
+        return up_to_2048(op, old, new, used, a, lines, known, index);
+    }
+    if lines <= 4096 {
+        return lines_4096(op, old, new, used, a, known, index);
+    }
+    if lines <= 8192 {
+        return lines_8192(op, old, new, used, a, known, index);
+    }
+    sized(op, old, new, used, a, lines / 2, known, index)
+}
+
+fn lines_for(few: bool, n: usize) -> usize {
+    if few {
+        return FEW_LINES;
+    }
+    n
 }
 
 // An operation on a store that it may append to. A type without parts asks no memory.
@@ -168,7 +214,8 @@ pub fn run(
         return operate(op, old, new, used, a, &mut none, known, index);
     }
     let few = small::is_small(old, new, used, a);
-    sized(op, old, new, used, a, few, known, index)
+    let lines = lines_for(few, old.len() + new.len());
+    sized(op, old, new, used, a, lines, known, index)
 }
 
 // A meet that nothing is appended for: the used words are lent to be read, and there is no word behind them.
@@ -192,13 +239,14 @@ pub fn ask(old: &[u64], new: &mut [u64], used: usize, a: usize, b: usize, index:
         );
     }
     let few = small::is_small(old, new, used, a);
+    let lines = lines_for(few, old.len() + new.len());
     sized(
         Operation::Meet(b),
         old,
         new,
         used,
         a,
-        few,
+        lines,
         &mut known,
         index,
     )
@@ -229,13 +277,14 @@ pub fn join(
 {
     let mut known = [0u64; 0];
     let few = both_small(old, new, used, a, b);
+    let lines = lines_for(few, old.len() + new.len());
     sized(
         Operation::Join(b),
         old,
         new,
         used,
         a,
-        few,
+        lines,
         &mut known,
         index,
     )
