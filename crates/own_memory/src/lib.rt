@@ -1,7 +1,8 @@
 // The operations that walk, with a memory of their own: blank at the start, gone at the end. A small type asks a few lines and no more. Else its size goes by the store, since blanking
 // a memory must cost little beside row 1, which reads the whole store: up to 4,096 words a line for each word, and so a line of its own for each type; above that 8,192 lines.
 //
-// Each range of sizes is a function of its own; the compiler puts them into `sized`, which is apart from its callers, so that only a walk without a lent memory sets up the frame that a large one needs.
+// Each range of sizes stands in the frame of a function of its own, so that a small store needs little stack. `sized` calls itself: the compiler puts a function that has a large array into no function that calls
+// itself, and so the frames stay apart.
 use walk_rules::Walk;
 use words::Interned;
 use words::kinds;
@@ -19,10 +20,8 @@ ghost use Rattle.own_memory.specs.Done.{Asked, Done, KnowsAfter};
 ghost use Rattle.words.specs.Kinds.{Bot, lastKind};
 ghost use Rattle.wellformed.specs.Form.{longestAllowed};
 
-// The lines of a small type's memory, as many as small::is_small counts; and the longest list whose memory stands in a frame of its own.
+// The lines of a small type's memory, as many as small::is_small counts.
 const FEW_LINES: usize = small::MOST_TYPES;
-
-const SHORT_LIST: usize = 512;
 
 // An operation on a type, with its other operand.
 pub enum Operation {
@@ -58,7 +57,7 @@ fn operate(
     }
 }
 
-// At most 512 lines.
+// With at most 512 lines.
 fn up_to_512(
     op: Operation,
     old: &[u64],
@@ -87,7 +86,7 @@ fn up_to_512(
     operate(op, old, new, used, a, &mut memo, known, index)
 }
 
-// At most 2,048.
+// With at most 2,048.
 fn up_to_2048(
     op: Operation,
     old: &[u64],
@@ -112,7 +111,8 @@ fn up_to_2048(
     operate(op, old, new, used, a, &mut memo, known, index)
 }
 
-fn lines_4096(
+// With 4,096.
+fn with_4096(
     op: Operation,
     old: &[u64],
     new: &mut [u64],
@@ -131,7 +131,8 @@ fn lines_4096(
     operate(op, old, new, used, a, &mut memo, known, index)
 }
 
-fn lines_8192(
+// With 8,192.
+fn with_8192(
     op: Operation,
     old: &[u64],
     new: &mut [u64],
@@ -178,14 +179,15 @@ fn sized(
         return up_to_2048(op, old, new, used, a, lines, known, index);
     }
     if lines <= 4096 {
-        return lines_4096(op, old, new, used, a, known, index);
+        return with_4096(op, old, new, used, a, known, index);
     }
     if lines <= 8192 {
-        return lines_8192(op, old, new, used, a, known, index);
+        return with_8192(op, old, new, used, a, known, index);
     }
     sized(op, old, new, used, a, lines / 2, known, index)
 }
 
+// How many lines are asked for, in a store of n words: few where the types are small.
 fn lines_for(few: bool, n: usize) -> usize {
     if few {
         return FEW_LINES;
