@@ -16,15 +16,7 @@ ghost use Rattle.meet_fields.specs.Fields.{eitherFinal, meetFields};
 ghost use Rattle.wellformed.specs.Form.{longestAllowed};
 
 // Fills the first bytes of `dst` with n finals, or-ed: the words 2 × alias + final stand from p and from q on, 3 apart.
-fn either_final(
-    dst: &mut [u8],
-    old: &[u64],
-    new: &[u64],
-    used: usize,
-    n: usize,
-    p: usize,
-    q: usize,
-)
+fn either_final(dst: &mut [u8], old: &[u64], new: &[u64], used: usize, n: usize, p: usize, q: usize)
     requires { ⌜ (length (now old) ≤ used) × (used ≤ length (now old) + length (now new)) ⌝ }
     requires { ⌜ (n ≤ length (now dst)) × (n ≤ mostCounted) × (p ≤ firstFlags longestAllowed) × (q ≤ firstFlags longestAllowed) ⌝ }
     ensures { λ _. ⌜ now (dst .exit) ≡ eitherFinal (every fieldSize n p (take used (now (old .entry) ++ now (new .entry)))) (every fieldSize n q (take used (now (old .entry) ++ now (new .entry)))) ++ drop n (now (dst .entry)) ⌝ }

@@ -61,13 +61,7 @@ fn tuple_in(
 }
 
 // Makes a tuple of these types.
-pub fn tuple_of(
-    old: &[u64],
-    new: &mut [u64],
-    used: usize,
-    types: &[u32],
-    index: &[u64],
-) -> Interned
+pub fn tuple_of(old: &[u64], new: &mut [u64], used: usize, types: &[u32], index: &[u64]) -> Interned
     requires { ⌜ Segments (now old) (now new) used ⌝ }
     requires { ⌜ length (now types) ≤ mostCounted ⌝ }
     requires { ⌜ Covers (take used (now old ++ now new)) (now index) ⌝ }

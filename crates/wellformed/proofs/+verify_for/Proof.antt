@@ -1,6 +1,5 @@
 -- `wellformed::verify_for` meets its contract; its measure is the length that it is asked for.
 use Prim.Native.Nat.{ℕ, _<_}
-use native.Mathlib.Omega.{arith}
 use borrow.Fn.Kinds.{In}
 use borrow.Fn.PlainCycle.{Measures, is, falls, and}
 use borrow.Author.Needs.{needs}
