@@ -1,4 +1,4 @@
-// join, on a store that row 1 has passed. The first half of `memory` is a memory of its duals, the second half one of its meet; an odd last word is not used.
+// join, on a store that row 1 has passed: dual, dual, meet, dual, each made. The first half of `memory` is a memory of its duals, the second half one of its meet; an odd last word is not used.
 use walk_rules::Walk;
 use words::Interned;
 ghost use mathlib.Core.List.{_++_};

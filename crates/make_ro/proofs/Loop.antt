@@ -13,7 +13,7 @@ use Rattle.parts.proofs.Good.{good-adds}
 use Rattle.parts.proofs.Left.{every-zero, every-next, every-at}
 use Rattle.parts.proofs.Grew.{grew-kept}
 use Rattle.meet.specs.Meet.{Many}
-use Rattle.meet.proofs.InTurn.{Sequence, InTurn, turn-begin, turn-part, turn-ready, turn-stop, turn-on, turn-end, turn-segments}
+use Rattle.meet.proofs.InTurn.{Sequence, InTurn, turn-begin, turn-part, turn-ready, turn-stop, turn-small, turn-on, turn-end, turn-segments}
 use Rattle.make_ro.specs.ReadOnly.{fieldType, readOnlyEach, readOnlyStructOf, makeRoWithin}
 use Rattle.make_ro.specs.MadeRo.{FieldRo}
 use Rattle.make_ro.proofs.Grows.{make-ro-grows, field-grows, each-grows, struct-grows}
@@ -86,6 +86,13 @@ module _ {old new : List ℕ} {used a n : ℕ} {now types : List ℕ} {v i : ℕ
       going-turn h v′ f l =
           let res = field-nice (makeRoWithin a) a (make-ro-nice a) w value t 33 (good-adds (J .turn .grew .start) (J .turn .grew .adds)) (turn-part (J .turn) a (omega arith) part-t) in
           record { turn = turn-on (J .turn) more now′ r told (rw (is-type, is-value) at (res .adds)) h v′ f l; inside = J .inside; parts = J .parts }
+
+      -- its handle is that of an entry of the store
+      pub going-small : (h v′ : ℕ) → r ≡ At h v′ → h < 1048576
+      unfolding fieldsOf
+      going-small h v′ f =
+          let res = field-nice (makeRoWithin a) a (make-ro-nice a) w value t 33 (good-adds (J .turn .grew .start) (J .turn .grew .adds)) (turn-part (J .turn) a (omega arith) part-t) in
+          turn-small (J .turn) more now′ r told (rw (is-type, is-value) at (res .adds)) (rw (is-type, is-value) at (res .part .earlier)) h v′ f
 
   -- the last field is done
   pub going-end : n ≤ i → i ≤ n → (now′ : List ℕ) (r : Interned) → Ran v (readOnlyStructOf a (record { words = w; handles = take n types })) (old ++ now) (old ++ now′) r → (k : ℕ) → a ≤ k → Ran used (readOnlyStructOf a (every-type k)) (old ++ new) (old ++ now′) r

@@ -23,13 +23,13 @@ ghost use Rattle.make_ro.specs.Remembered.{Remembers, Remembered};
 ghost use Rattle.wellformed.specs.Form.{longestAllowed};
 ghost use Rattle.words.specs.Kinds.{Struct};
 
-// Makes the struct at a again with these types, every field final. Few fields are given few words, since all of them are set at each call.
+// Makes the struct at a again with these types, every field final.
 fn made_final(
     old: &[u64],
     new: &mut [u64],
     used: usize,
     a: usize,
-    types: &[u64],
+    types: &[u32],
     index: &[u64],
 ) -> Interned
     requires { ⌜ Segments (now old) (now new) used ⌝ }
@@ -38,12 +38,8 @@ fn made_final(
     ensures { λ r. ⌜ Runs (remake a (now (types .entry)) (replicate (length (now (types .entry))) 1)) (now (old .entry)) (now (new .entry)) used (now (new .exit)) r ⌝ }
 {
     let n = types.len();
-    if n <= structs::FEW_FIELDS {
-        let few = [1u64; structs::FEW_FIELDS];
-        return structs::made_again(&*old, new, used, a, &*types, &few[..n], &*index);
-    }
-    let many = [1u64; limits::MOST_COUNTED];
-    structs::made_again(&*old, new, used, a, &*types, &many[..n], &*index)
+    let finals = [1u8; limits::MOST_COUNTED];
+    structs::made_again(&*old, new, used, a, &*types, &finals[..n], &*index)
 }
 
 // What a type is remembered under: its handle; or 0, which is nothing, for a type that is its own answer.
@@ -125,7 +121,7 @@ fn make_struct_ro(
     ensures { λ r. ⌜ Remembered (now (old .entry)) (now (new .exit)) r (now (memo .exit)) (now (known .exit)) ⌝ }
 {
     let n = (words::word(&*old, new, used, a) / kinds::COUNT) as usize;
-    let mut types = [0u64; limits::MOST_COUNTED];
+    let mut types = [0u32; limits::MOST_COUNTED];
     let mut v = used;
     let mut i: usize = 0;
     while i < n {
@@ -135,7 +131,7 @@ fn make_struct_ro(
         let m = make_field_ro(&*old, new, v, value, t, memo, known, &*index);
         match m {
             Interned::At(h, w) => {
-                types[i] = h as u64;
+                types[i] = h as u32;
                 v = w;
             }
             Interned::Full => {

@@ -5,7 +5,7 @@ use mathlib.Core.List.{List, [], _∷_, _++_, append-nil}
 use Prim.Native.Nat.{ℕ, _+_, _≤_, _<_}
 use native.Mathlib.Omega.{arith}
 use native.Mathlib.Numerals.{add-one}
-use lib.ListN.{length, take, drop, set}
+use lib.ListN.{length, take, drop, set, length-take}
 use lib.Seq.{take-suc-set, append-snoc}
 use Rattle.words.specs.Words.{fills}
 use Rattle.words.specs.Made.{Grown}
@@ -82,6 +82,15 @@ module _ {n : ℕ} {Q : Sequence n} {low : ℕ} {old new : List ℕ} {used : ℕ
         let e : all .words ≡ Q .rest k (i + 1) (m .words) .words = ap (λ (z : Many). z .words) (unrolled k l) in
         let x : Extends (m .words) (all .words) = rw e (Q .rest-grows k (i + 1) (m .words)) in
         grew-stop (J .grew) m now′ r (Q .step-grows k i w) (told k l) f (F all) (ext-then (m .words) (all .words) (F all .words) x (grows all))
+
+    -- its handle is that of an entry of the store
+    pub turn-small : Adds w (Q .step low i w) → Q .step low i w .handle < length (Q .step low i w .words) → (h v′ : ℕ) → r ≡ At h v′ → h < 1048576
+    turn-small adds below h v′ f =
+        let g = Q .step low i w in
+        let s = grew-words (J .grew) g now′ r (Q .step-grows low i w) (told low (omega arith)) h v′ f in
+        let G = grew-more (J .grew) g now′ r (Q .step-grows low i w) (told low (omega arith)) h v′ f adds in
+        let long : length (g .words) ≤ v′ = rw (← s .1) (omega (arith, length-take v′ (old ++ now′))) in
+        omega (arith, below, s .0, long, grew-high G, J .small)
 
     pub turn-on : Adds w (Q .step low i w) → (h v′ : ℕ) → r ≡ At h v′ → i < length parts → InTurn Q low old new used now′ (set parts i h) v′ (i + 1)
     turn-on adds h v′ f l = record {

@@ -15,16 +15,8 @@ ghost use Rattle.words.specs.Words.{fieldSize};
 ghost use Rattle.meet_fields.specs.Fields.{eitherFinal, meetFields};
 ghost use Rattle.wellformed.specs.Form.{longestAllowed};
 
-// Fills the first words of `dst` with n finals, or-ed: the words 2 × alias + final stand from p and from q on, 3 apart.
-fn either_final(
-    dst: &mut [u64],
-    old: &[u64],
-    new: &[u64],
-    used: usize,
-    n: usize,
-    p: usize,
-    q: usize,
-)
+// Fills the first bytes of `dst` with n finals, or-ed: the words 2 × alias + final stand from p and from q on, 3 apart.
+fn either_final(dst: &mut [u8], old: &[u64], new: &[u64], used: usize, n: usize, p: usize, q: usize)
     requires { ⌜ (length (now old) ≤ used) × (used ≤ length (now old) + length (now new)) ⌝ }
     requires { ⌜ (n ≤ length (now dst)) × (n ≤ mostCounted) × (p ≤ firstFlags longestAllowed) × (q ≤ firstFlags longestAllowed) ⌝ }
     ensures { λ _. ⌜ now (dst .exit) ≡ eitherFinal (every fieldSize n p (take used (now (old .entry) ++ now (new .entry)))) (every fieldSize n q (take used (now (old .entry) ++ now (new .entry)))) ++ drop n (now (dst .entry)) ⌝ }
@@ -33,20 +25,20 @@ fn either_final(
     while i < n {
         let f = words::word(&*old, &*new, used, p + columns::FIELD * i) % 2;
         let g = words::word(&*old, &*new, used, q + columns::FIELD * i) % 2;
-        dst[i] = wellformed::larger(f, g);
+        dst[i] = wellformed::larger(f, g) as u8;
         i += 1;
     }
 }
 
-// The struct that the structs at a and b meet in, its finals in the first words of `finals`.
+// The struct that the structs at a and b meet in, its finals in the first bytes of `finals`.
 fn meet_fields_in(
     old: &[u64],
     new: &mut [u64],
     used: usize,
     a: usize,
     b: usize,
-    types: &[u64],
-    finals: &mut [u64],
+    types: &[u32],
+    finals: &mut [u8],
     index: &[u64],
 ) -> Interned
     requires { ⌜ Segments (now old) (now new) used ⌝ }
@@ -68,14 +60,14 @@ fn meet_fields_in(
     structs::made_again(&*old, new, used, a, &*types, &finals[..n], &*index)
 }
 
-// Makes the struct that the structs at a and b meet in, with these types. Few fields are given few words, since all of them are cleared at each call.
+// Makes the struct that the structs at a and b meet in, with these types.
 pub fn meet_fields(
     old: &[u64],
     new: &mut [u64],
     used: usize,
     a: usize,
     b: usize,
-    types: &[u64],
+    types: &[u32],
     index: &[u64],
 ) -> Interned
     requires { ⌜ Segments (now old) (now new) used ⌝ }
@@ -83,10 +75,6 @@ pub fn meet_fields(
     requires { ⌜ Covers (take used (now old ++ now new)) (now index) ⌝ }
     ensures { λ r. ⌜ Runs (meetFields a b (now (types .entry))) (now (old .entry)) (now (new .entry)) used (now (new .exit)) r ⌝ }
 {
-    if types.len() <= structs::FEW_FIELDS {
-        let mut few = [0u64; structs::FEW_FIELDS];
-        return meet_fields_in(&*old, new, used, a, b, &*types, &mut few, &*index);
-    }
-    let mut many = [0u64; limits::MOST_COUNTED];
-    meet_fields_in(&*old, new, used, a, b, &*types, &mut many, &*index)
+    let mut finals = [0u8; limits::MOST_COUNTED];
+    meet_fields_in(&*old, new, used, a, b, &*types, &mut finals, &*index)
 }

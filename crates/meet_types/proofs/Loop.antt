@@ -18,7 +18,7 @@ use Rattle.meet.specs.Meet.{Many, meetEach, meetWithin}
 use Rattle.meet.specs.Met.{Met}
 use Rattle.meet.proofs.Grows.{meet-grows, each-grows}
 use Rattle.meet.proofs.Nice.{meet-nice}
-use Rattle.meet.proofs.InTurn.{Sequence, InTurn, turn-begin, turn-part, turn-ready, turn-stop, turn-on, turn-end, turn-segments}
+use Rattle.meet.proofs.InTurn.{Sequence, InTurn, turn-begin, turn-part, turn-ready, turn-stop, turn-small, turn-on, turn-end, turn-segments}
 
 -- n parts of one entry with n of another, s words apart from p and q on
 pub pairs : (s n p q : ℕ) (u : List ℕ) → Sequence n
@@ -103,6 +103,14 @@ module _ {s : ℕ} {old new : List ℕ} {used a b n p₀ q₀ : ℕ} {now parts 
           let k = max a b in
           let res = meet-nice k w x y 33 (good-adds (J .turn .grew .start) (J .turn .grew .adds)) (turn-part (J .turn) k (omega arith) part-x) (turn-part (J .turn) k (omega arith) part-y) in
           record { turn = turn-on (J .turn) more now′ r told (rw (is-x, is-y) at (res .adds)) h v′ f l; inside = J .inside; first = J .first; second = J .second }
+
+      -- its handle is that of an entry of the store
+      pub going-small : (h v′ : ℕ) → r ≡ At h v′ → h < 1048576
+      unfolding pairs
+      going-small h v′ f =
+          let k = max a b in
+          let res = meet-nice k w x y 33 (good-adds (J .turn .grew .start) (J .turn .grew .adds)) (turn-part (J .turn) k (omega arith) part-x) (turn-part (J .turn) k (omega arith) part-y) in
+          turn-small (J .turn) more now′ r told (rw (is-x, is-y) at (res .adds)) (rw (is-x, is-y) at (res .part .earlier)) h v′ f
 
   -- the last part is done
   pub going-end : n ≤ i → i ≤ n → (F : Many → Grown) → ((m : Many) → Extends (m .words) (F m .words)) → (now′ : List ℕ) (r : Interned) → Ran v (F (record { words = w; handles = take n parts })) (old ++ now) (old ++ now′) r → (k : ℕ) → a ≤ k → b ≤ k

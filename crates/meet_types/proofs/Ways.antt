@@ -37,7 +37,7 @@ use Rattle.meet.specs.Met.{Met, MetStruct}
 use Rattle.meet.proofs.Grows.{meet-grows, tuple-grows, struct-grows, pointer-grows, memory-grows, structs-grow}
 use Rattle.meet.proofs.Nice.{eight, meet-nice, structs-nice, narrow}
 use Rattle.parts.proofs.Grew.{Grew, grew-none, grew-there, grew-more, grew-stop, grew-segments, grew-values, then-made, grew-covers}
-use Rattle.meet_types.proofs.Loop.{Going, going-begin, going-first, going-second, going-ready, going-stop, going-turn, going-end}
+use Rattle.meet_types.proofs.Loop.{Going, going-begin, going-first, going-second, going-ready, going-stop, going-turn, going-small, going-end}
 
 -- an answer that is there already
 old-ran : {old new : List ℕ} {used low high a b : ℕ} (h : ℕ) → Ready old new used low high a b → Ran used (there (take used (old ++ new)) h) (old ++ new) (old ++ new) (At h used)
@@ -261,6 +261,9 @@ module _ (old new : List ℕ) (used a b n : ℕ) (now parts : List ℕ) (v i : �
   pub tuple-turn : {now₂ : List ℕ} {m : Interned} → Met old now v p q now₂ m → (h v′ : ℕ) → m ≡ At h v′ → i < length parts → Going 1 old new used a b n (a + 1) (b + 1) now₂ (set parts i h) v′ (i + 1)
   tuple-turn t = going-turn J more (a + 1 + i) (b + 1 + i) p q (omega arith) (omega arith) ep eq t
 
+  pub tuple-small : {now₂ : List ℕ} {m : Interned} → Met old now v p q now₂ m → (h v′ : ℕ) → m ≡ At h v′ → h < 1048576
+  tuple-small t = going-small J more (a + 1 + i) (b + 1 + i) p q (omega arith) (omega arith) ep eq t
+
 -- ---- a struct's meet
 
 -- names that stand before h
@@ -353,3 +356,6 @@ module _ (old new : List ℕ) (used a b n : ℕ) (now parts : List ℕ) (v i : �
 
   pub struct-turn : {now₂ : List ℕ} {m : Interned} → Met old now v p q now₂ m → (h v′ : ℕ) → m ≡ At h v′ → i < length parts → Going 3 old new used a b n (a + 3) (b + 3) now₂ (set parts i h) v′ (i + 1)
   struct-turn t = going-turn J more (a + 3 + 3 * i) (b + 3 + 3 * i) p q refl refl ep eq t
+
+  pub struct-small : {now₂ : List ℕ} {m : Interned} → Met old now v p q now₂ m → (h v′ : ℕ) → m ≡ At h v′ → h < 1048576
+  struct-small t = going-small J more (a + 3 + 3 * i) (b + 3 + 3 * i) p q refl refl ep eq t

@@ -102,7 +102,7 @@ pub fn meet_type(
         }
         Rule::Tuples => {
             let n = (words::word(&*old, new, used, a) / kinds::COUNT) as usize;
-            let mut parts = [0u64; limits::MOST_COUNTED];
+            let mut parts = [0u32; limits::MOST_COUNTED];
             let mut v = used;
             let mut i: usize = 0;
             while i < n {
@@ -111,7 +111,7 @@ pub fn meet_type(
                 let m = meet_type(&*old, new, v, x, y, memo, &*index);
                 match m {
                     Interned::At(h, w) => {
-                        parts[i] = h as u64;
+                        parts[i] = h as u32;
                         v = w;
                     }
                     Interned::Full => {
@@ -120,7 +120,7 @@ pub fn meet_type(
                 }
                 i += 1;
             }
-            let tuple = makers::tuple(&*old, new, v, &parts[..n], &*index);
+            let tuple = structs::tuple_of(&*old, new, v, &parts[..n], &*index);
             memo::noted(memo, key, tuple)
         }
     }
@@ -153,7 +153,7 @@ fn meet_struct(
                 return Interned::At(h as usize, used);
             }
             let n = (words::word(&*old, new, used, a) / kinds::COUNT) as usize;
-            let mut types = [0u64; limits::MOST_COUNTED];
+            let mut types = [0u32; limits::MOST_COUNTED];
             let mut v = used;
             let mut i: usize = 0;
             while i < n {
@@ -172,7 +172,7 @@ fn meet_struct(
                 let m = meet_type(&*old, new, v, x, y, memo, &*index);
                 match m {
                     Interned::At(h, w) => {
-                        types[i] = h as u64;
+                        types[i] = h as u32;
                         v = w;
                     }
                     Interned::Full => {

@@ -1,7 +1,8 @@
 // The operations that walk, with a memory of their own: blank at the start, gone at the end. A small type asks a few lines and no more. Else its size goes by the store, since blanking
 // a memory must cost little beside row 1, which reads the whole store: up to 4,096 words a line for each word, and so a line of its own for each type; above that 8,192 lines.
 //
-// Each range of sizes is a function of its own; the compiler puts them into `sized`, which is apart from its callers, so that only a walk without a lent memory sets up the frame that a large one needs.
+// Each range of sizes stands in the frame of a function of its own, so that a small store needs little stack. `sized` calls itself: the compiler puts a function that has a large array into no function that calls
+// itself, and so the frames stay apart.
 use walk_rules::Walk;
 use words::Interned;
 use words::kinds;
@@ -19,10 +20,8 @@ ghost use Rattle.own_memory.specs.Done.{Asked, Done, KnowsAfter};
 ghost use Rattle.words.specs.Kinds.{Bot, lastKind};
 ghost use Rattle.wellformed.specs.Form.{longestAllowed};
 
-// The lines of a small type's memory, as many as small::is_small counts; and the longest list whose memory stands in a frame of its own.
+// The lines of a small type's memory, as many as small::is_small counts.
 const FEW_LINES: usize = small::MOST_TYPES;
-
-const SHORT_LIST: usize = 512;
 
 // An operation on a type, with its other operand.
 pub enum Operation {
@@ -58,13 +57,14 @@ fn operate(
     }
 }
 
-// Stores of at most 512 words.
+// With at most 512 lines.
 fn up_to_512(
     op: Operation,
     old: &[u64],
     new: &mut [u64],
     used: usize,
     a: usize,
+    lines: usize,
     known: &mut [u64],
     index: &[u64],
 ) -> Interned
@@ -74,12 +74,11 @@ fn up_to_512(
     ensures { λ r. ⌜ Done op (now (old .entry)) (now (new .entry)) used a (now (new .exit)) r ⌝ }
     ensures { λ r. ⌜ KnowsAfter op (now (old .entry)) (now (new .exit)) r (now (known .exit)) ⌝ }
 {
-    let n = old.len() + new.len();
-    if n <= 128 {
+    if lines <= 128 {
         let mut memo = [0u64; 128];
         return operate(op, old, new, used, a, &mut memo, known, index);
     }
-    if n <= 256 {
+    if lines <= 256 {
         let mut memo = [0u64; 256];
         return operate(op, old, new, used, a, &mut memo, known, index);
     }
@@ -87,8 +86,33 @@ fn up_to_512(
     operate(op, old, new, used, a, &mut memo, known, index)
 }
 
-// Larger stores.
-fn large(
+// With at most 2,048.
+fn up_to_2048(
+    op: Operation,
+    old: &[u64],
+    new: &mut [u64],
+    used: usize,
+    a: usize,
+    lines: usize,
+    known: &mut [u64],
+    index: &[u64],
+) -> Interned
+    requires { ⌜ Asked op (now old) (now new) used a ⌝ }
+    requires { ⌜ Knows (take used (now old ++ now new)) (now known) ⌝ }
+    requires { ⌜ Covers (take used (now old ++ now new)) (now index) ⌝ }
+    ensures { λ r. ⌜ Done op (now (old .entry)) (now (new .entry)) used a (now (new .exit)) r ⌝ }
+    ensures { λ r. ⌜ KnowsAfter op (now (old .entry)) (now (new .exit)) r (now (known .exit)) ⌝ }
+{
+    if lines <= 1024 {
+        let mut memo = [0u64; 1024];
+        return operate(op, old, new, used, a, &mut memo, known, index);
+    }
+    let mut memo = [0u64; 2048];
+    operate(op, old, new, used, a, &mut memo, known, index)
+}
+
+// With 4,096.
+fn with_4096(
     op: Operation,
     old: &[u64],
     new: &mut [u64],
@@ -103,31 +127,38 @@ fn large(
     ensures { λ r. ⌜ Done op (now (old .entry)) (now (new .entry)) used a (now (new .exit)) r ⌝ }
     ensures { λ r. ⌜ KnowsAfter op (now (old .entry)) (now (new .exit)) r (now (known .exit)) ⌝ }
 {
-    let n = old.len() + new.len();
-    if n <= 1024 {
-        let mut memo = [0u64; 1024];
-        return operate(op, old, new, used, a, &mut memo, known, index);
-    }
-    if n <= 2048 {
-        let mut memo = [0u64; 2048];
-        return operate(op, old, new, used, a, &mut memo, known, index);
-    }
-    if n <= 4096 {
-        let mut memo = [0u64; 4096];
-        return operate(op, old, new, used, a, &mut memo, known, index);
-    }
+    let mut memo = [0u64; 4096];
+    operate(op, old, new, used, a, &mut memo, known, index)
+}
+
+// With 8,192.
+fn with_8192(
+    op: Operation,
+    old: &[u64],
+    new: &mut [u64],
+    used: usize,
+    a: usize,
+    known: &mut [u64],
+    index: &[u64],
+) -> Interned
+    requires { ⌜ Asked op (now old) (now new) used a ⌝ }
+    requires { ⌜ Knows (take used (now old ++ now new)) (now known) ⌝ }
+    requires { ⌜ Covers (take used (now old ++ now new)) (now index) ⌝ }
+    ensures { λ r. ⌜ Done op (now (old .entry)) (now (new .entry)) used a (now (new .exit)) r ⌝ }
+    ensures { λ r. ⌜ KnowsAfter op (now (old .entry)) (now (new .exit)) r (now (known .exit)) ⌝ }
+{
     let mut memo = [0u64; 8192];
     operate(op, old, new, used, a, &mut memo, known, index)
 }
 
-// By the store; `few` where the types are small.
+// As many lines as are asked for, or a few more; where that is more than 8,192, half as many, and so on.
 fn sized(
     op: Operation,
     old: &[u64],
     new: &mut [u64],
     used: usize,
     a: usize,
-    few: bool,
+    lines: usize,
     known: &mut [u64],
     index: &[u64],
 ) -> Interned
@@ -137,14 +168,31 @@ fn sized(
     ensures { λ r. ⌜ Done op (now (old .entry)) (now (new .entry)) used a (now (new .exit)) r ⌝ }
     ensures { λ r. ⌜ KnowsAfter op (now (old .entry)) (now (new .exit)) r (now (known .exit)) ⌝ }
 {
-    if few {
+    if lines <= FEW_LINES {
         let mut memo = [0u64; FEW_LINES];
         return operate(op, old, new, used, a, &mut memo, known, index);
     }
-    if old.len() + new.len() <= SHORT_LIST {
-        return up_to_512(op, old, new, used, a, known, index);
+    if lines <= 512 {
+        return up_to_512(op, old, new, used, a, lines, known, index);
     }
-    large(op, old, new, used, a, known, index)
+    if lines <= 2048 {
+        return up_to_2048(op, old, new, used, a, lines, known, index);
+    }
+    if lines <= 4096 {
+        return with_4096(op, old, new, used, a, known, index);
+    }
+    if lines <= 8192 {
+        return with_8192(op, old, new, used, a, known, index);
+    }
+    sized(op, old, new, used, a, lines / 2, known, index)
+}
+
+// How many lines are asked for, in a store of n words: few where the types are small.
+fn lines_for(few: bool, n: usize) -> usize {
+    if few {
+        return FEW_LINES;
+    }
+    n
 }
 
 // An operation on a store that it may append to. A type without parts asks no memory.
@@ -168,7 +216,8 @@ pub fn run(
         return operate(op, old, new, used, a, &mut none, known, index);
     }
     let few = small::is_small(old, new, used, a);
-    sized(op, old, new, used, a, few, known, index)
+    let lines = lines_for(few, old.len() + new.len());
+    sized(op, old, new, used, a, lines, known, index)
 }
 
 // A meet that nothing is appended for: the used words are lent to be read, and there is no word behind them.
@@ -192,13 +241,14 @@ pub fn ask(old: &[u64], new: &mut [u64], used: usize, a: usize, b: usize, index:
         );
     }
     let few = small::is_small(old, new, used, a);
+    let lines = lines_for(few, old.len() + new.len());
     sized(
         Operation::Meet(b),
         old,
         new,
         used,
         a,
-        few,
+        lines,
         &mut known,
         index,
     )
@@ -229,13 +279,14 @@ pub fn join(
 {
     let mut known = [0u64; 0];
     let few = both_small(old, new, used, a, b);
+    let lines = lines_for(few, old.len() + new.len());
     sized(
         Operation::Join(b),
         old,
         new,
         used,
         a,
-        few,
+        lines,
         &mut known,
         index,
     )

@@ -1,4 +1,4 @@
-// What the columns of rules share.
+// Columns of rules, of which the first that fits decides: what those of meet, of the walks and of the calls that tell of types share.
 ghost use mathlib.Core.Path.{_≡_};
 ghost use mathlib.Core.Bool.{_&&_};
 ghost use lib.Dec.{eqb};

@@ -33,18 +33,18 @@ fill-begin u types finals p = rw (add-zero p)
 
 module _ (u types finals d₀ d : List ℕ) (p i : ℕ) (sum : take (4 * i) d ++ fields-left u p types finals i ≡ fieldsWith u p types finals) (rest : drop (4 * i) d ≡ drop (4 * i) d₀) where
   pub fill-on : length types ≡ length finals → 4 * length types ≤ length d₀ → length d ≡ length d₀ → i < length types
-      → (name v : ℕ) → name ≡ word u (p + 3 * i) → v ≡ word u (p + 3 * i + 2)
-      → (e : List ℕ) → e ≡ (name ∷ getD types i 0 ∷ (v / 2) ∷ getD finals i 0 ∷ []) ++ drop 4 (take (length d - 4 * i) (drop (4 * i) d))
+      → (name v t final : ℕ) → name ≡ word u (p + 3 * i) → v ≡ word u (p + 3 * i + 2) → t ≡ getD types i 0 → final ≡ getD finals i 0
+      → (e : List ℕ) → e ≡ (name ∷ t ∷ (v / 2) ∷ final ∷ []) ++ drop 4 (take (length d - 4 * i) (drop (4 * i) d))
       → (take (4 * (i + 1)) (putMid (4 * i) (length d - 4 * i) d e) ++ fields-left u p types finals (i + 1) ≡ fieldsWith u p types finals)
       × (drop (4 * (i + 1)) (putMid (4 * i) (length d - 4 * i) d e) ≡ drop (4 * (i + 1)) d₀)
   unfolding fieldsWith
-  fill-on same room size more name v named valued e is =
-      let four : List ℕ = name ∷ getD types i 0 ∷ (v / 2) ∷ getD finals i 0 ∷ [] in
+  fill-on same room size more name v t final named valued typed finaled e is =
+      let four : List ℕ = name ∷ t ∷ (v / 2) ∷ final ∷ [] in
       let h : 4 * i ≤ length d = omega arith in
       let k : i < length finals = omega arith in
       let m : 4 * (i + 1) ≡ 4 * i + 4 = omega arith in
       let q : p + 3 * (i + 1) ≡ p + 3 * i + 3 = omega arith in
-      let next : fields-left u p types finals i ≡ four ++ fields-left u p types finals (i + 1) = rw (drop-cons types i 0 more, drop-cons finals i 0 k, q, add-one i, named, valued) in
+      let next : fields-left u p types finals i ≡ four ++ fields-left u p types finals (i + 1) = rw (drop-cons types i 0 more, drop-cons finals i 0 k, q, add-one i, named, valued, typed, finaled) in
       written-on d₀ d _ _ (4 * i) sum rest four (putMid (4 * i) (length d - 4 * i) d e) _ (4 * (i + 1)) h m (put-at d four e (4 * i) is) next
 
   pub fill-end : i ≤ length types → length types ≤ i → d ≡ fieldsWith u p types finals ++ drop (4 * length types) d₀

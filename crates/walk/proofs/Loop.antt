@@ -15,7 +15,7 @@ use Rattle.parts.proofs.Good.{good-adds}
 use Rattle.parts.proofs.Left.{every-zero, every-next, every-at}
 use Rattle.parts.proofs.Grew.{grew-kept}
 use Rattle.meet.specs.Meet.{Many}
-use Rattle.meet.proofs.InTurn.{Sequence, InTurn, turn-begin, turn-part, turn-ready, turn-stop, turn-on, turn-end, turn-segments}
+use Rattle.meet.proofs.InTurn.{Sequence, InTurn, turn-begin, turn-part, turn-ready, turn-stop, turn-small, turn-on, turn-end, turn-segments}
 use Rattle.walk_rules.specs.declared.Walk.{Walk}
 use Rattle.walk.specs.Walked.{Walked}
 use Rattle.walk.specs.Walk.{walkEach, walkWithin}
@@ -89,6 +89,13 @@ module _ {walk : Walk} {s : ℕ} {old new : List ℕ} {used a n p₀ : ℕ} {now
       going-turn h v′ f l =
           let res = walk-nice walk a .types w x 33 (good-adds (J .turn .grew .start) (J .turn .grew .adds)) (turn-part (J .turn) a (omega arith) part-x) in
           record { turn = turn-on (J .turn) more now′ r told (rw is-x at (res .adds)) h v′ f l; inside = J .inside; first = J .first }
+
+      -- its handle is that of an entry of the store
+      pub going-small : (h v′ : ℕ) → r ≡ At h v′ → h < 1048576
+      unfolding partsOf
+      going-small h v′ f =
+          let res = walk-nice walk a .types w x 33 (good-adds (J .turn .grew .start) (J .turn .grew .adds)) (turn-part (J .turn) a (omega arith) part-x) in
+          turn-small (J .turn) more now′ r told (rw is-x at (res .adds)) (rw is-x at (res .part .earlier)) h v′ f
 
   -- the last part is done
   pub going-end : n ≤ i → i ≤ n → (F : Many → Grown) → ((m : Many) → Extends (m .words) (F m .words)) → (now′ : List ℕ) (r : Interned) → Ran v (F (record { words = w; handles = take n parts })) (old ++ now) (old ++ now′) r → (k : ℕ) → a ≤ k

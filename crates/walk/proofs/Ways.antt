@@ -35,7 +35,7 @@ use Rattle.walk.specs.Walk.{walkFieldTypes, walkStructOf, followForm, wa
 use Rattle.walk.specs.Remembered.{Settled, Remembers}
 use Rattle.walk.proofs.Grows.{walk-grows, int-grows, float-grows, struct-grows}
 use Rattle.walk.proofs.Nice.{walk-nice}
-use Rattle.walk.proofs.Loop.{Going₁, going-begin, going-first, going-ready, going-stop, going-turn, going-end, going-segments}
+use Rattle.walk.proofs.Loop.{Going₁, going-begin, going-first, going-ready, going-stop, going-turn, going-small, going-end, going-segments}
 use Rattle.walk.proofs.Recall.{Both, settled-stays}
 
 module _ (walk : Walk) (old new : List ℕ) (used a : ℕ) (rd : ReadyOne old new used a) (r : Form) (er : r ≡ formFor walk a (kindOn (take used (old ++ new)) a)) where
@@ -215,3 +215,6 @@ module _ (walk : Walk) (s off : ℕ) (old new : List ℕ) (used a n : ℕ) (now 
 
   pub part-turn : {now₂ : List ℕ} {m : Interned} → Walked walk old now v p now₂ m → (h v′ : ℕ) → m ≡ At h v′ → i < length parts → Going₁ walk s old new used a n (a + off) now₂ (set parts i h) v′ (i + 1)
   part-turn t = going-turn J more at p ea ep t
+
+  pub part-small : {now₂ : List ℕ} {m : Interned} → Walked walk old now v p now₂ m → (h v′ : ℕ) → m ≡ At h v′ → h < 1048576
+  part-small t = going-small J more at p ea ep t

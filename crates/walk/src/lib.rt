@@ -89,7 +89,7 @@ pub fn walk_type(
         }
         Form::ATuple => {
             let n = (words::word(&*old, new, used, a) / kinds::COUNT) as usize;
-            let mut parts = [0u64; limits::MOST_COUNTED];
+            let mut parts = [0u32; limits::MOST_COUNTED];
             let mut v = used;
             let mut i: usize = 0;
             while i < n {
@@ -97,7 +97,7 @@ pub fn walk_type(
                 let m = walk_type(op, &*old, new, v, x, memo, &*index);
                 match m {
                     Interned::At(h, w) => {
-                        parts[i] = h as u64;
+                        parts[i] = h as u32;
                         v = w;
                     }
                     Interned::Full => {
@@ -106,7 +106,7 @@ pub fn walk_type(
                 }
                 i += 1;
             }
-            let r = makers::tuple(&*old, new, v, &parts[..n], &*index);
+            let r = structs::tuple_of(&*old, new, v, &parts[..n], &*index);
             memo::noted(memo, key, r)
         }
     }
@@ -129,7 +129,7 @@ fn walk_struct(
     ensures { λ r. ⌜ Remembered op (now (old .entry)) (now (new .exit)) r (now (memo .exit)) ⌝ }
 {
     let n = (words::word(&*old, new, used, a) / kinds::COUNT) as usize;
-    let mut types = [0u64; limits::MOST_COUNTED];
+    let mut types = [0u32; limits::MOST_COUNTED];
     let mut v = used;
     let mut i: usize = 0;
     while i < n {
@@ -142,7 +142,7 @@ fn walk_struct(
         let m = walk_type(op, &*old, new, v, x, memo, &*index);
         match m {
             Interned::At(h, w) => {
-                types[i] = h as u64;
+                types[i] = h as u32;
                 v = w;
             }
             Interned::Full => {

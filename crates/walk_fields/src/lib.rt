@@ -16,8 +16,8 @@ ghost use Rattle.words.specs.Words.{fieldSize};
 ghost use Rattle.walk_rules.specs.Tables.{finalsOf, walkFields};
 ghost use Rattle.wellformed.specs.Form.{longestAllowed};
 
-// Fills the first words of `dst` with n finals: the words 2 × alias + final stand from p on, 3 apart.
-fn finals_of(walk: Walk, dst: &mut [u64], old: &[u64], new: &[u64], used: usize, n: usize, p: usize)
+// Fills the first bytes of `dst` with n finals: the words 2 × alias + final stand from p on, 3 apart.
+fn finals_of(walk: Walk, dst: &mut [u8], old: &[u64], new: &[u64], used: usize, n: usize, p: usize)
     requires { ⌜ (length (now old) ≤ used) × (used ≤ length (now old) + length (now new)) ⌝ }
     requires { ⌜ (n ≤ length (now dst)) × (n ≤ mostCounted) × (p ≤ firstFlags longestAllowed) ⌝ }
     ensures { λ _. ⌜ now (dst .exit) ≡ finalsOf walk (every fieldSize n p (take used (now (old .entry) ++ now (new .entry)))) ++ drop n (now (dst .entry)) ⌝ }
@@ -27,20 +27,20 @@ fn finals_of(walk: Walk, dst: &mut [u64], old: &[u64], new: &[u64], used: usize,
         dst[i] = walk_rules::final_of(
             walk,
             words::word(&*old, &*new, used, p + columns::FIELD * i),
-        );
+        ) as u8;
         i += 1;
     }
 }
 
-// The struct at a with these types and the walk's finals, which stand in the first words of `finals`.
+// The struct at a with these types and the walk's finals, which stand in the first bytes of `finals`.
 fn fields_in(
     walk: Walk,
     old: &[u64],
     new: &mut [u64],
     used: usize,
     a: usize,
-    types: &[u64],
-    finals: &mut [u64],
+    types: &[u32],
+    finals: &mut [u8],
     index: &[u64],
 ) -> Interned
     requires { ⌜ Segments (now old) (now new) used ⌝ }
@@ -54,14 +54,14 @@ fn fields_in(
     structs::made_again(&*old, new, used, a, &*types, &finals[..n], &*index)
 }
 
-// Makes the struct at a with these types and the walk's finals. Few fields are given few words, since all of them are cleared at each call.
+// Makes the struct at a with these types and the walk's finals.
 pub fn fields_of(
     walk: Walk,
     old: &[u64],
     new: &mut [u64],
     used: usize,
     a: usize,
-    types: &[u64],
+    types: &[u32],
     index: &[u64],
 ) -> Interned
     requires { ⌜ Segments (now old) (now new) used ⌝ }
@@ -69,10 +69,6 @@ pub fn fields_of(
     requires { ⌜ Covers (take used (now old ++ now new)) (now index) ⌝ }
     ensures { λ r. ⌜ Runs (walkFields walk a (now (types .entry))) (now (old .entry)) (now (new .entry)) used (now (new .exit)) r ⌝ }
 {
-    if types.len() <= structs::FEW_FIELDS {
-        let mut few = [0u64; structs::FEW_FIELDS];
-        return fields_in(walk, &*old, new, used, a, &*types, &mut few, &*index);
-    }
-    let mut many = [0u64; limits::MOST_COUNTED];
-    fields_in(walk, &*old, new, used, a, &*types, &mut many, &*index)
+    let mut finals = [0u8; limits::MOST_COUNTED];
+    fields_in(walk, &*old, new, used, a, &*types, &mut finals, &*index)
 }

@@ -398,18 +398,45 @@ pub const MIDDLE_LIST: usize = bitset::WORD_BITS * MIDDLE_MARKS;
 
 pub const LARGE_MARKS: usize = 16384;
 
-// Row 1. The bits are a local array whose size goes by the list's length, so that a small store does not pay for a large one's.
-pub fn well_formed(words: &[u64]) -> bool
+pub const LARGE_LIST: usize = bitset::WORD_BITS * LARGE_MARKS;
+
+fn verify_middle(words: &[u64]) -> bool
+    requires { ⌜ min (length (now words)) longestAllowed ≤ wordBits * 1024 ⌝ }
     ensures { λ r. ⌜ r ≡ wellFormed (now (words .entry)) ⌝ }
 {
-    if words.len() <= SMALL_LIST {
+    let mut bits = [0u64; MIDDLE_MARKS];
+    verify(words, &mut bits)
+}
+
+fn verify_large(words: &[u64]) -> bool
+    ensures { λ r. ⌜ r ≡ wellFormed (now (words .entry)) ⌝ }
+{
+    let mut bits = [0u64; LARGE_MARKS];
+    verify(words, &mut bits)
+}
+
+// Row 1 with bits for a list of n words: the list's length, or where that is more than twice as long as a store may be, half of it, and so on. Each size of the array of bits stands in the frame of a function of its own, so that a small list needs
+// little stack. This function calls itself, and into such a one the compiler puts no function that has a large array.
+fn verify_for(n: usize, words: &[u64]) -> bool
+    requires { ⌜ min (length (now words)) longestAllowed ≤ n ⌝ }
+    ensures { λ r. ⌜ r ≡ wellFormed (now (words .entry)) ⌝ }
+{
+    if n <= SMALL_LIST {
         let mut bits = [0u64; SMALL_MARKS];
         return verify(words, &mut bits);
     }
-    if words.len() <= MIDDLE_LIST {
-        let mut bits = [0u64; MIDDLE_MARKS];
-        return verify(words, &mut bits);
+    if n <= MIDDLE_LIST {
+        return verify_middle(words);
     }
-    let mut bits = [0u64; LARGE_MARKS];
-    verify(words, &mut bits)
+    if n / 2 <= LARGE_LIST {
+        return verify_large(words);
+    }
+    verify_for(n / 2, words)
+}
+
+// Row 1.
+pub fn well_formed(words: &[u64]) -> bool
+    ensures { λ r. ⌜ r ≡ wellFormed (now (words .entry)) ⌝ }
+{
+    verify_for(words.len(), words)
 }

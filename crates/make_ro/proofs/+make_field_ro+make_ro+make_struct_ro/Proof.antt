@@ -10,7 +10,7 @@ use borrow.Author.Needs.{needs}
 use Rattle.parts.proofs.Grew.{grew-long, grew-high, grew-up, grew-covers}
 use Rattle.finals.proofs.Ways.{struct-few}
 use Rattle.make_ro.specs.Remembered.{Remembers}
-use Rattle.make_ro.proofs.Loop.{GoingRo, going-next, going-turn, going-segments}
+use Rattle.make_ro.proofs.Loop.{GoingRo, going-next, going-turn, going-small, going-segments}
 use Rattle.make_ro.proofs.Recall.{remembers-finals, remembered-full, remembered-same, remembered-pointer, remembered-struct, made-known, made-noted}
 use Rattle.make_ro.proofs.Ways.{field-stays, field-made, other-stays, final-stays, not-final, pointer-next, pointer-full, pointer-segments, pointer-required, pointer-stays, pointer-made, struct-begin, struct-stop, struct-end, struct-values}
 use Prim.Native.Nat.{ℕ, _<_}
@@ -275,6 +275,12 @@ make-struct-ro-make-field-ro-requires t c κs =
 make-struct-ro-enum-known-m : (t : ℕ) → make-struct-ro-lts.Need-enum-known-m (make-struct-ro-K t) (make-struct-ro-at t) make-struct-ro.Post make-struct-ro-Inv-loop make-struct-ro-μ-loop
 make-struct-ro-enum-known-m t c = search needs
 
+make-struct-ro-cast-types : (t : ℕ) → make-struct-ro-lts.Need-cast-types (make-struct-ro-K t) (make-struct-ro-at t) make-struct-ro.Post make-struct-ro-Inv-loop make-struct-ro-μ-loop
+make-struct-ro-cast-types t c =
+    let l = c .before .before .before .before .before .before .before .before .before .before .before .before .before .before .before .before .before .before .loop .inv in
+    let i = c .before .before .before .before .before .before .before .before .before .before .before .before .before .before .before .before .before .loop-test .taken in
+    omega (arith, going-small (l .8) i _ _ (c .before .before .before .before .before .before .before .before .before .before .before .before .before .before .before .word2 .ensures) (c .before .before .before .before .before .before .before .before .before .before .before .before .before .word3 .ensures) (c .before .before .before .before .before .before .before .before .before .make-field-ro .ensures .0) _ _ (c .before .m .given .1))
+
 make-struct-ro-mul-types : (t : ℕ) → make-struct-ro-lts.Need-mul-types (make-struct-ro-K t) (make-struct-ro-at t) make-struct-ro.Post make-struct-ro-Inv-loop make-struct-ro-μ-loop
 make-struct-ro-mul-types t c = search needs
 
@@ -412,6 +418,7 @@ pub +make-field-ro+make-ro+make-struct-ro-spec : {M : Type 1} → statement M
     (make-struct-ro-word-requires-3 t)
     (make-struct-ro-make-field-ro-requires t)
     (make-struct-ro-enum-known-m t)
+    (make-struct-ro-cast-types t)
     (make-struct-ro-mul-types t)
     (make-struct-ro-array-write-types t)
     (make-struct-ro-enum-told t)

@@ -4,6 +4,7 @@ use mathlib.Core.List.{_++_}
 use Prim.Native.Nat.{_+_, _*_, _≤_, _-_}
 use lib.ListN.{length, take, drop}
 use Rattle.meet_fields.proofs.Finals.{finals, either-begin, either-on, either-end}
+use native.Mathlib.Omega.{arith}
 use borrow.Author.Needs.{needs}
 use Rattle.meet_fields.proofs.either_final.Statement.{statement}
 use Rattle.meet_fields.proofs.either_final.Tie as tie
@@ -41,8 +42,8 @@ word-requires-2 c κs = search needs
 larger-requires : tie.Need-larger-requires Inv-loop μ-loop
 larger-requires c κs = search needs
 
-mul-dst : tie.Need-mul-dst Inv-loop μ-loop
-mul-dst c = search needs
+cast-dst : tie.Need-cast-dst Inv-loop μ-loop
+cast-dst c = omega (arith, c .larger .ensures)
 
 slice-write-dst : tie.Need-slice-write-dst Inv-loop μ-loop
 slice-write-dst c = search needs
@@ -81,7 +82,7 @@ either-final-spec =
     add-word-2
     word-requires-2
     larger-requires
-    mul-dst
+    cast-dst
     slice-write-dst
     add-i
     loop-less

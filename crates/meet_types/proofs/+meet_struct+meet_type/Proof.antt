@@ -12,7 +12,7 @@ use Rattle.parts.proofs.Grew.{grew-long, grew-high, grew-up, grew-covers}
 use Rattle.meet_types.specs.Remembered.{Remembers}
 use Rattle.meet_types.proofs.Recall.{remembered-same, remembered-full, remembered-entry, remembered-pointer, remembered-memory, remembered-fields, met-known, met-noted, struct-known, struct-noted}
 use Rattle.meet_types.proofs.Loop.{Going, going-segments}
-use Rattle.meet_types.proofs.Ways.{met-first, met-second, met-bottom, met-ints, float-sizes, met-floats, ready-structs, met-structs, pointer-next, pointer-full, pointer-segments, pointer-required, met-pointers, memory-next, memory-full, memory-segments, memory-required, met-memories, tuple-few, tuple-begin, tuple-stop, tuple-end, tuple-next, tuple-turn, names-below, met-former, met-latter, met-lowest, struct-few, struct-begin, struct-stop, struct-end, struct-values, struct-next, struct-turn}
+use Rattle.meet_types.proofs.Ways.{met-first, met-second, met-bottom, met-ints, float-sizes, met-floats, ready-structs, met-structs, pointer-next, pointer-full, pointer-segments, pointer-required, met-pointers, memory-next, memory-full, memory-segments, memory-required, met-memories, tuple-few, tuple-begin, tuple-stop, tuple-end, tuple-next, tuple-turn, tuple-small, names-below, met-former, met-latter, met-lowest, struct-few, struct-begin, struct-stop, struct-end, struct-values, struct-next, struct-turn, struct-small}
 use Prim.Native.Nat.{ℕ, _<_}
 use borrow.Fn.Kinds.{In}
 use borrow.Fn.PlainCycle.{Measures, is, falls, and}
@@ -24,7 +24,7 @@ use Rattle.meet_types.proofs.meet_type.Kinds as meet-type-kinds
 use Rattle.meet_types.proofs.+meet_struct+meet_type.Lts-meet_type as meet-type-lts
 use Rattle.makers.proofs.memory.Reads as memory-reads
 use Rattle.makers.proofs.pointer.Reads as pointer-reads
-use Rattle.makers.proofs.tuple.Reads as tuple-reads
+use Rattle.structs.proofs.tuple_of.Reads as tuple-of-reads
 use Rattle.meet_types.proofs.meet_key.Reads as meet-key-reads
 use Rattle.meet_types.proofs.pair_key.Reads as pair-key-reads
 use Rattle.meet_fields.proofs.meet_fields.Reads as meet-fields-reads
@@ -65,7 +65,7 @@ abbrev meet-struct-K : ℕ → meet-struct-lts.Claims
 meet-struct-K t = (struct-rule-reads.Asked, struct-rule-reads.Learnt, pair-key-reads.Asked, pair-key-reads.Learnt, recall-reads.Asked, recall-reads.Learnt, word-reads.Asked, word-reads.Learnt, meet-type-below t, meet-type.Post, meet-fields-reads.Asked, meet-fields-reads.Learnt, noted-reads.Asked, noted-reads.Learnt)
 
 abbrev meet-type-K : ℕ → meet-type-lts.Claims
-meet-type-K t = (type-rule-reads.Asked, type-rule-reads.Learnt, meet-key-reads.Asked, meet-key-reads.Learnt, recall-reads.Asked, recall-reads.Learnt, meet-int-reads.Asked, meet-int-reads.Learnt, meet-float-reads.Asked, meet-float-reads.Learnt, meet-struct-below t, meet-struct.Post, word-reads.Asked, word-reads.Learnt, larger-reads.Asked, larger-reads.Learnt, pointer-reads.Asked, pointer-reads.Learnt, noted-reads.Asked, noted-reads.Learnt, shared-alias-reads.Asked, shared-alias-reads.Learnt, meet-type-below t, meet-type.Post, memory-reads.Asked, memory-reads.Learnt, tuple-reads.Asked, tuple-reads.Learnt)
+meet-type-K t = (type-rule-reads.Asked, type-rule-reads.Learnt, meet-key-reads.Asked, meet-key-reads.Learnt, recall-reads.Asked, recall-reads.Learnt, meet-int-reads.Asked, meet-int-reads.Learnt, meet-float-reads.Asked, meet-float-reads.Learnt, meet-struct-below t, meet-struct.Post, word-reads.Asked, word-reads.Learnt, larger-reads.Asked, larger-reads.Learnt, pointer-reads.Asked, pointer-reads.Learnt, noted-reads.Asked, noted-reads.Learnt, shared-alias-reads.Asked, shared-alias-reads.Learnt, meet-type-below t, meet-type.Post, memory-reads.Asked, memory-reads.Learnt, tuple-of-reads.Asked, tuple-of-reads.Learnt)
 
 abbrev meet-struct-Inv-loop : meet-struct-lts.InvT-loop
 meet-struct-Inv-loop old new₀ used a b memo₀ index key n types₀ v₀ i₀ new memo types v i = (i ≤ n) × (n ≤ 255) × (length types ≡ 255) × (length new ≡ length new₀) × (v ≤ length old + length new₀) × (used ≤ v) × (length old ≤ used) × (a < 1048576) × (b < 1048576) × Going 3 old new₀ used a b n (a + 3) (b + 3) new types v i × Remembers (take v (old ++ new)) memo × (length memo ≡ length memo₀)
@@ -155,6 +155,12 @@ meet-struct-meet-type-requires t c κs =
 
 meet-struct-enum-known-m : (t : ℕ) → meet-struct-lts.Need-enum-known-m (meet-struct-K t) (meet-struct-at t) meet-struct.Post meet-struct-Inv-loop meet-struct-μ-loop
 meet-struct-enum-known-m t c = search needs
+
+meet-struct-cast-types : (t : ℕ) → meet-struct-lts.Need-cast-types (meet-struct-K t) (meet-struct-at t) meet-struct.Post meet-struct-Inv-loop meet-struct-μ-loop
+meet-struct-cast-types t c =
+    let l = c .before .before .before .before .before .before .before .before .before .before .before .before .before .before .before .loop .inv in
+    let i = c .before .before .before .before .before .before .before .before .before .before .before .before .before .before .loop-test .taken in
+    omega (arith, struct-small _ _ _ _ _ _ (c .before .before .before .before .before .before .before .before .before .before .before .before .before .before .before .loop .new) _ _ _ (l .9) i _ _ (c .before .before .before .before .before .before .before .before .before .before .before .before .word2 .ensures) (c .before .before .before .before .before .before .before .before .before .before .word3 .ensures) (c .before .before .before .before .before .before .before .meet-type .ensures .0) _ _ (c .before .m .given .1))
 
 meet-struct-mul-types : (t : ℕ) → meet-struct-lts.Need-mul-types (meet-struct-K t) (meet-struct-at t) meet-struct.Post meet-struct-Inv-loop meet-struct-μ-loop
 meet-struct-mul-types t c = search needs
@@ -433,6 +439,12 @@ meet-type-meet-type-requires-2 t c κs =
 meet-type-enum-known-m-3 : (t : ℕ) → meet-type-lts.Need-enum-known-m-3 (meet-type-K t) (meet-type-at t) meet-type.Post meet-type-Inv-loop meet-type-μ-loop
 meet-type-enum-known-m-3 t c = search needs
 
+meet-type-cast-parts : (t : ℕ) → meet-type-lts.Need-cast-parts (meet-type-K t) (meet-type-at t) meet-type.Post meet-type-Inv-loop meet-type-μ-loop
+meet-type-cast-parts t c =
+    let l = c .before .before .before .before .before .before .before .before .before .before .before .before .before .before .before .loop .inv in
+    let i = c .before .before .before .before .before .before .before .before .before .before .before .before .before .before .loop-test .taken in
+    omega (arith, tuple-small _ _ _ _ _ _ (c .before .before .before .before .before .before .before .before .before .before .before .before .before .before .before .loop .new) _ _ _ (l .9) i _ _ (c .before .before .before .before .before .before .before .before .before .before .before .before .word10 .ensures) (c .before .before .before .before .before .before .before .before .before .before .word11 .ensures) (c .before .before .before .before .before .before .before .meet-type2 .ensures .0) _ _ (c .before .m3 .given .1))
+
 meet-type-mul-parts : (t : ℕ) → meet-type-lts.Need-mul-parts (meet-type-K t) (meet-type-at t) meet-type.Post meet-type-Inv-loop meet-type-μ-loop
 meet-type-mul-parts t c = search needs
 
@@ -467,11 +479,11 @@ meet-type-loop-again t c =
 meet-type-array-share-prefix-parts : (t : ℕ) → meet-type-lts.Need-array-share-prefix-parts (meet-type-K t) (meet-type-at t) meet-type.Post meet-type-Inv-loop meet-type-μ-loop
 meet-type-array-share-prefix-parts t c = search needs
 
-meet-type-slice-aggregate-tuple : (t : ℕ) → meet-type-lts.Need-slice-aggregate-tuple (meet-type-K t) (meet-type-at t) meet-type.Post meet-type-Inv-loop meet-type-μ-loop
-meet-type-slice-aggregate-tuple t c = sym (length-take-le _ (c .before .before .before .loop .parts) (omega arith))
+meet-type-slice-aggregate-tuple-of : (t : ℕ) → meet-type-lts.Need-slice-aggregate-tuple-of (meet-type-K t) (meet-type-at t) meet-type.Post meet-type-Inv-loop meet-type-μ-loop
+meet-type-slice-aggregate-tuple-of t c = sym (length-take-le _ (c .before .before .before .loop .parts) (omega arith))
 
-meet-type-tuple-requires : (t : ℕ) → meet-type-lts.Need-tuple-requires (meet-type-K t) (meet-type-at t) meet-type.Post meet-type-Inv-loop meet-type-μ-loop
-meet-type-tuple-requires t c κs =
+meet-type-tuple-of-requires : (t : ℕ) → meet-type-lts.Need-tuple-of-requires (meet-type-K t) (meet-type-at t) meet-type.Post meet-type-Inv-loop meet-type-μ-loop
+meet-type-tuple-of-requires t c κs =
     let l = c .before .before .before .loop .inv in
     let n = length-take-le (c .before .before .before .before .word9 .result / 65536) (c .before .before .before .loop .parts) (omega (arith, l .1, l .2)) in
     (going-segments (l .9), (omega (arith, n, l .1), grew-covers (l .9 .turn .grew) (c .before .before .before .before .before .before .before .before .before .before .before .before .before .before .before .before .before .before .before .pre .1 .1 .1)))
@@ -583,8 +595,8 @@ meet-type-same-length-26 t c = search needs
 
 meet-type-returns-13 : (t : ℕ) → meet-type-lts.Need-returns-13 (meet-type-K t) (meet-type-at t) meet-type.Post meet-type-Inv-loop meet-type-μ-loop
 meet-type-returns-13 t c =
-    let t = tuple-end _ _ _ _ _ (c .before .before .before .before .before .before .before .before .before .before .before .before .before .before .before .before .before .before .before .before .before .before .before .before .before .before .pre .1 .0) _ (c .before .before .before .before .before .before .before .before .before .before .before .before .before .before .before .before .before .before .before .before .type-rule .ensures) (c .before .before .before .before .before .before .before .before .before .before .before .before .before .enum-told12 .given .1) _ (c .before .before .before .before .before .before .before .before .before .before .before .word9 .ensures) _ _ _ _ (c .before .before .before .before .before .before .before .before .before .before .loop .inv .9) (omega arith) (c .before .before .before .before .before .before .before .before .before .before .loop .inv .0) _ _ (c .before .before .before .before .before .before .tuple .ensures) in
-    let m = remembered-entry (going-segments (c .before .before .before .before .before .before .before .before .before .before .loop .inv .9)) (c .before .before .before .before .before .before .before .before .before .before .loop .inv .10) _ (c .before .before .before .before .before .before .tuple .ensures) in
+    let t = tuple-end _ _ _ _ _ (c .before .before .before .before .before .before .before .before .before .before .before .before .before .before .before .before .before .before .before .before .before .before .before .before .before .before .pre .1 .0) _ (c .before .before .before .before .before .before .before .before .before .before .before .before .before .before .before .before .before .before .before .before .type-rule .ensures) (c .before .before .before .before .before .before .before .before .before .before .before .before .before .enum-told12 .given .1) _ (c .before .before .before .before .before .before .before .before .before .before .before .word9 .ensures) _ _ _ _ (c .before .before .before .before .before .before .before .before .before .before .loop .inv .9) (omega arith) (c .before .before .before .before .before .before .before .before .before .before .loop .inv .0) _ _ (c .before .before .before .before .before .before .tuple-of .ensures) in
+    let m = remembered-entry (going-segments (c .before .before .before .before .before .before .before .before .before .before .loop .inv .9)) (c .before .before .before .before .before .before .before .before .before .before .loop .inv .10) _ (c .before .before .before .before .before .before .tuple-of .ensures) in
     met-noted (c .before .before .before .before .before .before .before .before .before .before .before .before .before .before .before .before .before .before .before .before .before .before .before .before .before .before .pre .1 .0) _ (c .before .before .before .before .before .before .before .before .before .before .before .before .before .before .before .before .before .before .before .meet-key .ensures) t m (c .before .before .noted3 .ensures .0) (c .before .before .noted3 .ensures .1)
 
 pub +meet-struct+meet-type-spec : {M : Type 1} → statement M
@@ -617,6 +629,7 @@ pub +meet-struct+meet-type-spec : {M : Type 1} → statement M
     (meet-struct-word-requires-3 t)
     (meet-struct-meet-type-requires t)
     (meet-struct-enum-known-m t)
+    (meet-struct-cast-types t)
     (meet-struct-mul-types t)
     (meet-struct-array-write-types t)
     (meet-struct-enum-told-6 t)
@@ -702,6 +715,7 @@ pub +meet-struct+meet-type-spec : {M : Type 1} → statement M
     (meet-type-word-requires-11 t)
     (meet-type-meet-type-requires-2 t)
     (meet-type-enum-known-m-3 t)
+    (meet-type-cast-parts t)
     (meet-type-mul-parts t)
     (meet-type-array-write-parts t)
     (meet-type-enum-told-13 t)
@@ -712,8 +726,8 @@ pub +meet-struct+meet-type-spec : {M : Type 1} → statement M
     (meet-type-loop-less t)
     (meet-type-loop-again t)
     (meet-type-array-share-prefix-parts t)
-    (meet-type-slice-aggregate-tuple t)
-    (meet-type-tuple-requires t)
+    (meet-type-slice-aggregate-tuple-of t)
+    (meet-type-tuple-of-requires t)
     (meet-type-noted-requires-3 t)
     (meet-type-same-length-5 t)
     (meet-type-same-length-6 t)

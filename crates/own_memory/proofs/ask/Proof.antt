@@ -26,11 +26,17 @@ returns c = c .before .before .before .before .operate .ensures .0
 is-small-requires : tie.Need-is-small-requires
 is-small-requires c κs = search needs
 
+add-lines-for : tie.Need-add-lines-for
+add-lines-for c = search needs
+
+lines-for-requires : tie.Need-lines-for-requires
+lines-for-requires c = search needs
+
 slice-aggregate-sized : tie.Need-slice-aggregate-sized
 slice-aggregate-sized c = search needs
 
 sized-requires : tie.Need-sized-requires
-sized-requires c κs = let s = c .before .before .before .before .before .before .before .before .before .before in (s .pre .0, (knows-blank _ 0, s .pre .1))
+sized-requires c κs = let s = c .before .before .before .before .before .before .before .before .before .before .before in (s .pre .0, (knows-blank _ 0, s .pre .1))
 
 same-length-2 : tie.Need-same-length-2
 same-length-2 c = search needs
@@ -49,6 +55,8 @@ ask-spec =
     same-length
     returns
     is-small-requires
+    add-lines-for
+    lines-for-requires
     slice-aggregate-sized
     sized-requires
     same-length-2

@@ -27,8 +27,14 @@ returns c = c .before .before .before .before .before .operate .ensures
 is-small-requires : tie.Need-is-small-requires
 is-small-requires c κs = let c₀ = c .before .before .before .before .before .before .before .before in asked-store (c₀ .args .op) (now (c₀ .args .old)) (now (c₀ .args .new)) (c₀ .args .used) (c₀ .args .a) (c₀ .pre .0)
 
+add-lines-for : tie.Need-add-lines-for
+add-lines-for c = search needs
+
+lines-for-requires : tie.Need-lines-for-requires
+lines-for-requires c = search needs
+
 sized-requires : tie.Need-sized-requires
-sized-requires c κs = c .before .before .before .before .before .before .before .before .before .before .before .pre
+sized-requires c κs = c .before .before .before .before .before .before .before .before .before .before .before .before .pre
 
 same-length-3 : tie.Need-same-length-3
 same-length-3 c = search needs
@@ -50,6 +56,8 @@ run-spec =
     same-length-2
     returns
     is-small-requires
+    add-lines-for
+    lines-for-requires
     sized-requires
     same-length-3
     same-length-4

@@ -4,14 +4,11 @@ use borrow.Author.Needs.{needs}
 use Rattle.own_memory.proofs.up_to_512.Statement.{statement}
 use Rattle.own_memory.proofs.up_to_512.Tie as tie
 
-add-n : tie.Need-add-n
-add-n c = search needs
-
 slice-aggregate-operate : tie.Need-slice-aggregate-operate
 slice-aggregate-operate c = search needs
 
 operate-requires : tie.Need-operate-requires
-operate-requires c κs = (c .before .before .before .before .before .before .before .before .pre .0, (zeros 128, c .before .before .before .before .before .before .before .before .pre .1))
+operate-requires c κs = let s = c .before .before .before .before .before .before .before .before in (s .pre .0, (zeros 128, s .pre .1))
 
 same-length : tie.Need-same-length
 same-length c = search needs
@@ -26,7 +23,7 @@ slice-aggregate-operate-2 : tie.Need-slice-aggregate-operate-2
 slice-aggregate-operate-2 c = search needs
 
 operate-requires-2 : tie.Need-operate-requires-2
-operate-requires-2 c κs = (c .before .before .before .before .before .before .before .before .before .pre .0, (zeros 256, c .before .before .before .before .before .before .before .before .before .pre .1))
+operate-requires-2 c κs = let s = c .before .before .before .before .before .before .before .before .before in (s .pre .0, (zeros 256, s .pre .1))
 
 same-length-3 : tie.Need-same-length-3
 same-length-3 c = search needs
@@ -41,7 +38,7 @@ slice-aggregate-operate-3 : tie.Need-slice-aggregate-operate-3
 slice-aggregate-operate-3 c = search needs
 
 operate-requires-3 : tie.Need-operate-requires-3
-operate-requires-3 c κs = (c .before .before .before .before .before .before .before .before .before .pre .0, (zeros 512, c .before .before .before .before .before .before .before .before .before .pre .1))
+operate-requires-3 c κs = let s = c .before .before .before .before .before .before .before .before .before in (s .pre .0, (zeros 512, s .pre .1))
 
 same-length-5 : tie.Need-same-length-5
 same-length-5 c = search needs
@@ -56,7 +53,6 @@ pub up-to-512-spec : {M : Type 1} → statement M
 up-to-512-spec =
     tie.close
     (tie.spec
-    add-n
     slice-aggregate-operate
     operate-requires
     same-length

@@ -51,17 +51,20 @@ part-write-start c = search needs
 part-write-end : tie.Need-part-write-end Inv-loop μ-loop
 part-write-end c = search needs
 
-mul-t31 : tie.Need-mul-t31 Inv-loop μ-loop
-mul-t31 c = search needs
+mul-wide : tie.Need-mul-wide Inv-loop μ-loop
+mul-wide c = search needs
 
-shared-slice-read-t19 : tie.Need-shared-slice-read-t19 Inv-loop μ-loop
-shared-slice-read-t19 c = search needs
+shared-slice-read-wide : tie.Need-shared-slice-read-wide Inv-loop μ-loop
+shared-slice-read-wide c = search needs
 
-mul-t33 : tie.Need-mul-t33 Inv-loop μ-loop
-mul-t33 c = search needs
+wide-requires : tie.Need-wide-requires Inv-loop μ-loop
+wide-requires c κs = search needs
 
-shared-slice-read-t35 : tie.Need-shared-slice-read-t35 Inv-loop μ-loop
-shared-slice-read-t35 c = search needs
+shared-slice-read-flag : tie.Need-shared-slice-read-flag Inv-loop μ-loop
+shared-slice-read-flag c = search needs
+
+flag-requires : tie.Need-flag-requires Inv-loop μ-loop
+flag-requires c κs = search needs
 
 slice-aggregate-write : tie.Need-slice-aggregate-write Inv-loop μ-loop
 slice-aggregate-write c = search needs
@@ -78,10 +81,12 @@ loop-less c = search needs
 loop-again : tie.Need-loop-again Inv-loop μ-loop
 loop-again c =
     let w = c .before .before in
-    let v = w .before .before .before .before .before in
+    let g = w .before .before in
+    let t = g .before .before in
+    let v = t .before .before .before in
     let l = v .before .before .before in
     let s = l .before .before .before .before .before .before in
-    let f = fill-on _ _ _ _ _ _ _ (l .loop .inv .2) (l .loop .inv .3) (s .pre .1 .1) (s .pre .1 .2) (l .loop .inv .1) (v .before .before .loop-test .taken) _ _ (v .before .word .ensures) (v .word2 .ensures) _ (w .write .ensures) in
+    let f = fill-on _ _ _ _ _ _ _ (l .loop .inv .2) (l .loop .inv .3) (s .pre .1 .1) (s .pre .1 .2) (l .loop .inv .1) (v .before .before .loop-test .taken) _ _ _ _ (v .before .word .ensures) (v .word2 .ensures) (t .wide .ensures) (g .flag .ensures) _ (w .write .ensures) in
     (search needs, search needs, f .0, f .1)
 
 same-length : tie.Need-same-length Inv-loop μ-loop
@@ -107,10 +112,11 @@ fields-with-spec =
     sub-write
     part-write-start
     part-write-end
-    mul-t31
-    shared-slice-read-t19
-    mul-t33
-    shared-slice-read-t35
+    mul-wide
+    shared-slice-read-wide
+    wide-requires
+    shared-slice-read-flag
+    flag-requires
     slice-aggregate-write
     write-requires
     add-i

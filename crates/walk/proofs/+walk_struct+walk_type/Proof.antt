@@ -12,7 +12,7 @@ use Rattle.parts.proofs.Grew.{grew-long, grew-high, grew-up, grew-covers}
 use Rattle.walk.specs.Remembered.{Remembers}
 use Rattle.walk.proofs.Recall.{walked-known, walked-noted}
 use Rattle.walk.proofs.Loop.{Going₁, going-segments}
-use Rattle.walk.proofs.Ways.{walked-is, walked-ints, float-size, walked-floats, pointer-flag, pointer-next, pointer-full, pointer-required, walked-pointers, memory-next, memory-full, memory-required, walked-memories, walk-few, tuple-begin, tuple-stop, tuple-end, struct-begin, struct-stop, struct-end, struct-values, part-next, part-turn}
+use Rattle.walk.proofs.Ways.{walked-is, walked-ints, float-size, walked-floats, pointer-flag, pointer-next, pointer-full, pointer-required, walked-pointers, memory-next, memory-full, memory-required, walked-memories, walk-few, tuple-begin, tuple-stop, tuple-end, struct-begin, struct-stop, struct-end, struct-values, part-next, part-turn, part-small}
 use Prim.Native.Nat.{ℕ, _<_}
 use borrow.Fn.Kinds.{In}
 use borrow.Fn.PlainCycle.{Measures, is, falls, and}
@@ -24,7 +24,7 @@ use Rattle.walk.proofs.walk_type.Kinds as walk-type-kinds
 use Rattle.walk.proofs.+walk_struct+walk_type.Lts-walk_type as walk-type-lts
 use Rattle.makers.proofs.memory.Reads as memory-reads
 use Rattle.makers.proofs.pointer.Reads as pointer-reads
-use Rattle.makers.proofs.tuple.Reads as tuple-reads
+use Rattle.structs.proofs.tuple_of.Reads as tuple-of-reads
 use Rattle.memo.proofs.noted.Reads as noted-reads
 use Rattle.memo.proofs.recall.Reads as recall-reads
 use Rattle.walk.proofs.walk_key.Reads as walk-key-reads
@@ -62,7 +62,7 @@ abbrev walk-struct-K : ℕ → walk-struct-lts.Claims
 walk-struct-K t = (word-reads.Asked, word-reads.Learnt, walk-type-below t, walk-type.Post, fields-of-reads.Asked, fields-of-reads.Learnt)
 
 abbrev walk-type-K : ℕ → walk-type-lts.Claims
-walk-type-K t = (form-of-reads.Asked, form-of-reads.Learnt, walk-key-reads.Asked, walk-key-reads.Learnt, recall-reads.Asked, recall-reads.Learnt, int-of-reads.Asked, int-of-reads.Learnt, float-of-reads.Asked, float-of-reads.Learnt, walk-struct-below t, walk-struct.Post, noted-reads.Asked, noted-reads.Learnt, word-reads.Asked, word-reads.Learnt, nil-of-reads.Asked, nil-of-reads.Learnt, walk-type-below t, walk-type.Post, pointer-reads.Asked, pointer-reads.Learnt, memory-reads.Asked, memory-reads.Learnt, tuple-reads.Asked, tuple-reads.Learnt)
+walk-type-K t = (form-of-reads.Asked, form-of-reads.Learnt, walk-key-reads.Asked, walk-key-reads.Learnt, recall-reads.Asked, recall-reads.Learnt, int-of-reads.Asked, int-of-reads.Learnt, float-of-reads.Asked, float-of-reads.Learnt, walk-struct-below t, walk-struct.Post, noted-reads.Asked, noted-reads.Learnt, word-reads.Asked, word-reads.Learnt, nil-of-reads.Asked, nil-of-reads.Learnt, walk-type-below t, walk-type.Post, pointer-reads.Asked, pointer-reads.Learnt, memory-reads.Asked, memory-reads.Learnt, tuple-of-reads.Asked, tuple-of-reads.Learnt)
 
 abbrev walk-struct-Inv-loop : walk-struct-lts.InvT-loop
 walk-struct-Inv-loop op old new₀ used a memo₀ index n types₀ v₀ i₀ new memo types v i = (i ≤ n) × (n ≤ 255) × (length types ≡ 255) × (length new ≡ length new₀) × (v ≤ length old + length new₀) × (used ≤ v) × (length old ≤ used) × (a < 1048576) × Going₁ op 3 old new₀ used a n (a + 3) new types v i × Remembers op (take v (old ++ new)) memo × (length memo ≡ length memo₀)
@@ -99,6 +99,12 @@ walk-struct-walk-type-requires t c κs =
 
 walk-struct-enum-known-m : (t : ℕ) → walk-struct-lts.Need-enum-known-m (walk-struct-K t) (walk-struct-at t) walk-struct.Post walk-struct-Inv-loop walk-struct-μ-loop
 walk-struct-enum-known-m t c = search needs
+
+walk-struct-cast-types : (t : ℕ) → walk-struct-lts.Need-cast-types (walk-struct-K t) (walk-struct-at t) walk-struct.Post walk-struct-Inv-loop walk-struct-μ-loop
+walk-struct-cast-types t c =
+    let l = c .before .before .before .before .before .before .before .before .before .before .before .before .before .loop .inv in
+    let i = c .before .before .before .before .before .before .before .before .before .before .before .before .loop-test .taken in
+    omega (arith, part-small _ 3 3 _ _ _ _ _ (c .before .before .before .before .before .before .before .before .before .before .before .before .before .loop .new) _ _ _ (l .8) i _ _ (omega arith) (c .before .before .before .before .before .before .before .before .before .before .word2 .ensures) (c .before .before .before .before .before .before .before .walk-type .ensures .0) _ _ (c .before .m .given .1))
 
 walk-struct-mul-types : (t : ℕ) → walk-struct-lts.Need-mul-types (walk-struct-K t) (walk-struct-at t) walk-struct.Post walk-struct-Inv-loop walk-struct-μ-loop
 walk-struct-mul-types t c = search needs
@@ -322,6 +328,12 @@ walk-type-walk-type-requires-3 t c κs =
 walk-type-enum-known-m-3 : (t : ℕ) → walk-type-lts.Need-enum-known-m-3 (walk-type-K t) (walk-type-at t) walk-type.Post walk-type-Inv-loop walk-type-μ-loop
 walk-type-enum-known-m-3 t c = search needs
 
+walk-type-cast-parts : (t : ℕ) → walk-type-lts.Need-cast-parts (walk-type-K t) (walk-type-at t) walk-type.Post walk-type-Inv-loop walk-type-μ-loop
+walk-type-cast-parts t c =
+    let l = c .before .before .before .before .before .before .before .before .before .before .before .before .before .loop .inv in
+    let i = c .before .before .before .before .before .before .before .before .before .before .before .before .loop-test .taken in
+    omega (arith, part-small _ 1 1 _ _ _ _ _ (c .before .before .before .before .before .before .before .before .before .before .before .before .before .loop .new) _ _ _ (l .8) i _ _ (omega arith) (c .before .before .before .before .before .before .before .before .before .before .word6 .ensures) (c .before .before .before .before .before .before .before .walk-type3 .ensures .0) _ _ (c .before .m3 .given .1))
+
 walk-type-mul-parts : (t : ℕ) → walk-type-lts.Need-mul-parts (walk-type-K t) (walk-type-at t) walk-type.Post walk-type-Inv-loop walk-type-μ-loop
 walk-type-mul-parts t c = search needs
 
@@ -361,11 +373,11 @@ walk-type-loop-again t c =
 walk-type-array-share-prefix-parts : (t : ℕ) → walk-type-lts.Need-array-share-prefix-parts (walk-type-K t) (walk-type-at t) walk-type.Post walk-type-Inv-loop walk-type-μ-loop
 walk-type-array-share-prefix-parts t c = search needs
 
-walk-type-slice-aggregate-tuple : (t : ℕ) → walk-type-lts.Need-slice-aggregate-tuple (walk-type-K t) (walk-type-at t) walk-type.Post walk-type-Inv-loop walk-type-μ-loop
-walk-type-slice-aggregate-tuple t c = sym (length-take-le _ (c .before .before .before .loop .parts) (omega arith))
+walk-type-slice-aggregate-tuple-of : (t : ℕ) → walk-type-lts.Need-slice-aggregate-tuple-of (walk-type-K t) (walk-type-at t) walk-type.Post walk-type-Inv-loop walk-type-μ-loop
+walk-type-slice-aggregate-tuple-of t c = sym (length-take-le _ (c .before .before .before .loop .parts) (omega arith))
 
-walk-type-tuple-requires : (t : ℕ) → walk-type-lts.Need-tuple-requires (walk-type-K t) (walk-type-at t) walk-type.Post walk-type-Inv-loop walk-type-μ-loop
-walk-type-tuple-requires t c κs =
+walk-type-tuple-of-requires : (t : ℕ) → walk-type-lts.Need-tuple-of-requires (walk-type-K t) (walk-type-at t) walk-type.Post walk-type-Inv-loop walk-type-μ-loop
+walk-type-tuple-of-requires t c κs =
     let l = c .before .before .before .loop .inv in
     let n = length-take-le (c .before .before .before .before .word5 .result / 65536) (c .before .before .before .loop .parts) (omega (arith, l .1, l .2)) in
     (going-segments (l .8), (omega (arith, n, l .1), grew-covers (l .8 .turn .grew) (c .before .before .before .before .before .before .before .before .before .before .before .before .before .before .before .before .before .before .before .pre .1 .1 .1)))
@@ -461,7 +473,7 @@ walk-type-returns-11 t c =
     let e = c .before .before .before .before .before .before .before .before .before .before .before .before .before .enum-told9 .given .1 in
     let x = c .before .before .before .before .before .before .before .before .before .before .before .word5 .ensures in
     let l = c .before .before .before .before .before .before .before .before .before .before .loop .inv in
-    walked-noted (c .before .before .before .before .before .before .before .before .before .before .before .before .before .before .before .before .before .before .before .before .before .before .before .before .before .before .pre .1 .0) (c .before .before .before .before .before .before .before .before .before .before .before .before .before .before .before .before .before .before .before .walk-key .ensures) (tuple-end _ _ _ _ _ P _ k _ x e _ _ _ _ (l .8) (omega arith) (l .0) _ _ (c .before .before .before .before .before .before .tuple .ensures) _ (l .9)) (c .before .before .noted4 .ensures .1) _ (c .before .before .noted4 .ensures .0)
+    walked-noted (c .before .before .before .before .before .before .before .before .before .before .before .before .before .before .before .before .before .before .before .before .before .before .before .before .before .before .pre .1 .0) (c .before .before .before .before .before .before .before .before .before .before .before .before .before .before .before .before .before .before .before .walk-key .ensures) (tuple-end _ _ _ _ _ P _ k _ x e _ _ _ _ (l .8) (omega arith) (l .0) _ _ (c .before .before .before .before .before .before .tuple-of .ensures) _ (l .9)) (c .before .before .noted4 .ensures .1) _ (c .before .before .noted4 .ensures .0)
 
 pub +walk-struct+walk-type-spec : {M : Type 1} → statement M
 +walk-struct+walk-type-spec = close μ-walk-struct μ-walk-type (λ t. walk-struct-lts.spec (walk-struct-K t)
@@ -477,6 +489,7 @@ pub +walk-struct+walk-type-spec : {M : Type 1} → statement M
     (walk-struct-word-requires-2 t)
     (walk-struct-walk-type-requires t)
     (walk-struct-enum-known-m t)
+    (walk-struct-cast-types t)
     (walk-struct-mul-types t)
     (walk-struct-array-write-types t)
     (walk-struct-enum-told t)
@@ -542,6 +555,7 @@ pub +walk-struct+walk-type-spec : {M : Type 1} → statement M
     (walk-type-word-requires-6 t)
     (walk-type-walk-type-requires-3 t)
     (walk-type-enum-known-m-3 t)
+    (walk-type-cast-parts t)
     (walk-type-mul-parts t)
     (walk-type-array-write-parts t)
     (walk-type-enum-told-10 t)
@@ -552,8 +566,8 @@ pub +walk-struct+walk-type-spec : {M : Type 1} → statement M
     (walk-type-loop-less t)
     (walk-type-loop-again t)
     (walk-type-array-share-prefix-parts t)
-    (walk-type-slice-aggregate-tuple t)
-    (walk-type-tuple-requires t)
+    (walk-type-slice-aggregate-tuple-of t)
+    (walk-type-tuple-of-requires t)
     (walk-type-noted-requires-4 t)
     (walk-type-same-length-5 t)
     (walk-type-same-length-6 t)

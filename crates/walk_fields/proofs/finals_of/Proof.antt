@@ -4,6 +4,7 @@ use mathlib.Core.List.{_++_}
 use Prim.Native.Nat.{_+_, _*_, _≤_, _-_}
 use lib.ListN.{length, take, drop}
 use Rattle.walk_fields.proofs.Finals.{finals, finals-begin, finals-on, finals-end}
+use native.Mathlib.Omega.{arith}
 use borrow.Author.Needs.{needs}
 use Rattle.walk_fields.proofs.finals_of.Statement.{statement}
 use Rattle.walk_fields.proofs.finals_of.Tie as tie
@@ -32,8 +33,8 @@ word-requires c κs = search needs
 final-of-requires : tie.Need-final-of-requires Inv-loop μ-loop
 final-of-requires c κs = search needs
 
-mul-dst : tie.Need-mul-dst Inv-loop μ-loop
-mul-dst c = search needs
+cast-dst : tie.Need-cast-dst Inv-loop μ-loop
+cast-dst c = omega (arith, c .final-of .ensures .1)
 
 slice-write-dst : tie.Need-slice-write-dst Inv-loop μ-loop
 slice-write-dst c = search needs
@@ -69,7 +70,7 @@ finals-of-spec =
     add-word
     word-requires
     final-of-requires
-    mul-dst
+    cast-dst
     slice-write-dst
     add-i
     loop-less
