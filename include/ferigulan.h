@@ -12,12 +12,12 @@
  * WHAT A FUNCTION RETURNS AND WRITES
  *
  * - It returns 0 (FERIGULAN_ACCEPTED), or the number of the refusal that applies, the lowest if there are several.
- *   Behind "refused" each function below has the numbers that it can return.
+ *   Behind "Refused:" each function below has the numbers that it can return.
  * - Its answer goes to *answer: a handle, a number, or 1 for yes and 0 for no. A signed number (the ends, value and
  *   mask of an Int, the size of a Float) is its two's complement word, a Float's constant its bits.
  * - A function that answers in one of two ways tells the way in *which.
- * - Refused, it leaves every word as it was: those of the store, of an output and of an index, *answer and *which. Only
- *   the memory of answers of an opened store may have changed.
+ * - Refused, it leaves every word of the store and of an output as it was, and *answer and *which. The index and the
+ *   memory of an opened store may have changed, where they are not const.
  * - Lists that are lent as const are never written. Of a list that is not const, a function writes what its comment
  *   says; to append is to write behind the used words, and word 0, which counts them. All other used words keep, so
  *   that a handle stays what it is; ferigulan_fresh alone writes the whole list anew.
@@ -31,11 +31,13 @@
  *   any aligned pointer that is not NULL.
  * - A length counts elements (words, or the bytes of a name), not bytes.
  * - What a function may write overlaps nothing else that the same call is lent.
- * - While a call may write a list, no other thread calls with that list.
+ * - While a call may write a list, no other thread uses that list. What is const is not written, so several threads may
+ *   make plain calls at a time that take one list as const. Opened calls are all lent the memory to write, so that on
+ *   one opened store there is one at a time.
  * - The stack is large enough: README.md, "Speed", has the figures.
  *
- * The words themselves may hold anything: every function but the opened ones tests all of them first, and returns 1
- * where they are not those of a store.
+ * The words themselves may hold anything, since plain calls test them. Opened functions do not: what they ask for
+ * besides stands with them, below.
  */
 #ifndef FERIGULAN_H
 #define FERIGULAN_H
@@ -74,7 +76,7 @@ enum ferigulan_refusals {
     FERIGULAN_INDEX_TOO_LARGE = 8, /* offset index above the field count */
     FERIGULAN_NO_LOG_SIZE = 9, /* no log size */
     FERIGULAN_BODY_WITHOUT_NIL = 10, /* array body a pointer without nil */
-    FERIGULAN_OUTPUT_TOO_SHORT = 11, /* output, or index, shorter than the answer */
+    FERIGULAN_OUTPUT_TOO_SHORT = 11, /* output shorter than the answer; of ferigulan_open, index too short */
     FERIGULAN_NO_ROOM = 12 /* the entries to append do not fit */
 };
 
@@ -135,7 +137,7 @@ enum ferigulan_fresh_handles {
 
 /* ---- a store */
 
-/* Whether the n words are those of a store, which row 1 asks: this one returns its answer. Reads the words alone. */
+/* Whether the n words are those of a store, which is what row 1 asks. It returns its answer, and writes nothing. */
 bool ferigulan_well_formed(const uint64_t *words, size_t n);
 
 /* Writes a fresh store into the n words, whatever they were: 94 words, and 0 behind them. Tests the length alone, and
@@ -143,13 +145,13 @@ bool ferigulan_well_formed(const uint64_t *words, size_t n);
 uint32_t ferigulan_fresh(uint64_t *words, size_t n);
 
 /*
- * ---- plain calls: on any words whatever. Each but fresh reads all of them first, and is refused with 1 where they are
- * not those of a store; that is not said again below. All are there a second time for opened stores, at the end.
+ * ---- plain calls: on any words whatever. Each tests all of them first, and is refused with 1 where they are not those
+ * of a store; that is not said again below. All are there a second time for opened stores, at the end.
  */
 
 /*
  * Makers. Each answers the lowest handle of an equal entry, and appends the entry, its parts first, where there is
- * none. They may append to the words and write *answer; they never touch another word, nor what is lent as const.
+ * none. They may append to the words and write *answer; they never touch another word.
  */
 
 /* The Int of one value, a two's complement word. Refused: 12. */
@@ -334,8 +336,8 @@ uint32_t ferigulan_offsets(const uint64_t *words, size_t n, uint64_t s, uint64_t
  * ---- opened stores: the same calls without the test of all words, with an index and a memory of answers in two more
  * lists
  *
- * A function ferigulan_opened_X answers, and leaves in the words, just what ferigulan_X does, for every call X above
- * but fresh; it is refused with the same numbers, but never with 1. What it is lent after the three lists is what
+ * A function ferigulan_opened_X answers, and leaves in the words and in an output, just what the plain call ferigulan_X
+ * does; it is refused with the same numbers, but never with 1. What it is lent after the three lists is what
  * ferigulan_X is lent after the words.
  *
  * The caller promises, besides what stands at the top, that the three lists overlap nowhere, that ferigulan_open has
@@ -409,19 +411,8 @@ uint32_t ferigulan_opened_non_zero(uint64_t *words, size_t n, uint64_t *index, s
     uint64_t a, uint64_t *answer);
 
 /*
- * These write the memory and *answer; they never touch a word of the store or of the index.
- */
-
-/* As ferigulan_isa. */
-uint32_t ferigulan_opened_isa(const uint64_t *words, size_t n, const uint64_t *index, size_t i, uint64_t *memory,
-    size_t m, uint64_t a, uint64_t b, uint64_t *answer);
-/* As ferigulan_is_final. */
-uint32_t ferigulan_opened_is_final(const uint64_t *words, size_t n, const uint64_t *index, size_t i, uint64_t *memory,
-    size_t m, uint64_t a, uint64_t *answer);
-
-/*
- * These write none of the three lists, not even the memory, only *answer and, where they are lent them, *which or the
- * output.
+ * These may write the memory, *answer and, where they are lent them, *which or the output; they never touch anything
+ * else. Today isa and is_final alone write the memory, but no promise is made of that.
  */
 
 /* As ferigulan_kind. */
@@ -430,6 +421,12 @@ uint32_t ferigulan_opened_kind(const uint64_t *words, size_t n, const uint64_t *
 /* As ferigulan_get_bool. */
 uint32_t ferigulan_opened_get_bool(const uint64_t *words, size_t n, const uint64_t *index, size_t i, uint64_t *memory,
     size_t m, uint64_t value, uint64_t *answer);
+/* As ferigulan_isa. */
+uint32_t ferigulan_opened_isa(const uint64_t *words, size_t n, const uint64_t *index, size_t i, uint64_t *memory,
+    size_t m, uint64_t a, uint64_t b, uint64_t *answer);
+/* As ferigulan_is_final. */
+uint32_t ferigulan_opened_is_final(const uint64_t *words, size_t n, const uint64_t *index, size_t i, uint64_t *memory,
+    size_t m, uint64_t a, uint64_t *answer);
 /* As ferigulan_make_init. */
 uint32_t ferigulan_opened_make_init(const uint64_t *words, size_t n, const uint64_t *index, size_t i, uint64_t *memory,
     size_t m, uint64_t a, uint64_t *answer);

@@ -5,10 +5,11 @@ use std::path::{absolute, PathBuf};
 const ARCHIVE: &str = "liblattice_c.a";
 
 fn variable(name: &str) -> Option<PathBuf> {
-    env::var_os(name).map(PathBuf::from)
+    env::var_os(name).filter(|value| !value.is_empty()).map(PathBuf::from)
 }
 
-/// An absolute one: cargo runs neither the linker nor the tests in the folder that it runs this program in.
+/// Where the archive should be, as an absolute path: cargo runs neither the linker nor the tests in the folder that it runs this program
+/// in.
 fn folder() -> PathBuf {
     let beside = || variable("CARGO_MANIFEST_DIR").expect("cargo names the crate's folder").with_file_name("target").join("staticlib");
     let folder = variable("FERIGULAN_LIB").unwrap_or_else(beside);

@@ -119,10 +119,10 @@ step "the scripts of tests/ print through the crate what they print through call
 
 # ---- memory and stack
 
-# The lists of the longer stacks take too long here; and a process that is to end by a signal is none for valgrind.
+# The stacks for the longer lists take too long here; and a process that is to end by a signal is none for valgrind.
 under_valgrind() {
     CARGO_TARGET_X86_64_UNKNOWN_LINUX_GNU_RUNNER="valgrind -q --error-exitcode=1" cargo_in test --test every_call --test values --test opened --test reading --test stack -- \
-        --skip 65_536 --skip 1_048_576 --skip isa_and_is_final_write_the_memory
+        --skip 65_536 --skip 1_048_576 --skip ends_the_process
 }
 step "the tests under valgrind" under_valgrind
 step "the deepest calls, each with the stack that README.md states" cargo_in test --release --test stack

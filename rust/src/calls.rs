@@ -1,8 +1,8 @@
 //! The calls as functions over lent words, whatever the words are.
 //!
 //! Every one of them but [`fresh`] and [`well_formed`] tests the whole list first, and is refused with
-//! [`NotWellFormed`](Refusal::NotWellFormed) where the words are not those of a store. [`Store`](crate::Store) has the same calls as methods,
-//! on words that were tested once.
+//! [`NotWellFormed`](Refusal::NotWellFormed) where the words are not those of a store. [`Store`](crate::Store) has the same calls as
+//! methods, on words that are known to be one.
 //!
 //! ```
 //! use ferigulan::{calls, Refusal};
@@ -54,16 +54,6 @@ pub fn well_formed(words: &[u64]) -> bool {
     sys::well_formed(words)
 }
 
-/// How a call is lent the words: to append, or to read.
-macro_rules! lent {
-    (make) => {
-        &mut [u64]
-    };
-    ($reads:ident) => {
-        &[u64]
-    };
-}
-
 macro_rules! plain_calls {
     ($(
         $(#[$doc:meta])*
@@ -77,7 +67,7 @@ macro_rules! plain_calls {
         #[doc = example_at!($name)]
         #[inline]
         pub fn $name(
-            words: lent!($shape), $($arg: argument!($kind),)* $($list: &[$element],)? $($output: &mut [u64],)?
+            words: borrowed!($shape [u64]), $($arg: argument!($kind),)* $($list: &[$element],)? $($output: &mut [u64],)?
         ) -> Result<$answer, Refusal> {
             sys::plain::$name(words, $(word!($kind, $arg),)* $($list,)? $($output,)?).map(Told::told)
         }

@@ -46,15 +46,17 @@
 //! ```
 //!
 //! The archive is looked for in the repository's `target/staticlib`, where `rt staticlib lattice_c` writes it, or in the folder that the
-//! environment variable `FERIGULAN_LIB` names.
+//! environment variable `FERIGULAN_LIB` names, by an absolute path: a relative one is taken from this crate's folder.
 //!
 //! # Threads
 //!
-//! A call that writes borrows its store for that. Those that only read may be made by several threads at a time.
+//! Calls of [`calls`] and [`Store`] that only read borrow the words shared, and several threads may make them on one store at a time. Those
+//! that append borrow them for writing, and so does every call of [`OpenedStore`], since each is lent the memory of answers to write.
 //!
 //! # Stack
 //!
 //! A call needs no heap, and a bounded stack: README.md, "Speed", has the figures, and `cargo run --release --example stack` measures them.
+//! In a thread with less it ends the process, as any stack overflow does.
 #![no_std]
 #![deny(missing_docs, unsafe_code)]
 

@@ -10,8 +10,8 @@ use crate::{Handle, Kind, Reading, Refusal};
 /// promise that nobody else writes any of the three lists meanwhile, and no call tests it: the compiler does. When it is dropped, the store
 /// and the lists are the caller's again.
 ///
-/// Reading calls borrow it shared, as those of [`Store`](crate::Store) do, but for [`isa`](OpenedStore::isa) and
-/// [`is_final`](OpenedStore::is_final), which write answers into the memory.
+/// Every call borrows it for writing, also one that only reads the words, since each is lent the memory. So calls on one opened store are
+/// made one at a time, where those of [`Store`](crate::Store) that read may be made by several threads.
 ///
 /// ```
 /// use ferigulan::{index_len, memory_len, Store};
@@ -86,6 +86,19 @@ use crate::{Handle, Kind, Reading, Refusal};
 /// opened.get_int(8)?;
 /// # Ok::<(), ferigulan::Refusal>(())
 /// ```
+///
+/// Nor this, whose call may write the memory:
+///
+/// ```compile_fail,E0596
+/// # use ferigulan::{fresh, index_len, memory_len, Store};
+/// # let mut words = [0; 1000];
+/// # let mut index = [0; index_len(1000)];
+/// # let mut memory = [0; memory_len(1000)];
+/// # let mut store = Store::fresh(&mut words)?;
+/// let opened = &store.open(&mut index, &mut memory)?;
+/// opened.int_value(fresh::INT_TWO)?;
+/// # Ok::<(), ferigulan::Refusal>(())
+/// ```
 pub struct OpenedStore<'s> {
     lists: OpenedLists<'s>,
 }
@@ -125,19 +138,6 @@ pub const fn memory_len(n: usize) -> usize {
     6 * n
 }
 
-/// How a call borrows the opened store: to write the words or the memory, or to read.
-macro_rules! borrowed {
-    (make) => {
-        &mut Self
-    };
-    (remember) => {
-        &mut Self
-    };
-    ($reads:ident) => {
-        &Self
-    };
-}
-
 macro_rules! opened_calls {
     ($(
         $(#[$doc:meta])*
@@ -153,24 +153,11 @@ macro_rules! opened_calls {
             #[doc = example_at!($name)]
             #[inline]
             pub fn $name(
-                self: borrowed!($shape), $($arg: argument!($kind),)* $($list: &[$element],)? $($output: &mut [u64],)?
+                &mut self, $($arg: argument!($kind),)* $($list: &[$element],)? $($output: &mut [u64],)?
             ) -> Result<$answer, Refusal> {
-                sys::opened::$name(lent!($shape self), $(word!($kind, $arg),)* $($list,)? $($output,)?).map(Told::told)
+                sys::opened::$name(&mut self.lists, $(word!($kind, $arg),)* $($list,)? $($output,)?).map(Told::told)
             }
         )*}
-    };
-}
-
-/// The lists as a call is lent them.
-macro_rules! lent {
-    (make $self:ident) => {
-        &mut $self.lists
-    };
-    (remember $self:ident) => {
-        &mut $self.lists
-    };
-    ($reads:ident $self:ident) => {
-        &$self.lists
     };
 }
 

@@ -86,7 +86,7 @@ impl<'a> Store<'a> {
     /// Opens the store: makes an index and a memory of answers in two more lists, with which calls need not read all words.
     ///
     /// The index needs [`index_len`](crate::index_len) words for a list of this length; the memory is best
-    /// [`memory_len`](crate::memory_len) words, and may be of any length, also 0. Whatever stood in the two lists before is written over.
+    /// [`memory_len`](crate::memory_len) words, and may be of any length, also 0. What stands in the two lists before does not matter.
     ///
     /// Refused with [`OutputTooShort`](Refusal::OutputTooShort) where the index is too short; then no word has changed.
     ///
@@ -111,16 +111,6 @@ impl fmt::Debug for Store<'_> {
     }
 }
 
-/// How a call borrows the store: to append, or to read.
-macro_rules! borrowed {
-    (make) => {
-        &mut Self
-    };
-    ($reads:ident) => {
-        &Self
-    };
-}
-
 macro_rules! store_calls {
     ($(
         $(#[$doc:meta])*
@@ -142,7 +132,7 @@ macro_rules! store_calls {
             #[doc = " ```"]
             #[inline]
             pub fn $name(
-                self: borrowed!($shape), $($arg: argument!($kind),)* $($list: &[$element],)? $($output: &mut [u64],)?
+                self: borrowed!($shape Self), $($arg: argument!($kind),)* $($list: &[$element],)? $($output: &mut [u64],)?
             ) -> Result<$answer, Refusal> {
                 calls::$name(self.words, $($arg,)* $($list,)? $($output,)?)
             }

@@ -1,12 +1,15 @@
-//! The boundary to the archive: its functions as they are declared for C, and a safe function over each. All `unsafe` code of the crate is
-//! here.
+//! The boundary to the archive: its functions as they are declared for C, and a safe function over each. All `unsafe` code of the library
+//! is here.
 //!
 //! What the archive's functions ask of a caller (README.md, "Linking") is seen to as follows.
 //! - Pointers are valid and aligned for their lengths during the call: each comes from a slice or a local variable that lives through it,
 //!   with the slice's own length. That of an empty slice is aligned and not null, which is all that a length of 0 asks for.
-//! - What is written overlaps nothing else that is lent: it comes from a `&mut` slice, or is a local variable.
+//! - What is lent as `*mut` overlaps nothing else that is lent: it comes from a `&mut` slice, or is a local variable. A shared borrow is
+//!   lent as `*const` alone, to functions that are proved not to write there.
 //! - No two threads write a list at a time, nor does one write and another read: the borrows are held through the call. Several may read.
 //! - An opened store's lists are as `ferigulan_open` left them, but for what opened calls wrote: see [`OpenedLists`].
+//! - Where there is too little stack, the guard page ends the process, as for Rust's own functions: the archive's touch the pages of their
+//!   frames one after the other, so that none is passed over (tests/stack.rs).
 //! - The declarations are the archive's: tests/declarations.rs compares them with its source and its symbols.
 #![allow(unsafe_code)]
 use crate::{Field, Handle, Refusal};
@@ -222,9 +225,8 @@ macro_rules! safe {
             $lists: $borrow, $($arg: u64,)* $($list: &[$element],)? $($output: &mut [u64],)?
         ) -> Result<safe!(@type $($told),+), Refusal> {
             $(let mut $told = 0;)+
-            // SAFETY: every pointer is that of a borrowed slice with its length, or of a local variable. What is written is borrowed for
-            // that or local, so it overlaps nothing; an opened store's memory is lent as `*mut` also where it is only read, to calls that
-            // do not write it. The lists of `OpenedLists` are open.
+            // SAFETY: every pointer is that of a borrowed slice with its length, or of a local variable. What is lent as `*mut` is borrowed
+            // for writing or local, so it overlaps nothing else that is lent. The lists of `OpenedLists` are open.
             let status = unsafe {
                 super::$function(
                     $($lent,)* $($arg,)* $($list.pointer(), $list.len(),)? $($output.as_mut_ptr(), $output.len(),)? $(&mut $told),+
@@ -237,13 +239,16 @@ macro_rules! safe {
     (@type which, answer) => { (u64, u64) };
 }
 
-/// A plain call, by what it does with the words: see table.rs.
+/// Hands a call to `$form!`, `plain` or `opened`, with what its shape says (table.rs): whether the words are lent to write or to read, and
+/// the words that it tells its answer with.
+macro_rules! by_shape {
+    ($form:ident make $($call:tt)*) => { $form!(write (answer) $($call)*); };
+    ($form:ident ask $($call:tt)*) => { $form!(read (answer) $($call)*); };
+    ($form:ident which $($call:tt)*) => { $form!(read (which, answer) $($call)*); };
+    ($form:ident fill $($call:tt)*) => { $form!(read (answer) $($call)*); };
+}
+
 macro_rules! plain {
-    (make $($call:tt)*) => { plain!(write (answer) $($call)*); };
-    (which $($call:tt)*) => { plain!(read (which, answer) $($call)*); };
-    (ask $($call:tt)*) => { plain!(read (answer) $($call)*); };
-    (remember $($call:tt)*) => { plain!(read (answer) $($call)*); };
-    (fill $($call:tt)*) => { plain!(read (answer) $($call)*); };
     (write $told:tt $function:ident $name:ident $($rest:tt)*) => {
         safe!($function is $name, lends words: &mut [u64] = (words.as_mut_ptr(), words.len()), tells $told, $($rest)*);
     };
@@ -252,27 +257,14 @@ macro_rules! plain {
     };
 }
 
-/// A call on an opened store, by what it does with the three lists: see table.rs.
+/// The index is lent as the words are, the memory always to write.
 macro_rules! opened {
-    (make $function:ident $name:ident $($rest:tt)*) => {
+    (write $($call:tt)*) => { opened!(as_mut_ptr $($call)*); };
+    (read $($call:tt)*) => { opened!(as_ptr $($call)*); };
+    ($pointer:ident $told:tt $function:ident $name:ident $($rest:tt)*) => {
         safe!($function is $name, lends lists: &mut OpenedLists<'_> =
-            (lists.words.as_mut_ptr(), lists.words.len(), lists.index.as_mut_ptr(), lists.index.len(),
+            (lists.words.$pointer(), lists.words.len(), lists.index.$pointer(), lists.index.len(),
              lists.memory.as_mut_ptr(), lists.memory.len()),
-            tells (answer), $($rest)*);
-    };
-    (remember $function:ident $name:ident $($rest:tt)*) => {
-        safe!($function is $name, lends lists: &mut OpenedLists<'_> =
-            (lists.words.as_ptr(), lists.words.len(), lists.index.as_ptr(), lists.index.len(),
-             lists.memory.as_mut_ptr(), lists.memory.len()),
-            tells (answer), $($rest)*);
-    };
-    (which $($call:tt)*) => { opened!(read (which, answer) $($call)*); };
-    (ask $($call:tt)*) => { opened!(read (answer) $($call)*); };
-    (fill $($call:tt)*) => { opened!(read (answer) $($call)*); };
-    (read $told:tt $function:ident $name:ident $($rest:tt)*) => {
-        safe!($function is $name, lends lists: &OpenedLists<'_> =
-            (lists.words.as_ptr(), lists.words.len(), lists.index.as_ptr(), lists.index.len(),
-             lists.memory.as_ptr().cast_mut(), lists.memory.len()),
             tells $told, $($rest)*);
     };
 }
@@ -285,11 +277,11 @@ macro_rules! safe_calls {
     )*) => {
         pub(crate) mod plain {
             use super::*;
-            $(plain!($shape $plain $name $args ($($list: $slice)?) ($($output)?));)*
+            $(by_shape!(plain $shape $plain $name $args ($($list: $slice)?) ($($output)?));)*
         }
         pub(crate) mod opened {
             use super::*;
-            $(opened!($shape $opened $name $args ($($list: $slice)?) ($($output)?));)*
+            $(by_shape!(opened $shape $opened $name $args ($($list: $slice)?) ($($output)?));)*
         }
     };
 }

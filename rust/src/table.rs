@@ -11,17 +11,28 @@
 //! }
 //! ```
 //!
-//! where the shape says what the call does with the lists:
+//! where the shape says how the call is lent the words, and an opened store's index with them, and what it tells:
 //!
-//! | shape | of the words, and of an opened store's index and memory, it writes | it tells |
+//! | shape | lent to | tells |
 //! |---|---|---|
-//! | `make` | all | its answer |
-//! | `ask` | none | its answer |
-//! | `remember` | the memory alone | its answer |
-//! | `which` | none | in which of two ways it answers, and its answer |
-//! | `fill` | none; it writes its output | how many words of the output it filled |
+//! | `make` | write | its answer |
+//! | `ask` | read | its answer |
+//! | `which` | read | in which of two ways it answers, and its answer |
+//! | `fill` | read | how many words of its output it filled |
+//!
+//! Every call on an opened store is lent the memory to write.
 //!
 //! The arguments' types are those of `argument!` in word.rs.
+
+/// How a call of this shape borrows the words, or the store that they are.
+macro_rules! borrowed {
+    (make $lent:ty) => {
+        &mut $lent
+    };
+    ($reads:ident $lent:ty) => {
+        &$lent
+    };
+}
 
 /// The line of a call's documentation that names its refusals.
 ///
@@ -121,8 +132,8 @@ macro_rules! for_every_call {
                 /// assert_eq!(store.get_struct(name, &[0; 3]), Err(Refusal::BadValue));
             }
 
-            /// The array of these length and element types, by its handle: a struct that is named by `text` in brackets (255 bytes in all),
-            /// with a final field "#" of type `len` and a field "[]" of type `body` that is not final.
+            /// The array of this length, an Int, and this element type, by its handle: a struct that is named by `text` in brackets (at
+            /// most 255 bytes in all), with a final field "#" of type `len` and a field "[]" of type `body` that is not final.
             make make_ary(len: Handle, len_alias: Word, body: Handle, body_alias: Word) with text: [u8] -> Handle
             = ferigulan_make_ary, ferigulan_opened_make_ary refuses [NoEntry WrongKind BadValue TooMany TooDeep BodyWithoutNil NoRoom] {
                 /// let bytes = store.make_ary(fresh::INT_U32, 1_u32, fresh::INT_U8, 2_u32, b"u8")?;
@@ -166,7 +177,7 @@ macro_rules! for_every_call {
             }
 
             /// Whether `a` is `b` or above it: whether their merge would be `b`. It makes no entry, and asks for no room.
-            remember isa(a: Handle, b: Handle) -> bool
+            ask isa(a: Handle, b: Handle) -> bool
             = ferigulan_isa, ferigulan_opened_isa refuses [NoEntry WrongKind] {
                 /// assert!(store.isa(fresh::INT_U8, fresh::INT_I32)?);
                 /// assert!(!store.isa(fresh::INT_I32, fresh::INT_U8)?);
@@ -205,7 +216,7 @@ macro_rules! for_every_call {
 
             /// Whether all fields that are reached from the type, through pointers and fields, are final. Tuples, memory types and forward
             /// references are, whatever they hold.
-            remember is_final(a: Handle) -> bool
+            ask is_final(a: Handle) -> bool
             = ferigulan_is_final, ferigulan_opened_is_final refuses [NoEntry WrongKind] {
                 /// let (name, speed) = (store.get_str(b"Ride")?, store.get_str(b"speed")?);
                 /// let fields = [Field::new(speed, fresh::INT_U16, 1_u32, false)];

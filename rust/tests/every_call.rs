@@ -131,7 +131,7 @@ fn told_of_structs() -> Vec<Known> {
     ]
 }
 
-/// Rows 2 to 11, most with document 01's own example; those of 1 and 12 are below.
+/// Rows 2 to 11 but for 6, most with document 01's own example; 1, 6 and 12 are below.
 fn refusals() -> Vec<Known> {
     vec![
         refused(Call::Kind(h(2)), Refusal::NoEntry),

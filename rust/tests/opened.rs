@@ -1,5 +1,5 @@
-//! On an opened store every call answers, and leaves in the words and in an output, just what the plain call does: over some thousands of
-//! random calls, with lists and memories of several lengths.
+//! On an opened store every call answers, and leaves in the words and in an output, just what the plain call does: over thousands of random
+//! calls, with lists and memories of several lengths.
 use std::collections::BTreeSet;
 
 use ferigulan::{calls, index_len, memory_len, Refusal, Store};

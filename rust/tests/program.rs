@@ -3,6 +3,8 @@
 mod command;
 #[path = "program/plain.rs"]
 mod plain;
+#[path = "common/random.rs"]
+mod random;
 #[path = "program/readable.rs"]
 mod readable;
 #[path = "program/running.rs"]

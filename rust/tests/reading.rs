@@ -1,5 +1,7 @@
-//! Calls that only read write nothing: they are made on lists whose pages cannot be written, and by several threads at a time.
+//! Calls that are lent the words to read write none of them, and opened ones nothing in the index either: they are made on pages that
+//! cannot be written. Plain ones are made by several threads at a time, too.
 use std::ffi::{c_int, c_long, c_void};
+use std::hint::black_box;
 use std::thread;
 
 use ferigulan::{calls, fresh, index_len, memory_len, Store};
@@ -61,44 +63,36 @@ fn place(list: &[u64]) -> (*const u64, usize) {
 
 const LENGTH: usize = 5_000;
 
-/// The calls that write none of an opened store's lists, and the two that write its memory alone.
-fn reading_calls(calls: Vec<Call>) -> (Vec<Call>, Vec<Call>) {
-    calls.into_iter().filter(|call| !call.appends()).partition(|call| !matches!(call, Call::Isa(..) | Call::IsFinal(_)))
-}
-
 #[test]
-fn reading_calls_write_no_list() {
-    let (mut words, mut index, mut memory) = (Pages::new(LENGTH), Pages::new(index_len(LENGTH)), Pages::new(memory_len(LENGTH)));
-    let (words, index, memory) = (words.list(), index.list(), memory.list());
+fn reading_calls_write_neither_words_nor_index() {
+    let (mut words, mut index, mut memory) = (Pages::new(LENGTH), Pages::new(index_len(LENGTH)), vec![0; memory_len(LENGTH)]);
+    let (words, index) = (words.list(), index.list());
+    let (words_at, index_at) = (place(words), place(index));
     for shape in TOWERS {
         let tower = deep(LENGTH, shape);
-        let (none, memory_alone) = reading_calls(tower.calls());
+        let reading: Vec<Call> = tower.calls().into_iter().filter(|call| !call.appends()).collect();
         words.copy_from_slice(tower.words());
-        let places = [place(words), place(index), place(memory)];
+        protect(words_at, READ);
         let mut store = Store::from_words(words).expect("a deep store");
-        let mut opened = store.open(index, memory).expect("an index that is long enough");
-        // at once, before the memory holds an answer that a call could find rather than write
-        places.iter().for_each(|list| protect(*list, READ));
-        let told: Vec<_> = none.iter().map(|call| call.on_opened(&mut opened, &mut call.output())).collect();
-        protect(places[2], READ | WRITE);
-        let told_alone: Vec<_> = memory_alone.iter().map(|call| call.on_opened(&mut opened, &mut [])).collect();
-        let plain: Vec<_> = none.iter().map(|call| call.on_store(&mut store, &mut call.output())).collect();
-        assert_eq!(plain, told);
-        let plain_alone: Vec<_> = memory_alone.iter().map(|call| call.on_store(&mut store, &mut [])).collect();
-        assert_eq!(plain_alone, told_alone);
-        places.iter().for_each(|list| protect(*list, READ | WRITE));
+        let mut opened = store.open(index, &mut memory).expect("an index that is long enough");
+        protect(index_at, READ);
+        let told_opened: Vec<_> = reading.iter().map(|call| call.on_opened(&mut opened, &mut call.output())).collect();
+        let told_plain: Vec<_> = reading.iter().map(|call| call.on_store(&mut store, &mut call.output())).collect();
+        assert_eq!(told_opened, told_plain);
+        protect(words_at, READ | WRITE);
+        protect(index_at, READ | WRITE);
     }
 }
 
 /// Whether a signal ends a process that does this.
-fn is_ended_by_a_signal(work: impl FnOnce()) -> bool {
+fn is_ended_by_a_signal<T>(work: impl FnOnce() -> T) -> bool {
     let mut status = 0;
     // SAFETY: the child does `work` alone, which takes no lock and allocates nothing, and ends without returning.
     unsafe {
         let child = fork();
         assert!(child >= 0, "fork");
         if child == 0 {
-            work();
+            black_box(work());
             _exit(0);
         }
         assert_eq!(waitpid(child, &mut status, 0), child, "waitpid");
@@ -106,37 +100,30 @@ fn is_ended_by_a_signal(work: impl FnOnce()) -> bool {
     status & 0x7f != 0
 }
 
-// That the test above would see a call that writes: the two that do, which therefore borrow the opened store for writing.
+// That the test above would see a call that writes.
 #[test]
-fn isa_and_is_final_write_the_memory() {
-    let (mut words, mut index, mut memory) = (Pages::new(LENGTH), Pages::new(index_len(LENGTH)), Pages::new(memory_len(LENGTH)));
+fn a_call_that_writes_protected_words_ends_the_process() {
+    let mut words = Pages::new(LENGTH);
     let mut store = Store::fresh(words.list()).expect("a length that is allowed");
-    let pair = store.get_tuple(&[fresh::INT_U8, fresh::INT_U8]).expect("there is room");
-    let wider = store.get_tuple(&[fresh::INT_U16, fresh::INT_U16]).expect("there is room");
-    let last = store.get_struct(fresh::NAME_TOP, &[1, 40, 0, 1]).expect("there is room");
-    let first = store.get_struct(fresh::NAME_TOP, &[1, last.word(), 0, 1]).expect("there is room");
-    let lent = place(memory.list());
-    let mut opened = store.open(index.list(), memory.list()).expect("an index that is long enough");
-    protect(lent, READ);
-    assert!(!is_ended_by_a_signal(|| assert_eq!(opened.is_high(pair), Ok(false))));
-    assert!(is_ended_by_a_signal(|| assert_eq!(opened.isa(pair, wider), Ok(true))));
-    assert!(is_ended_by_a_signal(|| assert_eq!(opened.is_final(first), Ok(true))));
-    protect(lent, READ | WRITE);
-    assert_eq!((opened.isa(pair, wider), opened.is_final(first)), (Ok(true), Ok(true)));
+    protect(place(store.words()), READ);
+    assert!(!is_ended_by_a_signal(|| store.int_value(fresh::INT_TWO)));
+    assert!(is_ended_by_a_signal(|| store.get_int(8)));
 }
 
 #[test]
-fn several_threads_may_read() {
-    let (mut words, mut index, mut memory) = (vec![0; LENGTH], vec![0; index_len(LENGTH)], vec![0; memory_len(LENGTH)]);
+fn several_threads_may_read_by_plain_calls() {
+    let mut words = vec![0; LENGTH];
     let mut store = Store::fresh(&mut words).expect("a length that is allowed");
     let counter = store.make_int(0, 7).expect("there is room");
-    let opened = store.open(&mut index, &mut memory).expect("an index that is long enough");
+    let pair = store.get_tuple(&[counter, counter]).expect("there is room");
+    let wider = store.get_tuple(&[fresh::INT_U8, fresh::INT_U8]).expect("there is room");
     thread::scope(|scope| {
         for _ in 0..4 {
             scope.spawn(|| {
                 for _ in 0..1_000 {
-                    assert_eq!((opened.int_min(counter), opened.int_max(counter), opened.int_mask(counter)), (Ok(0), Ok(7), Ok(7)));
-                    assert!(calls::well_formed(opened.words()));
+                    assert_eq!((store.int_min(counter), store.int_max(counter), store.int_mask(counter)), (Ok(0), Ok(7), Ok(7)));
+                    assert_eq!((store.isa(pair, wider), store.isa(wider, pair)), (Ok(true), Ok(false)));
+                    assert!(calls::well_formed(store.words()));
                 }
             });
         }

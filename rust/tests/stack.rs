@@ -1,5 +1,7 @@
 //! The deepest calls in a thread with no more stack than README.md states for lists of that length. `cargo run --release --example stack`
-//! measures how much they need.
+//! measures how much they need. And what happens to a call with less.
+use std::env;
+use std::process::Command;
 use std::thread;
 
 use ferigulan::index_len;
@@ -31,6 +33,21 @@ fn enough(length: usize, bytes: usize) {
     let all = move || TOWERS.into_iter().for_each(|shape| run(length, shape));
     let thread = thread::Builder::new().stack_size(bytes).spawn(all).expect("a thread");
     thread.join().expect("the thread's calls end");
+}
+
+/// Set for the process that is to end.
+const TOO_LITTLE: &str = "FERIGULAN_TOO_LITTLE_STACK";
+
+// Such a call is safe all the same: it ends the process at the guard page, as Rust's own code does, and writes nothing beyond.
+#[test]
+fn too_little_stack_ends_the_process() {
+    if env::var_os(TOO_LITTLE).is_some() {
+        return enough(1_048_576, 64 * KIB);
+    }
+    let mut again = Command::new(env::current_exe().expect("a program knows its path"));
+    let output = again.args(["--exact", "too_little_stack_ends_the_process"]).env(TOO_LITTLE, "1").output().expect("it starts");
+    let message = String::from_utf8_lossy(&output.stderr);
+    assert!(!output.status.success() && message.contains("has overflowed its stack"), "{}: {message}", output.status);
 }
 
 /// Every call on one tower, plain and opened.

@@ -101,69 +101,82 @@ impl Words for Reading {
     }
 }
 
-/// Makes `$call` with `$on!`, which is handed a function's name and its arguments.
+/// Makes `$call` by `$form!`, which is handed `$on`, a function's name and its arguments.
 macro_rules! make {
-    ($call:expr, $output:expr, $on:ident) => {
+    ($call:expr, $output:expr, $form:ident $on:ident) => {
         match $call {
-            Call::Kind(h) => $on!(kind(*h)),
-            Call::GetBool(value) => $on!(get_bool(*value)),
-            Call::GetInt(value) => $on!(get_int(*value)),
-            Call::MakeInt(min, max) => $on!(make_int(*min, *max)),
-            Call::GetFloat(bits) => $on!(get_float(f64::from_bits(*bits))),
-            Call::MakeFloat(sz, bits) => $on!(make_float(*sz, f64::from_bits(*bits))),
-            Call::GetTuple(types) => $on!(get_tuple(types)),
-            Call::GetStr(name) => $on!(get_str(name)),
-            Call::GetStruct(name, fields) => $on!(get_struct(*name, fields)),
-            Call::MakeAry(len, len_alias, body, body_alias, text) => $on!(make_ary(*len, *len_alias, *body, *body_alias, text)),
-            Call::MakeStructFref(name) => $on!(make_struct_fref(*name)),
-            Call::GetMemPtr(to, nil) => $on!(get_mem_ptr(*to, *nil)),
-            Call::GetMem(alias, t) => $on!(get_mem(*alias, *t)),
-            Call::Meet(a, b) => $on!(meet(*a, *b)),
-            Call::Isa(a, b) => $on!(isa(*a, *b)),
-            Call::Dual(a) => $on!(dual(*a)),
-            Call::Join(a, b) => $on!(join(*a, *b)),
-            Call::Glb(a) => $on!(glb(*a)),
-            Call::Lub(a) => $on!(lub(*a)),
-            Call::IsFinal(a) => $on!(is_final(*a)),
-            Call::MakeRo(a) => $on!(make_ro(*a)),
-            Call::MakeInit(a) => $on!(make_init(*a)),
-            Call::MakeZero(a) => $on!(make_zero(*a)),
-            Call::NonZero(a) => $on!(non_zero(*a)),
-            Call::IsHigh(a) => $on!(is_high(*a)),
-            Call::IsHighOrConstant(a) => $on!(is_high_or_constant(*a)),
-            Call::IsConstant(a) => $on!(is_constant(*a)),
-            Call::IsFref(a) => $on!(is_fref(*a)),
-            Call::LogSize(a) => $on!(log_size(*a)),
-            Call::IntMin(a) => $on!(int_min(*a)),
-            Call::IntMax(a) => $on!(int_max(*a)),
-            Call::IntValue(a) => $on!(int_value(*a)),
-            Call::IntMask(a) => $on!(int_mask(*a)),
-            Call::FloatSz(a) => $on!(float_sz(*a)),
-            Call::FloatIsF32(a) => $on!(float_is_f32(*a)),
-            Call::FloatValue(a) => $on!(float_value(*a)),
-            Call::FloatReading(a) => $on!(float_reading(*a)),
-            Call::StructName(s) => $on!(struct_name(*s)),
-            Call::StructFields(s, _) => $on!(struct_fields(*s, $output)),
-            Call::Find(s, name) => $on!(find(*s, *name)),
-            Call::FindAlias(s, alias) => $on!(find_alias(*s, *alias)),
-            Call::IsAry(s) => $on!(is_ary(*s)),
-            Call::Offset(s, index) => $on!(offset(*s, *index)),
-            Call::Offsets(s, _) => $on!(offsets(*s, $output)),
-            Call::AryBase(s) => $on!(ary_base(*s)),
-            Call::AryScale(s) => $on!(ary_scale(*s)),
+            Call::Kind(h) => $form!($on kind(*h)),
+            Call::GetBool(value) => $form!($on get_bool(*value)),
+            Call::GetInt(value) => $form!($on get_int(*value)),
+            Call::MakeInt(min, max) => $form!($on make_int(*min, *max)),
+            Call::GetFloat(bits) => $form!($on get_float(f64::from_bits(*bits))),
+            Call::MakeFloat(sz, bits) => $form!($on make_float(*sz, f64::from_bits(*bits))),
+            Call::GetTuple(types) => $form!($on get_tuple(types)),
+            Call::GetStr(name) => $form!($on get_str(name)),
+            Call::GetStruct(name, fields) => $form!($on get_struct(*name, fields)),
+            Call::MakeAry(len, len_alias, body, body_alias, text) => $form!($on make_ary(*len, *len_alias, *body, *body_alias, text)),
+            Call::MakeStructFref(name) => $form!($on make_struct_fref(*name)),
+            Call::GetMemPtr(to, nil) => $form!($on get_mem_ptr(*to, *nil)),
+            Call::GetMem(alias, t) => $form!($on get_mem(*alias, *t)),
+            Call::Meet(a, b) => $form!($on meet(*a, *b)),
+            Call::Isa(a, b) => $form!($on isa(*a, *b)),
+            Call::Dual(a) => $form!($on dual(*a)),
+            Call::Join(a, b) => $form!($on join(*a, *b)),
+            Call::Glb(a) => $form!($on glb(*a)),
+            Call::Lub(a) => $form!($on lub(*a)),
+            Call::IsFinal(a) => $form!($on is_final(*a)),
+            Call::MakeRo(a) => $form!($on make_ro(*a)),
+            Call::MakeInit(a) => $form!($on make_init(*a)),
+            Call::MakeZero(a) => $form!($on make_zero(*a)),
+            Call::NonZero(a) => $form!($on non_zero(*a)),
+            Call::IsHigh(a) => $form!($on is_high(*a)),
+            Call::IsHighOrConstant(a) => $form!($on is_high_or_constant(*a)),
+            Call::IsConstant(a) => $form!($on is_constant(*a)),
+            Call::IsFref(a) => $form!($on is_fref(*a)),
+            Call::LogSize(a) => $form!($on log_size(*a)),
+            Call::IntMin(a) => $form!($on int_min(*a)),
+            Call::IntMax(a) => $form!($on int_max(*a)),
+            Call::IntValue(a) => $form!($on int_value(*a)),
+            Call::IntMask(a) => $form!($on int_mask(*a)),
+            Call::FloatSz(a) => $form!($on float_sz(*a)),
+            Call::FloatIsF32(a) => $form!($on float_is_f32(*a)),
+            Call::FloatValue(a) => $form!($on float_value(*a)),
+            Call::FloatReading(a) => $form!($on float_reading(*a)),
+            Call::StructName(s) => $form!($on struct_name(*s)),
+            Call::StructFields(s, _) => $form!($on struct_fields(*s, $output)),
+            Call::Find(s, name) => $form!($on find(*s, *name)),
+            Call::FindAlias(s, alias) => $form!($on find_alias(*s, *alias)),
+            Call::IsAry(s) => $form!($on is_ary(*s)),
+            Call::Offset(s, index) => $form!($on offset(*s, *index)),
+            Call::Offsets(s, _) => $form!($on offsets(*s, $output)),
+            Call::AryBase(s) => $form!($on ary_base(*s)),
+            Call::AryScale(s) => $form!($on ary_scale(*s)),
         }
     };
 }
 
+macro_rules! function {
+    ($words:ident $name:ident($($arg:expr),*)) => {
+        calls::$name($words, $($arg),*).map(Words::words)
+    };
+}
+
+macro_rules! method {
+    ($store:ident $name:ident($($arg:expr),*)) => {
+        $store.$name($($arg),*).map(Words::words)
+    };
+}
+
+macro_rules! name {
+    ($on:ident $name:ident($($arg:expr),*)) => {{
+        $(let _ = $arg;)*
+        stringify!($name)
+    }};
+}
+
 impl Call {
     pub fn name(&self) -> &'static str {
-        macro_rules! named {
-            ($name:ident($($arg:expr),*)) => {{
-                $(let _ = $arg;)*
-                stringify!($name)
-            }};
-        }
-        make!(self, (), named)
+        make!(self, (), name self)
     }
 
     /// Whether the call may append to the words; it then answers a handle.
@@ -183,29 +196,14 @@ impl Call {
     }
 
     pub fn on_words(&self, words: &mut [u64], output: &mut [u64]) -> Told {
-        macro_rules! on {
-            ($name:ident($($arg:expr),*)) => {
-                calls::$name(words, $($arg),*).map(Words::words)
-            };
-        }
-        make!(self, output, on)
+        make!(self, output, function words)
     }
 
     pub fn on_store(&self, store: &mut Store<'_>, output: &mut [u64]) -> Told {
-        macro_rules! on {
-            ($name:ident($($arg:expr),*)) => {
-                store.$name($($arg),*).map(Words::words)
-            };
-        }
-        make!(self, output, on)
+        make!(self, output, method store)
     }
 
     pub fn on_opened(&self, store: &mut OpenedStore<'_>, output: &mut [u64]) -> Told {
-        macro_rules! on {
-            ($name:ident($($arg:expr),*)) => {
-                store.$name($($arg),*).map(Words::words)
-            };
-        }
-        make!(self, output, on)
+        make!(self, output, method store)
     }
 }

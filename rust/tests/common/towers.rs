@@ -112,7 +112,7 @@ fn room(length: usize, shape: Tower) -> u64 {
     }
 }
 
-/// How many words an opened store's memory is lent: as many as all walks find enough, or none.
+/// How many words an opened store's memory is lent: as many as the walks over these towers find enough, or none.
 pub fn memory_lengths(length: usize) -> [usize; 2] {
     [memory_len(length).min(49_152), 0]
 }

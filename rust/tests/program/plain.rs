@@ -1,5 +1,6 @@
 //! The plain form, which is that of the program `calls`.
-use crate::running::{answers, ferigulan, read, repository, run, Random};
+use crate::random::Random;
+use crate::running::{answers, ferigulan, read, repository, run};
 use std::process::Command;
 
 #[test]
@@ -57,15 +58,15 @@ fn random_number(random: &mut Random) -> String {
     match random.below(10) {
         0..=4 => random.of(&HANDLES).to_string(),
         5..=6 => random.below(130).to_string(),
-        7 => random.next().to_string(),
-        8 => format!("-{}", random.next() >> random.below(64)),
+        7 => random.word().to_string(),
+        8 => format!("-{}", random.word() >> random.below(64)),
         _ => random.of(&ODD).to_string(),
     }
 }
 
 fn random_line(random: &mut Random) -> String {
     let names: Vec<&str> = NAMES.split_whitespace().chain([""]).collect();
-    let name = *random.of(&names);
+    let name = random.of(&names);
     let count = match name {
         "str" => 0,
         "ary" => 4,
@@ -77,9 +78,9 @@ fn random_line(random: &mut Random) -> String {
     let mut line = name.to_string();
     (0..count).for_each(|_| line += &format!(" {}", random_number(random)));
     if name == "str" || name == "ary" {
-        line += random.of::<&str>(&["", " ", " 61", " 6", " 6G", " 61 62", "  61"]);
+        line += random.of(&["", " ", " 61", " 6", " 6G", " 61 62", "  61"]);
     }
-    line += random.of::<&str>(&["", "", "", "", "", "", " ", ";", "  ; c", "\r", "\0"]);
+    line += random.of(&["", "", "", "", "", "", " ", ";", "  ; c", "\r", "\0"]);
     line
 }
 
@@ -95,7 +96,7 @@ fn plain_is_calls_on_random_scripts() {
         eprintln!("skipped: there is no {}, which 'sh run.sh' builds", calls.display());
         return;
     }
-    let mut random = Random(13);
+    let mut random = Random::new(13);
     let scripts = (0..150).map(|_| random_script(&mut random).into_bytes());
     for script in scripts.chain(malformed().into_iter().map(|(input, _)| input)) {
         let wanted = run(Command::new(&calls), &script);

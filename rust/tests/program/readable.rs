@@ -1,6 +1,7 @@
 //! The readable form.
 use crate::plain::random_script;
-use crate::running::{answers, expect, ferigulan, read, scripts, Random};
+use crate::random::Random;
+use crate::running::{answers, expect, ferigulan, read, scripts};
 use std::time::{Duration, Instant};
 
 #[test]
@@ -156,7 +157,7 @@ fn each_line_of_a_script_is_a_line_of_the_output() {
 
 #[test]
 fn random_scripts_are_readable() {
-    let mut random = Random(11);
+    let mut random = Random::new(11);
     for _ in 0..100 {
         let script = random_script(&mut random);
         let ran = ferigulan(&["run"], &script);
@@ -208,7 +209,7 @@ fn an_opened_store_answers_the_same() {
     ]);
 }
 
-/// The output that the README shows.
+/// The output of which the README shows some lines.
 const MERGE: &str = "\
 ; A counter in a ride's program, where two paths come together: on one of them it is 0..7, on the other it has just become 8.
 fresh 142                    => ok                                      ; a fresh store in a list of 142 words

@@ -1,4 +1,4 @@
-//! Runs the program as its user does, and the random numbers of the tests.
+//! Runs the program as its user does.
 use std::fs;
 use std::io::Write;
 use std::path::{Path, PathBuf};
@@ -64,24 +64,4 @@ pub fn expect(lines: &[(&str, &str)]) {
     let ran = ferigulan(&["run"], &script);
     let expected: Vec<&str> = lines.iter().map(|(_, answer)| *answer).collect();
     assert_eq!(answers(&ran.text()), expected);
-}
-
-/// Numbers that look random, the same ones each time.
-pub struct Random(pub u64);
-
-impl Random {
-    pub fn next(&mut self) -> u64 {
-        self.0 ^= self.0 << 13;
-        self.0 ^= self.0 >> 7;
-        self.0 ^= self.0 << 17;
-        self.0.wrapping_mul(0x2545_f491_4f6c_dd1d)
-    }
-
-    pub fn below(&mut self, n: usize) -> usize {
-        (self.next() >> 32) as usize % n
-    }
-
-    pub fn of<'a, T>(&mut self, choices: &'a [T]) -> &'a T {
-        &choices[self.below(choices.len())]
-    }
 }

@@ -1,5 +1,6 @@
 //! `show`, and the entries that `dump` lists: on stores, and on words that are none.
-use crate::running::{ferigulan, Ran, Random};
+use crate::random::Random;
+use crate::running::{ferigulan, Ran};
 use std::fs;
 
 /// A store as `dumpall` prints it, with an entry of each kind.
@@ -156,10 +157,10 @@ fn dump_lists_the_fresh_entries_where_they_are_not_fresh() {
 /// A word as it may stand in a store, by accident or not.
 fn random_word(random: &mut Random) -> u64 {
     match random.below(6) {
-        0 => random.next(),
+        0 => random.word(),
         1 => random.below(140) as u64,
         2 => (random.below(14) + 256 * random.below(40) + 65_536 * random.below(5)) as u64,
-        3 => *random.of(&[0, 1, 2, 64, 80, 1 << 32, 1 << 33, u64::MAX]),
+        3 => random.of(&[0, 1, 2, 64, 80, 1 << 32, 1 << 33, u64::MAX]),
         _ => random.below(12) as u64 + 256,
     }
 }
@@ -169,13 +170,14 @@ fn reasons_agree(text: &str) {
     let verdict = text.lines().find(|line| line.contains("words used, ")).expect("a verdict");
     let reason = verdict.split_once(" words: ").map(|(_, reason)| reason);
     assert_eq!(verdict.contains("not well formed"), reason.is_some_and(|reason| !reason.is_empty()), "{text}");
-    assert!(verdict.contains("not well formed") || !text.contains('!'), "{text}");
+    let is_marked = text.lines().any(|line| line.trim_start().starts_with("! "));
+    assert!(verdict.contains("not well formed") || !is_marked, "{text}");
 }
 
 #[test]
 fn random_words_are_shown() {
     let whole = store();
-    let mut random = Random(5);
+    let mut random = Random::new(5);
     for round in 0..2000 {
         let mut words = if round % 2 == 0 { whole.clone() } else { Vec::new() };
         let n = random.below(200);
@@ -195,12 +197,12 @@ fn random_words_are_shown() {
 /// Random pokes, each with a dump, in one run: the library's verdict, and the reasons beside it.
 #[test]
 fn random_pokes_are_dumped() {
-    let mut random = Random(7);
+    let mut random = Random::new(7);
     let whole = store();
     let mut script = format!("list {}\n", whole.len());
     whole.iter().enumerate().for_each(|(i, word)| script += &format!("poke {i} {word}\n"));
     for _ in 0..5000 {
-        let at = *random.of(&[
+        let at = random.of(&[
             0, 1, 50, 93, 94, 97, 98, 99, 100, 101, 102, 103, 104, 105, 106, 107, 108, 109, 110, 111, 112, 113, 114, 115, 116, 117, 118,
             139,
         ]);

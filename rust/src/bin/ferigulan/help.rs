@@ -82,7 +82,8 @@ first. Lines with '!' say what is wrong with the entry above. A type is given
 as '?' where a part of it is wrong, and the list ends where an entry cannot be
 read. The list, the types and the reasons are outside what is proved.
 
-Exit status: 0 well formed; 1 not; 2 FILE cannot be read, or has no words.
+Exit status: 0 well formed; 1 not; 2 FILE cannot be read, or says what is no
+word.
 ";
 
 const SCRIPT: &str = "\

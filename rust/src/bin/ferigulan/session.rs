@@ -3,6 +3,7 @@ use crate::page::Page;
 use crate::script::{Line, Said, Script};
 use crate::spell::{grouped, Answer};
 use crate::table::{self, Lent, Usage};
+use crate::wrong::LONGEST;
 use crate::{usage, Failure};
 use ferigulan::{calls, index_len, memory_len, OpenedStore, Store};
 use std::io::Read;
@@ -18,7 +19,7 @@ pub struct Limits {
 pub const SHORT: Limits = Limits { words: 65_536, output: 4_096 };
 
 /// As many words as a store may have.
-pub const LONG: Limits = Limits { words: 1_048_576, output: 1_048_576 };
+pub const LONG: Limits = Limits { words: LONGEST as u64, output: LONGEST as u64 };
 
 /// The lines about the list.
 pub const LINES: &[Usage] = &[
