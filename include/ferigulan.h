@@ -34,7 +34,7 @@
  * - While a call may write a list, no other thread uses that list. What is const is not written, so several threads may
  *   make plain calls at a time that take one list as const. Opened calls are all lent the memory to write, so that on
  *   one opened store there is one at a time.
- * - The stack is large enough: README.md, "Speed", has the figures.
+ * - The stack is large enough: README.md, "Stack", has the figures.
  *
  * The words themselves may hold anything, since plain calls test them. Opened functions do not: what they ask for
  * besides stands with them, below.

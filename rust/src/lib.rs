@@ -55,7 +55,7 @@
 //!
 //! # Stack
 //!
-//! A call needs no heap, and a bounded stack: README.md, "Speed", has the figures, and `cargo run --release --example stack` measures them.
+//! A call needs no heap, and a bounded stack: README.md, "Stack", has the figures, and `cargo run --release --example stack` measures them.
 //! In a thread with less it ends the process, as any stack overflow does.
 #![no_std]
 #![deny(missing_docs, unsafe_code)]

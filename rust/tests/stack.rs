@@ -22,11 +22,11 @@ macro_rules! enough {
 
 // By the length of the list: how much stack is enough for a thread that makes any call. One test a line.
 enough! {
-    lists_of_94: 94 words, 512 KiB;
-    lists_of_512: 512 words, 512 KiB;
-    lists_of_4_096: 4_096 words, 512 KiB;
-    lists_of_65_536: 65_536 words, 512 KiB;
-    lists_of_1_048_576: 1_048_576 words, 512 KiB;
+    lists_of_94: 94 words, 32 KiB;
+    lists_of_512: 512 words, 128 KiB;
+    lists_of_4_096: 4_096 words, 176 KiB;
+    lists_of_65_536: 65_536 words, 208 KiB;
+    lists_of_1_048_576: 1_048_576 words, 336 KiB;
 }
 
 fn enough(length: usize, bytes: usize) {
