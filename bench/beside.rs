@@ -1,6 +1,7 @@
 // An old library beside the new one: the same calls on the same words, whose answers are there already.
 use crate::calls::{Call, Library, NEW, REFUSED};
 use crate::clock::time_both;
+use crate::functions::of;
 use crate::stores::{flat, operations, widest, Types};
 use std::hint::black_box;
 
@@ -36,25 +37,25 @@ fn named(calls: &[Call], name: &str) -> Vec<Call> {
 // What is asked: the makers again, kind, get_bool, and the operations, as far as their answers fit. Those are made here.
 fn asked(t: &mut Types) -> Vec<Call> {
     let mut calls = t.store.calls.clone();
-    calls.extend(t.couples.iter().map(|c| Call::Kind(c.0)));
-    calls.extend([Call::Bool(0), Call::Bool(1)]);
-    calls.extend(operations(&t.couples).into_iter().filter(|c| c.run(&NEW, &mut t.store.words) < REFUSED));
+    calls.extend(t.couples.iter().map(|c| Call::new(&of::kind, &[c.0])));
+    calls.extend([0, 1].map(|value| Call::new(&of::get_bool, &[value])));
+    calls.extend(operations(&t.couples).into_iter().filter(|c| c.run(NEW, &mut t.store.words) < REFUSED));
     calls
 }
 
 // Nanoseconds a call, old and new.
-fn measure(old: &Library, words: &mut Vec<u64>, calls: &[Call]) -> (f64, f64) {
+fn measure(old: Library, words: &mut Vec<u64>, calls: &[Call]) -> (f64, f64) {
     let used = words[0];
     for c in calls {
-        assert_eq!(c.run(old, words), c.run(&NEW, words), "the libraries differ: {}", c.line());
+        assert_eq!(c.run(old, words), c.run(NEW, words), "the libraries differ: {}", c.line());
     }
     assert_eq!(words[0], used, "an answer was not there");
-    let each = |l: &Library, w: &mut Vec<u64>| calls.iter().for_each(|c| assert!(black_box(c.run(l, w)) < REFUSED));
-    let (x, y) = time_both(words, |w| each(old, w), |w| each(&NEW, w));
+    let each = |l: Library, w: &mut Vec<u64>| calls.iter().for_each(|c| assert!(black_box(c.run(l, w)) < REFUSED));
+    let (x, y) = time_both(words, |w| each(old, w), |w| each(NEW, w));
     (x / calls.len() as f64, y / calls.len() as f64)
 }
 
-pub fn table(old: &Library) {
+pub fn table(old: Library) {
     println!("\nOld beside new, nanoseconds a call; the ratio is new to old, and the sets are flat and deeper types");
     let mut most = (0.0, String::new());
     for len in [110usize, 256, 1_000, 2_048, 4_096, 4_200, 8_192, 16_384, 65_536] {

@@ -1,180 +1,181 @@
-// The library's calls, from one archive or from two: the functions of the old one have `old_` before their names.
+// A call with its arguments: how it is run, what it tells, and the line of a script that makes it. The functions are in functions.rs.
+use crate::functions::{Function, Plain};
+#[cfg(opened)]
+use crate::open_store::Open;
 
 // Answers from here on are refusals.
 pub const REFUSED: u64 = 1 << 63;
-
-// What a call tells, as one word: its answer, or its refusal's number above REFUSED. No answer that is measured here comes near that.
-#[inline(always)]
-pub fn told(call: impl FnOnce(&mut u64) -> u32) -> u64 {
-    let mut answer = 0;
-    match call(&mut answer) {
-        0 => answer,
-        n => REFUSED + u64::from(n),
-    }
-}
 
 extern "C" {
     pub fn ferigulan_well_formed(words: *const u64, n: usize) -> bool;
     pub fn ferigulan_fresh(words: *mut u64, n: usize) -> u32;
 }
 
-macro_rules! library {
-    ($($name:ident($($arg:ident: $t:ty),*);)*) => {
-        // The functions of one archive.
-        pub struct Library { $(pub $name: unsafe extern "C" fn($($t,)* &mut u64) -> u32,)* }
-
-        mod new {
-            extern "C" { $(#[link_name = concat!("ferigulan_", stringify!($name))] pub fn $name($($arg: $t,)* answer: &mut u64) -> u32;)* }
-        }
-        pub static NEW: Library = Library { $($name: new::$name,)* };
-
-        #[cfg(all(old, not(one_word)))]
-        mod old {
-            extern "C" { $(#[link_name = concat!("old_ferigulan_", stringify!($name))] pub fn $name($($arg: $t,)* answer: &mut u64) -> u32;)* }
-        }
-        // An old library whose functions return one word, the answer, or 2 to the 63 and the refusal's number.
-        #[cfg(all(old, one_word))]
-        mod old {
-            mod linked {
-                extern "C" { $(#[link_name = concat!("old_ferigulan_", stringify!($name))] pub fn $name($($arg: $t),*) -> u64;)* }
-            }
-            $(pub unsafe extern "C" fn $name($($arg: $t,)* answer: &mut u64) -> u32 {
-                let word = linked::$name($($arg),*);
-                if word >= super::REFUSED {
-                    return (word - super::REFUSED) as u32;
-                }
-                *answer = word;
-                0
-            })*
-        }
-        #[cfg(old)]
-        pub static OLD: Option<&Library> = Some(&Library { $($name: old::$name,)* });
-        #[cfg(not(old))]
-        pub static OLD: Option<&Library> = None;
-    };
+// Row 1, as the library tests it.
+pub fn well_formed(words: &[u64]) -> bool {
+    unsafe { ferigulan_well_formed(words.as_ptr(), words.len()) }
 }
 
-library! {
-    kind(words: *const u64, n: usize, h: u64);
-    get_bool(words: *const u64, n: usize, value: u64);
-    make_int(words: *mut u64, n: usize, min: u64, max: u64);
-    make_float(words: *mut u64, n: usize, size: u64, bits: u64);
-    get_tuple(words: *mut u64, n: usize, types: *const u64, len: usize);
-    get_str(words: *mut u64, n: usize, text: *const u8, len: usize);
-    get_struct(words: *mut u64, n: usize, name: u64, fields: *const u64, len: usize);
-    make_struct_fref(words: *mut u64, n: usize, name: u64);
-    get_mem_ptr(words: *mut u64, n: usize, to: u64, nil: u64);
-    get_mem(words: *mut u64, n: usize, alias: u64, t: u64);
-    make_ary(words: *mut u64, n: usize, of: u64, of_alias: u64, body: u64, body_alias: u64, text: *const u8, len: usize);
-    meet(words: *mut u64, n: usize, a: u64, b: u64);
-    isa(words: *const u64, n: usize, a: u64, b: u64);
-    join(words: *mut u64, n: usize, a: u64, b: u64);
-    dual(words: *mut u64, n: usize, a: u64);
-    glb(words: *mut u64, n: usize, a: u64);
-    lub(words: *mut u64, n: usize, a: u64);
-    is_final(words: *const u64, n: usize, a: u64);
-    make_ro(words: *mut u64, n: usize, a: u64);
+// The archive whose function is called.
+pub type Library = fn(&'static Function) -> Plain;
+pub const NEW: Library = |f| f.plain;
+#[cfg(old)]
+pub const OLD: Option<Library> = Some(|f| f.old.expect("the old library is asked for the first calls alone"));
+#[cfg(not(old))]
+pub const OLD: Option<Library> = None;
+
+// How a script tells an answer.
+#[cfg_attr(not(told), allow(dead_code))]
+pub enum Form {
+    Number,
+    Signed,
+    NumberOrAbsent,
+    SignedOrAbsent,
+    Reading,
+    Filled,
 }
 
-// An operation on two types, or on the first of them.
-pub struct Operation {
-    // its place among all of them
-    #[cfg_attr(not(opened), allow(dead_code))]
-    pub place: usize,
-    pub name: &'static str,
-    pub two: bool,
-    pub run: fn(&Library, &mut [u64], u64, u64) -> u64,
+// What calls are lent for their answers.
+pub struct Lent {
+    pub which: u64,
+    pub answer: u64,
+    pub output: Vec<u64>,
 }
 
-pub static OPERATIONS: [Operation; 8] = [
-    Operation { place: 0, name: "meet", two: true, run: |l, w, a, b| told(|x| unsafe { (l.meet)(w.as_mut_ptr(), w.len(), a, b, x) }) },
-    Operation { place: 1, name: "isa", two: true, run: |l, w, a, b| told(|x| unsafe { (l.isa)(w.as_ptr(), w.len(), a, b, x) }) },
-    Operation { place: 2, name: "join", two: true, run: |l, w, a, b| told(|x| unsafe { (l.join)(w.as_mut_ptr(), w.len(), a, b, x) }) },
-    Operation { place: 3, name: "dual", two: false, run: |l, w, a, _| told(|x| unsafe { (l.dual)(w.as_mut_ptr(), w.len(), a, x) }) },
-    Operation { place: 4, name: "glb", two: false, run: |l, w, a, _| told(|x| unsafe { (l.glb)(w.as_mut_ptr(), w.len(), a, x) }) },
-    Operation { place: 5, name: "lub", two: false, run: |l, w, a, _| told(|x| unsafe { (l.lub)(w.as_mut_ptr(), w.len(), a, x) }) },
-    Operation { place: 6, name: "is_final", two: false, run: |l, w, a, _| told(|x| unsafe { (l.is_final)(w.as_ptr(), w.len(), a, x) }) },
-    Operation { place: 7, name: "make_ro", two: false, run: |l, w, a, _| told(|x| unsafe { (l.make_ro)(w.as_mut_ptr(), w.len(), a, x) }) },
-];
+impl Lent {
+    // With room for the longest output: four words for each of 255 fields.
+    #[cfg(opened)]
+    pub fn new() -> Lent {
+        Lent { which: 0, answer: 0, output: vec![0; 4 * 255] }
+    }
 
-// A call with its arguments.
+    // The answer that is here, as scripts tell it.
+    fn told(&self, form: &Form) -> String {
+        let Lent { which, answer, output } = self;
+        let signed = *answer as i64;
+        match (form, which) {
+            (Form::NumberOrAbsent | Form::SignedOrAbsent, 0) => "absent".to_string(),
+            (Form::Number | Form::NumberOrAbsent, _) => answer.to_string(),
+            (Form::Signed | Form::SignedOrAbsent, _) => format!("={signed}"),
+            (Form::Reading, 0) => format!("size ={signed}"),
+            (Form::Reading, _) => format!("constant {answer}"),
+            (Form::Filled, _) => output[..*answer as usize].iter().fold(format!("{answer} :"), |s, w| s + &format!(" {w}")),
+        }
+    }
+}
+
 #[derive(Clone)]
-pub enum Call {
-    Kind(u64),
-    Bool(u64),
-    Int(u64, u64),
-    Float(u64, u64),
-    Tuple(Vec<u64>),
-    Name(Vec<u8>),
-    Struct(u64, Vec<u64>),
-    Fref(u64),
-    Pointer(u64, u64),
-    Memory(u64, u64),
-    Array(u64, u64, u64, u64, Vec<u8>),
-    On(&'static Operation, u64, u64),
+pub struct Call {
+    pub of: &'static Function,
+    // the last of these are 0 where the function takes fewer
+    pub numbers: [u64; 4],
+    pub list: Box<[u64]>,
+    pub text: Box<[u8]>,
 }
 
 impl Call {
-    pub fn run(&self, l: &Library, w: &mut [u64]) -> u64 {
-        let (p, n) = (w.as_mut_ptr(), w.len());
-        if let Call::On(operation, a, b) = self {
-            return (operation.run)(l, w, *a, *b);
-        }
-        told(|x| unsafe {
-            match self {
-                Call::Kind(h) => (l.kind)(p, n, *h, x),
-                Call::Bool(v) => (l.get_bool)(p, n, *v, x),
-                Call::Int(min, max) => (l.make_int)(p, n, *min, *max, x),
-                Call::Float(size, bits) => (l.make_float)(p, n, *size, *bits, x),
-                Call::Tuple(types) => (l.get_tuple)(p, n, types.as_ptr(), types.len(), x),
-                Call::Name(text) => (l.get_str)(p, n, text.as_ptr(), text.len(), x),
-                Call::Struct(name, fields) => (l.get_struct)(p, n, *name, fields.as_ptr(), fields.len(), x),
-                Call::Fref(name) => (l.make_struct_fref)(p, n, *name, x),
-                Call::Pointer(to, nil) => (l.get_mem_ptr)(p, n, *to, *nil, x),
-                Call::Memory(alias, t) => (l.get_mem)(p, n, *alias, *t, x),
-                Call::Array(of, a, body, b, text) => (l.make_ary)(p, n, *of, *a, *body, *b, text.as_ptr(), text.len(), x),
-                Call::On(..) => unreachable!(),
-            }
-        })
+    pub fn new(of: &'static Function, given: &[u64]) -> Call {
+        let mut numbers = [0; 4];
+        numbers[..given.len()].copy_from_slice(given);
+        Call { of, numbers, list: Box::new([]), text: Box::new([]) }
+    }
+
+    pub fn with_list(of: &'static Function, given: &[u64], list: &[u64]) -> Call {
+        Call { list: list.into(), ..Call::new(of, given) }
+    }
+
+    pub fn with_text(of: &'static Function, given: &[u64], text: &[u8]) -> Call {
+        Call { text: text.into(), ..Call::new(of, given) }
     }
 
     pub fn name(&self) -> &'static str {
-        match self {
-            Call::Kind(..) => "kind",
-            Call::Bool(..) => "get_bool",
-            Call::Int(..) => "make_int",
-            Call::Float(..) => "make_float",
-            Call::Tuple(..) => "get_tuple",
-            Call::Name(..) => "get_str",
-            Call::Struct(..) => "get_struct",
-            Call::Fref(..) => "make_struct_fref",
-            Call::Pointer(..) => "get_mem_ptr",
-            Call::Memory(..) => "get_mem",
-            Call::Array(..) => "make_ary",
-            Call::On(operation, ..) => operation.name,
+        self.of.name
+    }
+
+    // What a plain call tells, as one word: its answer, or its refusal's number above REFUSED. No answer that is asked for this way comes
+    // near that.
+    #[inline(always)]
+    pub fn run(&self, library: Library, words: &mut [u64]) -> u64 {
+        let mut lent = Lent { which: 0, answer: 0, output: Vec::new() };
+        match library(self.of)(words, self, &mut lent) {
+            0 => lent.answer,
+            n => REFUSED + u64::from(n),
         }
     }
 
-    // The line of a script that makes the same call.
+    #[cfg(opened)]
+    #[inline(always)]
+    pub fn plain(&self, words: &mut [u64], lent: &mut Lent) -> u32 {
+        (self.of.plain)(words, self, lent)
+    }
+
+    #[cfg(opened)]
+    #[inline(always)]
+    pub fn opened(&self, s: &mut Open, lent: &mut Lent) -> u32 {
+        (self.of.opened)(s, self, lent)
+    }
+
+    // What the call told, which was just made and was not refused, in a script's words.
+    #[cfg_attr(not(opened), allow(dead_code))]
+    pub fn told(&self, refused: u32, lent: &Lent) -> String {
+        assert_eq!(refused, 0, "refused: {}", self.line());
+        lent.told(&self.of.form)
+    }
+
+    // The line of a script that makes the same call. An empty text is nothing: a space at the end would make the line no call.
     pub fn line(&self) -> String {
-        let list = |ws: &[u64]| ws.iter().map(|w| format!(" {w}")).collect::<String>();
-        // with the space before it: an empty text is nothing, and a space at the end would make the line no call
-        let hex =
-            |text: &[u8]| (!text.is_empty()).then(|| text.iter().fold(" ".to_string(), |s, b| s + &format!("{b:02x}"))).unwrap_or_default();
-        match self {
-            Call::Kind(h) => format!("kind {h}"),
-            Call::Bool(v) => format!("get_bool {v}"),
-            Call::Int(min, max) => format!("int {min} {max}"),
-            Call::Float(size, bits) => format!("float {size} {bits}"),
-            Call::Tuple(types) => format!("tuple{}", list(types)),
-            Call::Name(text) => format!("str{}", hex(text)),
-            Call::Struct(name, fields) => format!("struct {name}{}", list(fields)),
-            Call::Fref(name) => format!("fref {name}"),
-            Call::Pointer(to, nil) => format!("ptr {to} {nil}"),
-            Call::Memory(alias, t) => format!("mem {alias} {t}"),
-            Call::Array(of, a, body, b, text) => format!("ary {of} {a} {body} {b}{}", hex(text)),
-            Call::On(operation, a, b) if operation.two => format!("{} {a} {b}", operation.name),
-            Call::On(operation, a, _) => format!("{} {a}", operation.name),
+        let mut line = self.of.script.to_string();
+        for number in self.numbers[..self.of.numbers].iter().chain(&self.list) {
+            line += &format!(" {number}");
         }
+        if !self.text.is_empty() {
+            line += " ";
+        }
+        self.text.iter().for_each(|byte| line += &format!("{byte:02x}"));
+        line
+    }
+}
+
+// The calls that make a type, or a name.
+pub mod make {
+    use super::Call;
+    use crate::functions::of;
+
+    pub fn int(min: u64, max: u64) -> Call {
+        Call::new(&of::make_int, &[min, max])
+    }
+
+    // A constant.
+    pub fn float(x: f64) -> Call {
+        Call::new(&of::make_float, &[0, x.to_bits()])
+    }
+
+    pub fn tuple(types: &[u64]) -> Call {
+        Call::with_list(&of::get_tuple, &[], types)
+    }
+
+    pub fn name(text: &[u8]) -> Call {
+        Call::with_text(&of::get_str, &[], text)
+    }
+
+    // Four words a field: name, type, alias, final.
+    pub fn structure(name: u64, fields: &[u64]) -> Call {
+        Call::with_list(&of::get_struct, &[name], fields)
+    }
+
+    pub fn fref(name: u64) -> Call {
+        Call::new(&of::make_struct_fref, &[name])
+    }
+
+    pub fn pointer(to: u64, nil: u64) -> Call {
+        Call::new(&of::get_mem_ptr, &[to, nil])
+    }
+
+    pub fn memory(alias: u64, t: u64) -> Call {
+        Call::new(&of::get_mem, &[alias, t])
+    }
+
+    pub fn array(length: u64, length_alias: u64, body: u64, body_alias: u64, text: &[u8]) -> Call {
+        Call::with_text(&of::make_ary, &[length, length_alias, body, body_alias], text)
     }
 }

@@ -27,13 +27,19 @@ pub fn time(mut f: impl FnMut()) -> f64 {
     (0..7).map(|_| round(turns, &mut f)).fold(f64::MAX, f64::min)
 }
 
+// Nanoseconds a turn, the best of so many short rounds.
+#[cfg_attr(not(opened), allow(dead_code))]
+pub fn rounds(rounds: usize, mut f: impl FnMut()) -> f64 {
+    let turns = turns_for(1, &mut f);
+    (0..rounds).map(|_| round(turns, &mut f)).fold(f64::MAX, f64::min)
+}
+
 // Nanoseconds a turn, by many short rounds with a pause now and then: on a machine that others use, some of them are undisturbed.
 #[cfg_attr(not(opened), allow(dead_code))]
 pub fn time_short(mut f: impl FnMut()) -> f64 {
-    let turns = turns_for(1, &mut f);
     let mut best = f64::MAX;
     for _ in 0..3 {
-        best = (0..20).map(|_| round(turns, &mut f)).fold(best, f64::min);
+        best = best.min(rounds(20, &mut f));
         std::thread::sleep(Duration::from_millis(20));
     }
     best
@@ -70,20 +76,26 @@ pub fn time_one<T>(rounds: usize, mut before: impl FnMut() -> T, mut f: impl FnM
     best
 }
 
-// What a stretch of no work takes: taken off where a stretch is short.
+// The least that a stretch of no work takes: taken off where a stretch is short. On a busy machine the mean is more, and would leave nothing of the shortest ones.
 #[cfg_attr(not(opened), allow(dead_code))]
 pub fn clock() -> f64 {
-    const TURNS: u32 = 100_000;
-    let sum: Duration = (0..TURNS).map(|_| Instant::now().elapsed()).sum();
-    sum.as_nanos() as f64 / TURNS as f64
+    let empty = || Instant::now().elapsed().as_nanos() as f64;
+    (0..10_000).map(|_| empty()).fold(f64::MAX, f64::min)
 }
 
-// A plain scan of words: their exclusive or, which the compiler vectorizes.
+// A plain scan of words: their exclusive or, which the compiler vectorizes. Sixteen words a turn and never inlined, since a short loop takes up to twice as long
+// where it happens to stand across two lines of the processor's cache.
+#[inline(never)]
+pub fn scanned(words: &[u64]) {
+    let (mut sixteens, mut lanes) = (words.chunks_exact(16), [0; 16]);
+    for sixteen in sixteens.by_ref() {
+        lanes.iter_mut().zip(sixteen).for_each(|(lane, word)| *lane ^= word);
+    }
+    black_box(lanes.iter().chain(sixteens.remainder()).fold(0u64, |all, word| all ^ word));
+}
+
 pub fn scan(words: &[u64]) -> f64 {
-    time(|| {
-        let w = black_box(words);
-        black_box(w.iter().fold(0u64, |a, b| a ^ b));
-    })
+    time(|| scanned(black_box(words)))
 }
 
 // A time with its ratio to another.

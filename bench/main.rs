@@ -1,7 +1,18 @@
-// What the calls cost: see README.md. [--rust ORACLE] [PART..] runs all parts, or the named ones.
+// What the calls cost: see README.md. [--rust ORACLE] [PART..] runs all parts but growth, or the named ones.
+#[cfg(all(opened, told))]
+mod agree;
+#[cfg(all(opened, told))]
+mod asked;
 mod beside;
+#[cfg(opened)]
+mod built;
 mod calls;
 mod clock;
+mod functions;
+#[cfg(all(opened, told))]
+mod growth;
+#[cfg(opened)]
+mod measure;
 #[cfg(opened)]
 mod open_store;
 #[cfg(opened)]
@@ -9,16 +20,22 @@ mod opened;
 #[cfg(opened)]
 mod operands;
 mod plain;
+#[cfg(all(opened, told))]
+mod program;
+#[cfg(all(opened, told))]
+mod row1;
 #[cfg(opened)]
 mod script;
 #[cfg(search)]
 mod search;
+#[cfg(all(opened, told))]
+mod sets;
 mod stores;
 #[cfg(all(opened, told))]
 mod told;
 mod towers;
 
-const PARTS: [&str; 7] = ["makers", "operations", "opened", "told", "beside", "towers", "search"];
+const PARTS: [&str; 8] = ["makers", "operations", "opened", "told", "beside", "towers", "search", "growth"];
 
 fn run(part: &str, oracle: Option<&str>) {
     match part {
@@ -41,6 +58,13 @@ fn run(part: &str, oracle: Option<&str>) {
         "search" => search::table(),
         #[cfg(not(search))]
         "search" => eprintln!("the search: left out, its library was not built"),
+        #[cfg(all(opened, told))]
+        "growth" => growth::measure(oracle),
+        #[cfg(not(all(opened, told)))]
+        "growth" => {
+            eprintln!("growth: the library has not all calls");
+            std::process::exit(1)
+        }
         _ => unreachable!(),
     }
 }
@@ -56,7 +80,7 @@ fn main() {
         eprintln!("{other}: no part; they are {}", PARTS.join(", "));
         std::process::exit(2);
     }
-    for part in PARTS.iter().filter(|p| args.is_empty() || args.iter().any(|a| a == *p)) {
+    for part in PARTS.iter().filter(|p| if args.is_empty() { **p != "growth" } else { args.iter().any(|a| a == *p) }) {
         run(part, oracle.as_deref());
     }
 }

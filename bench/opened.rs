@@ -1,33 +1,15 @@
 // What a call costs on an opened store, beside the plain call and the original Rust: the same calls, in one run.
-use crate::calls::{ferigulan_well_formed, Call, Operation, NEW, OPERATIONS, REFUSED};
-use crate::clock::{clock, time, time_both, time_short};
+use crate::built::spread;
+use crate::calls::{well_formed, Call, Lent};
+use crate::clock::{time, time_both};
+use crate::functions::{of, Function, OPERATIONS};
+use crate::measure::{again, first, lengths, ns, plain, small_memory, told, New, FEW, LONG, MANY};
 use crate::open_store::Open;
-use crate::operands::{maker, operands, spread, Maker, Operands, MAKERS};
-use crate::script::{figure, turns, Script};
+use crate::operands::{maker, operands, Maker, Operands, MAKERS};
+use crate::script::{beside_rust, figure, turns, Script, Times};
 use std::hint::black_box;
-use std::time::Instant;
 
 const LENGTHS: [usize; 5] = [1_000, 2_048, 8_192, 65_536, 1_048_576];
-// So many calls stay in the processor's caches; from lists of this length on there is a figure of many, too.
-pub const FEW: usize = 32;
-pub const MANY: usize = 4_096;
-pub const LONG: usize = 65_536;
-
-// The lengths that WORDS names, or else these.
-pub fn lengths(own: &[usize]) -> Vec<usize> {
-    let named = std::env::var("WORDS").unwrap_or_default();
-    let named: Vec<usize> = named.split([' ', ',']).filter_map(|n| n.parse().ok()).collect();
-    if named.is_empty() {
-        own.to_vec()
-    } else {
-        named
-    }
-}
-
-// The words of the memory of answers: in short lists four for each word, at most two mebibytes.
-pub fn memory(len: usize) -> usize {
-    std::env::var("MEMORY").ok().and_then(|n| n.parse().ok()).unwrap_or((4 * len).min(262_144))
-}
 
 // ---- one line of a table
 
@@ -42,15 +24,6 @@ struct Line {
     rust: Option<f64>,
 }
 
-// Nanoseconds, with a place behind the point where there are few.
-pub fn ns(x: f64) -> String {
-    if x < 100.0 {
-        format!("{x:.1}")
-    } else {
-        format!("{x:.0}")
-    }
-}
-
 impl Line {
     fn print(&self) {
         let appended = match self.appended {
@@ -58,10 +31,8 @@ impl Line {
             Some(x) if x > 0.0 && x < 0.01 => format!(" {:>9}", "<0.01"),
             Some(x) => format!(" {x:>9.2}"),
         };
-        let rust = self.rust.map_or("not run".to_string(), ns);
-        let ratio = self.rust.map_or("-".to_string(), |y| format!("{:.2}", self.opened / y));
-        let Line { len, call, calls, .. } = self;
-        println!("{len:>9} {call:>16} {calls:>6}{appended} {:>11} {:>9} {rust:>9} {ratio:>14}", ns(self.plain), ns(self.opened));
+        let Line { len, call, calls, plain, opened, rust, .. } = self;
+        println!("{len:>9} {call:>16} {calls:>6}{appended} {:>11} {:>9} {}", ns(*plain), ns(*opened), beside_rust(*opened, *rust));
     }
 }
 
@@ -71,128 +42,31 @@ struct Tables {
     new: Vec<Line>,
 }
 
-// ---- the library
-
-// The lines of a script with these calls, and their answers.
-fn in_script<'a>(calls: &'a [Call], answers: &'a [u64]) -> impl Iterator<Item = (String, String)> + 'a {
-    calls.iter().zip(answers).map(|(call, answer)| (call.line(), answer.to_string()))
-}
-
-// All calls, opened; their answers.
-fn answers(s: &mut Open, calls: &[Call]) -> Vec<u64> {
-    calls.iter().map(|c| s.run(c)).collect()
-}
-
-// Nanoseconds a call, of calls that are asked again and again.
-fn again(s: &mut Open, calls: &[Call]) -> f64 {
-    let used = s.used();
-    let ns = time_short(|| calls.iter().for_each(|c| assert!(black_box(s.run(black_box(c))) < REFUSED)));
-    assert_eq!(s.used(), used, "an answer was not there");
-    ns / calls.len() as f64
-}
-
-// Nanoseconds a call, of calls on words that were just opened: the best of several rounds, each on the same words.
-fn first(s: &mut Open, words: &[u64], calls: &[Call]) -> f64 {
-    let (rounds, none) = ((20_000_000 / words.len()).clamp(12, 300), clock());
-    let (mut best, begin) = (f64::MAX, Instant::now());
-    for round in 0..rounds {
-        if round >= 3 && begin.elapsed().as_millis() > 1_000 {
-            break;
-        }
-        s.start(words);
-        let t = Instant::now();
-        calls.iter().for_each(|c| assert!(black_box(s.run(black_box(c))) < REFUSED));
-        best = best.min(t.elapsed().as_nanos() as f64);
-    }
-    (best - none) / calls.len() as f64
-}
-
-// The same for plain calls: fewer of them, since each takes its time; and whether they answer what the opened ones did.
-fn plain(words: &[u64], calls: &[Call], answers: &[u64]) -> f64 {
-    let calls = &calls[..calls.len().min((3_000_000 / words.len()).clamp(4, FEW))];
-    let (mut w, mut best) = (words.to_vec(), f64::MAX);
-    for _ in 0..5 {
-        w.copy_from_slice(words);
-        let t = Instant::now();
-        for (call, answer) in calls.iter().zip(answers) {
-            assert_eq!(black_box(call.run(&NEW, &mut w)), *answer, "plain and opened differ: {}", call.line());
-        }
-        best = best.min(t.elapsed().as_nanos() as f64);
-    }
-    best / calls.len() as f64
-}
-
-// How many entries stand between two places.
-fn entries(words: &[u64], from: usize, to: usize) -> usize {
-    let (mut at, mut count) = (from, 0);
-    while at < to {
-        let (kind, n) = (words[at] % 256, words[at] as usize / 65_536);
-        at += match kind {
-            0 => 1 + n.div_ceil(8),
-            1..=4 => 1,
-            7 => 1 + n,
-            8 => 2 + 3 * n,
-            9 => 2,
-            _ => 3,
-        };
-        count += 1;
-    }
-    count
-}
-
-// Calls that are new: measured on the words before them, and on those after them, opened anew, where every answer is there and nothing
-// is remembered.
-struct New {
-    appended: f64,
-    answers: Vec<u64>,
-    after: Vec<u64>,
-    // plain and opened, on the words before and on those after
-    times: [(f64, f64); 2],
-}
-
-fn new(s: &mut Open, before: &[u64], calls: &[Call]) -> New {
-    s.start(before);
-    let answers = answers(s, calls);
-    let after = s.words.clone();
-    let count = entries(&after, before[0] as usize, after[0] as usize);
-    let times = [before, &after].map(|w| (plain(w, calls, &answers), first(s, w, calls)));
-    New { appended: count as f64 / calls.len() as f64, answers, after, times }
-}
-
 // ---- the operations
 
 // The calls of an operation on couples, or on the types of couples one by one.
-fn calls_of(o: &'static Operation, couples: &[(u64, u64)]) -> Vec<Call> {
-    let on = |(a, b): &(u64, u64)| if o.two { vec![Call::On(o, *a, *b)] } else { vec![Call::On(o, *a, 0), Call::On(o, *b, 0)] };
+fn calls_of(o: &'static Function, couples: &[(u64, u64)]) -> Vec<Call> {
+    let firsts = couples.iter().map(|(a, b)| Call::new(o, &[*a, *b]));
     // the types one by one: first those of one end of the list, so that their kinds take turns
-    let mut all: Vec<Call> = couples.iter().map(|c| on(c)[0].clone()).collect();
-    if !o.two {
-        all.extend(couples.iter().map(|c| on(c)[1].clone()));
-    }
-    spread(&all, MANY)
+    let seconds = couples.iter().filter(|_| o.numbers == 1).map(|(_, b)| Call::new(o, &[*b]));
+    spread(&firsts.chain(seconds).collect::<Vec<_>>(), MANY)
 }
 
 // The same calls on the other side.
-fn swapped(o: &'static Operation, calls: &[Call]) -> Vec<Call> {
-    let swap = |c: &Call| match c {
-        Call::On(_, a, b) if o.two => Some(Call::On(o, *b, *a)),
-        _ => None,
-    };
-    calls.iter().filter_map(swap).collect()
+fn swapped(calls: &[Call]) -> Vec<Call> {
+    calls.iter().filter(|c| c.of.numbers == 2).map(|c| Call::new(c.of, &[c.numbers[1], c.numbers[0]])).collect()
 }
 
 // isa of two such types is always no, and known at once. So every other four are asked about a type above, the meet, which is made before.
 fn half_above(s: &mut Open, t: &mut Operands, calls: Vec<Call>) -> Vec<Call> {
     let mut asked = calls;
+    let mut lent = Lent::new();
     s.start(&t.built.words);
     for call in asked.iter_mut().enumerate().filter(|(i, _)| i / 4 % 2 == 1).map(|(_, call)| call) {
-        if let Call::On(isa, a, b) = *call {
-            let meet = Call::On(&OPERATIONS[0], a, b);
-            let above = s.run(&meet);
-            if above < REFUSED {
-                t.built.made.push((meet, above));
-                *call = Call::On(isa, a, above);
-            }
+        let meet = Call { of: &of::meet, ..call.clone() };
+        if meet.opened(s, &mut lent) == 0 {
+            t.built.made.push((meet, lent.answer));
+            call.numbers[1] = lent.answer;
         }
     }
     t.built.words.copy_from_slice(&s.words);
@@ -200,53 +74,71 @@ fn half_above(s: &mut Open, t: &mut Operands, calls: Vec<Call>) -> Vec<Call> {
 }
 
 // As many operands as leave room for what the calls append, on both sides.
-fn operation(oracle: Option<&str>, len: usize, o: &'static Operation, tables: &mut Tables) {
+fn fitting(len: usize, o: &'static Function) -> Option<(Operands, Vec<Call>, Open)> {
     let fits = |tenths: usize| {
         let t = operands(len, (len - 94) * tenths / 20);
         let calls = calls_of(o, &t.couples);
-        let mut s = Open::new(t.built.words.clone(), memory(len));
-        let all = calls.iter().chain(&swapped(o, &calls)).all(|c| s.run(c) < REFUSED);
+        let (mut s, mut lent) = (Open::new(t.built.words.clone(), small_memory(len)), Lent::new());
+        let all = calls.iter().chain(&swapped(&calls)).all(|c| c.opened(&mut s, &mut lent) == 0);
         all.then_some((t, calls, s))
     };
-    let Some((mut t, mut calls, mut s)) = [12, 9, 7, 5, 4, 3, 2, 1].into_iter().find_map(fits) else {
+    [12, 9, 7, 5, 4, 3, 2, 1].into_iter().find_map(fits)
+}
+
+fn operation(oracle: Option<&str>, len: usize, o: &'static Function, tables: &mut Tables) {
+    let Some((mut t, mut calls, mut s)) = fitting(len, o) else {
         eprintln!("opened: {len} words, {}: left out, its answers do not fit", o.name);
         return;
     };
     if o.name == "isa" {
         calls = half_above(&mut s, &mut t, calls);
     }
-    let n = new(&mut s, &t.built.words, &calls);
     let mut script = Script::fresh(len, &t.built.made);
-    script.block("new", in_script(&calls, &n.answers));
+    let new = News::measure(&mut s, &t.built.words, &calls, &mut script);
 
     // again and again: few of them, and all on both sides
-    s.start(&n.after);
+    s.start(&new.after);
     let few = spread(&calls, FEW);
-    let mut many = if o.two { spread(&calls, MANY / 2) } else { calls.clone() };
-    many.extend(swapped(o, &many));
-    let told = [answers(&mut s, &few), answers(&mut s, &many)];
-    script.block("few", in_script(&few, &told[0]));
-    script.block("many", in_script(&many, &told[1]));
-    let words = s.words.clone();
-    let base = plain(&words, &few, &told[0]);
-    let times = [again(&mut s, &few), if len >= LONG { again(&mut s, &many) } else { 0.0 }];
-
+    let mut many = if o.numbers == 2 { spread(&calls, MANY / 2) } else { calls };
+    many.extend(swapped(&many));
+    let told = [("few", &few), ("many", &many)].map(|(set, calls)| {
+        let told = told(&mut s, calls);
+        script.block(set, calls, &told);
+        told
+    });
+    let base = plain(&s.words.clone(), &few, &told[0]);
     let rust = script.times(oracle, turns(len));
-    let line = |calls: &[Call], opened, rust| Line { len, call: o.name, calls: calls.len(), appended: None, plain: base, opened, rust };
-    tables.again.push(line(&few, times[0], figure(&rust, "few", 2)));
-    if len >= LONG {
-        tables.again.push(line(&many, times[1], figure(&rust, "many", 2)));
+    for (set, calls) in [("few", &few), ("many", &many)].into_iter().take(if len >= LONG { 2 } else { 1 }) {
+        let (opened, rust) = (again(&mut s, calls), figure(&rust, set, 2));
+        tables.again.push(Line { len, call: o.name, calls: calls.len(), appended: None, plain: base, opened, rust });
     }
-    news(len, o.name, &calls, &n, |which| figure(&rust, "new", which), tables);
+    tables.new.extend(new.lines(len, o.name, &rust));
 }
 
-// The lines of new calls: with what they append, if anything, and with all there.
-fn news(len: usize, call: &'static str, calls: &[Call], n: &New, rust: impl Fn(usize) -> Option<f64>, tables: &mut Tables) {
-    for (which, (plain, opened)) in n.times.into_iter().enumerate() {
-        let appended = if which == 0 { n.appended } else { 0.0 };
-        if which == 0 || n.appended > 0.0 {
-            tables.new.push(Line { len, call, calls: calls.len(), appended: Some(appended), plain, opened, rust: rust(which) });
-        }
+// New calls, plain and opened: on the words before them, and on those after them, opened anew, where every answer is there and nothing is remembered.
+struct News {
+    calls: usize,
+    appended: f64,
+    after: Vec<u64>,
+    times: [(f64, f64); 2],
+}
+
+impl News {
+    fn measure(s: &mut Open, before: &[u64], calls: &[Call], script: &mut Script) -> News {
+        let New { told, after, appended } = New::run(s, before, calls);
+        script.block("new", calls, &told);
+        let times = [before, &after].map(|w| (plain(w, calls, &told), first(s, w, calls)));
+        News { calls: calls.len(), appended, after, times }
+    }
+
+    // With what they append, if anything, and with all there.
+    fn lines(&self, len: usize, call: &'static str, rust: &Option<Times>) -> Vec<Line> {
+        let line = |(which, (plain, opened)): (usize, (f64, f64))| {
+            let appended = Some(if which == 0 { self.appended } else { 0.0 });
+            Line { len, call, calls: self.calls, appended, plain, opened, rust: figure(rust, "new", which) }
+        };
+        let lines = if self.appended > 0.0 { 2 } else { 1 };
+        self.times.into_iter().enumerate().take(lines).map(line).collect()
     }
 }
 
@@ -256,37 +148,33 @@ fn one_maker(oracle: Option<&str>, len: usize, asked: Maker, tables: &mut Tables
     let Maker { built, found, new: fresh } = asked;
     let call = found[0].name();
     let mut script = Script::fresh(len, &built.made);
-    let mut s = Open::new(built.words.clone(), memory(len));
+    let mut s = Open::new(built.words.clone(), small_memory(len));
     let mut lines = Vec::new();
     for (set, calls) in [("few", spread(&found, FEW)), ("many", spread(&found, MANY))] {
         if set == "many" && (len < LONG || calls.len() <= FEW) {
             continue;
         }
-        let told = answers(&mut s, &calls);
-        script.block(set, in_script(&calls, &told));
+        let told = told(&mut s, &calls);
+        script.block(set, &calls, &told);
         let (plain, opened) = (plain(&built.words, &calls, &told), again(&mut s, &calls));
         lines.push((set, Line { len, call, calls: calls.len(), appended: None, plain, opened, rust: None }));
     }
     let calls = spread(&fresh, MANY);
-    let n = (!calls.is_empty()).then(|| new(&mut s, &built.words, &calls));
-    if let Some(n) = &n {
-        script.block("new", in_script(&calls, &n.answers));
-    }
+    let new = (!calls.is_empty()).then(|| News::measure(&mut s, &built.words, &calls, &mut script));
     let rust = script.times(oracle, turns(len));
     tables.again.extend(lines.into_iter().map(|(set, line)| Line { rust: figure(&rust, set, 2), ..line }));
-    if let Some(n) = &n {
-        news(len, call, &calls, n, |which| figure(&rust, "new", which), tables);
-    }
+    tables.new.extend(new.iter().flat_map(|new| new.lines(len, call, &rust)));
 }
 
 fn all_makers(oracle: Option<&str>, len: usize, tables: &mut Tables) {
     (0..MAKERS).for_each(|which| one_maker(oracle, len, maker(len, which), tables));
     // kind, on the types of a store of pointers; the names are the first four entries
     let built = maker(len, 6).built;
-    let kinds: Vec<Call> = built.made[4..].iter().map(|m| Call::Kind(m.1)).collect();
+    let kinds: Vec<Call> = built.made[4..].iter().map(|m| Call::new(&of::kind, &[m.1])).collect();
     one_maker(oracle, len, Maker { built, found: kinds.clone(), new: kinds }, tables);
     let built = maker(len, 0).built;
-    one_maker(oracle, len, Maker { built, found: vec![Call::Bool(0), Call::Bool(1)], new: vec![] }, tables);
+    let bools = [0, 1].map(|value| Call::new(&of::get_bool, &[value])).to_vec();
+    one_maker(oracle, len, Maker { built, found: bools, new: vec![] }, tables);
 }
 
 // ---- opening
@@ -295,9 +183,9 @@ fn all_makers(oracle: Option<&str>, len: usize, tables: &mut Tables) {
 fn opening(len: usize) -> String {
     let words = maker(len, 6).built.words;
     let used = words[0] as f64;
-    let k = memory(len);
+    let k = small_memory(len);
     let mut s = Open::new(words, k);
-    let row1 = time(|| assert!(black_box(unsafe { ferigulan_well_formed(black_box(s.words.as_ptr()), len) })));
+    let row1 = time(|| assert!(black_box(well_formed(black_box(&s.words)))));
     let (without, with) = time_both(&mut s, |s| s.open(0), |s| s.open(k));
     let each = |x: f64| format!("{} ({:.2})", ns(x), x / used);
     let blank = format!("{} ({:.2})", ns((with - without).max(0.0)), (with - without).max(0.0) / k as f64);
@@ -310,7 +198,7 @@ pub fn tables(oracle: Option<&str>) {
     for len in lengths(&LENGTHS) {
         eprintln!("opened: {len} words, the makers ..");
         all_makers(oracle, len, &mut tables);
-        for o in &OPERATIONS {
+        for o in OPERATIONS {
             eprintln!("opened: {len} words, {} ..", o.name);
             operation(oracle, len, o, &mut tables);
         }

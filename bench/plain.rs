@@ -1,6 +1,7 @@
 // What a call costs, as a ratio to a plain scan of the same words, and beside the original Rust.
-use crate::calls::{ferigulan_well_formed, Call, NEW, OPERATIONS, REFUSED};
+use crate::calls::{make, well_formed, Call, NEW, REFUSED};
 use crate::clock::{beside, scan, time};
+use crate::functions::OPERATIONS;
 use crate::stores::{filled, flat, operations};
 use std::hint::black_box;
 use std::process::Command;
@@ -13,10 +14,10 @@ pub fn makers() {
         let mut w = filled(len);
         let at = w[0];
         let plain = scan(&w);
-        let row1 = time(|| assert!(black_box(unsafe { ferigulan_well_formed(black_box(w.as_ptr()), len) })));
-        let int = Call::Int(1, 99);
-        assert_eq!(int.run(&NEW, &mut w), at);
-        let found = time(|| assert_eq!(black_box(int.run(&NEW, &mut w)), at));
+        let row1 = time(|| assert!(black_box(well_formed(black_box(&w)))));
+        let int = make::int(1, 99);
+        assert_eq!(int.run(NEW, &mut w), at);
+        let found = time(|| assert_eq!(black_box(int.run(NEW, &mut w)), at));
         let back = |w: &mut Vec<u64>| {
             w[at as usize..at as usize + 3].fill(0);
             w[0] = at;
@@ -24,10 +25,10 @@ pub fn makers() {
         let mut again = |call: Call| {
             time(|| {
                 back(&mut w);
-                assert_eq!(black_box(call.run(&NEW, &mut w)), at)
+                assert_eq!(black_box(call.run(NEW, &mut w)), at)
             })
         };
-        let (new, name) = (again(int), again(Call::Name(b"a name no".to_vec())));
+        let (new, name) = (again(int), again(make::name(b"a name no")));
         let show = |x: f64| beside(x, plain);
         println!("{len:>9} {plain:>12.0} {:>22} {:>22} {:>22} {:>22}", show(row1), show(found), show(new), show(name));
     }
@@ -43,7 +44,7 @@ fn rust(oracle: &str, len: usize, calls: &[Call], words: &mut [u64]) -> Option<S
     let theirs = String::from_utf8(theirs.stdout).ok()?;
     let mut lines = theirs.lines().skip(1);
     for c in calls {
-        let (x, y) = (c.run(&NEW, words).to_string(), lines.next().unwrap_or("nothing"));
+        let (x, y) = (c.run(NEW, words).to_string(), lines.next().unwrap_or("nothing"));
         if x != y {
             eprintln!("operations: the Rust is left out: to '{}' it answers {y}, and we {x}", c.line());
             return None;
@@ -66,13 +67,13 @@ pub fn lattice(oracle: Option<&str>) {
         let t = flat(len);
         let mut w = t.store.words;
         let calls = operations(&t.couples);
-        calls.iter().for_each(|c| assert!(c.run(&NEW, &mut w) < REFUSED));
+        calls.iter().for_each(|c| assert!(c.run(NEW, &mut w) < REFUSED));
         let made: Vec<Call> = t.store.calls.iter().chain(&calls).cloned().collect();
         let theirs = oracle.and_then(|o| rust(o, len, &made, &mut w));
         let plain = scan(&w);
-        for o in &OPERATIONS {
-            let ours = time(|| t.couples.iter().for_each(|(a, b)| assert!(black_box((o.run)(&NEW, &mut w, *a, *b)) < REFUSED)))
-                / t.couples.len() as f64;
+        for o in OPERATIONS {
+            let calls: Vec<Call> = t.couples.iter().map(|(a, b)| Call::new(o, &[*a, *b])).collect();
+            let ours = time(|| calls.iter().for_each(|c| assert!(black_box(c.run(NEW, &mut w)) < REFUSED))) / calls.len() as f64;
             let other = theirs.as_ref().and_then(|t| figure(t, o.name)).map(|y| format!("{y:.0} ns ({:.0}x)", ours / y));
             println!("{len:>9} {plain:>12.0} {:>10} {:>22} {:>20}", o.name, beside(ours, plain), other.unwrap_or("not run".to_string()));
         }

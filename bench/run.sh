@@ -1,10 +1,10 @@
 #!/bin/sh
-# run.sh [PART..]: builds the static libraries, the benchmark and the oracle, and runs all parts or the named ones: makers, operations, opened, told,
-# beside, towers, search. It needs rustc beside the Rattle kit, cargo for the oracle, and nm and objcopy for an old library.
+# run.sh [PART..]: builds the static libraries, the benchmark and the oracle, and runs the named parts, or all but the last: makers, operations, opened, told,
+# beside, towers, search, growth. It needs rustc beside the Rattle kit, cargo for the oracle, and nm and objcopy for an old library.
 #   OLD=ARCHIVE   an older liblattice_c.a, measured beside the new one
 #   ONE_WORD=1    the old library's functions return one word, the answer or 2 to the 63 and the refusal's number, and are lent none
 #   NEW=ARCHIVE   a liblattice_c.a that is built already, to be measured in the place of one built here
-#   WORDS="N .."  the lengths of the lists that `opened` and `told` measure, in the place of their own; MEMORY=N the words of their memory of answers
+#   WORDS="N .."  the lengths of the lists that `opened`, `told` and `growth` measure, in the place of their own; MEMORY=N the words of their memory of answers
 here=$(cd "$(dirname "$0")" && pwd) || exit 2
 # what is named from where the caller stands, from anywhere
 whole() {
@@ -44,6 +44,14 @@ else
     echo "run.sh: the library has no ferigulan_opened_offsets, the tables of what is told of types are left out" >&2
 fi
 
+# whether a part is to be run: all but growth are where none is named
+asked() {
+    part=$1 && shift
+    [ $# -eq 0 ] && return
+    for p; do [ "$p" = "$part" ] && return; done
+    return 1
+}
+
 # the old library's names get `old_` before them; what it takes from others, as memset, stays
 old() {
     command -v nm >/dev/null && command -v objcopy >/dev/null || { echo "run.sh: nm and objcopy are not on the path" >&2; return 1; }
@@ -51,20 +59,13 @@ old() {
         objcopy --redefine-syms="$libs/renamed" "$OLD" "$libs/libold.a" && apart "$libs/libold.a" "$libs/libnew.a"
 }
 if [ -z "$OLD" ]; then
-    echo "run.sh: OLD names no old library, the table of old beside new is left out" >&2
+    if asked beside "$@"; then echo "run.sh: OLD names no old library, the table of old beside new is left out" >&2; fi
 elif old; then
     flags="$flags -l static=old --cfg old${ONE_WORD:+ --cfg one_word}"
 else
     echo "run.sh: $OLD could not be renamed, the table of old beside new is left out" >&2
 fi
 
-# whether a part is to be run: all are where none is named
-asked() {
-    part=$1 && shift
-    [ $# -eq 0 ] && return
-    for p; do [ "$p" = "$part" ] && return; done
-    return 1
-}
 if ! asked search "$@"; then
     :
 elif echo "building the search .." >&2 && rt staticlib search_c >&2 && cp target/staticlib/libsearch_c.a "$libs" && apart "$libs/libsearch_c.a" "$libs/libnew.a"; then
@@ -73,7 +74,7 @@ else
     echo "run.sh: the search was not built, its table is left out" >&2
 fi
 
-rustc --edition 2021 -O -C target-cpu=x86-64 -L "$libs" $flags -o target/bench bench/main.rs || exit 1
+rustc --edition 2021 -C opt-level=3 -C target-cpu=x86-64 -L "$libs" $flags -o target/bench bench/main.rs || exit 1
 # the Rust beside it, where it can be built: without its debug assertions
 oracle=$(PROFILE=fast sh oracle/build.sh) || { echo "run.sh: the oracle was not built, the Rust is left out" >&2; oracle=; }
 exec target/bench ${oracle:+--rust "$oracle"} "$@"

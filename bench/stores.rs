@@ -1,5 +1,6 @@
 // The stores that calls are measured on.
-use crate::calls::{ferigulan_fresh, Call, NEW, OPERATIONS, REFUSED};
+use crate::calls::{ferigulan_fresh, make, Call, NEW, REFUSED};
+use crate::functions::OPERATIONS;
 
 // A store, and the calls that made its types.
 pub struct Store {
@@ -20,7 +21,7 @@ impl Store {
 
     // The handle that a call answers, if its entry fits.
     pub fn fits(&mut self, call: Call) -> Option<u64> {
-        let h = call.run(&NEW, &mut self.words);
+        let h = call.run(NEW, &mut self.words);
         if h >= REFUSED {
             assert_eq!(h, REFUSED + 12, "{}", call.line());
             return None;
@@ -82,15 +83,15 @@ pub fn flat(len: usize) -> Types {
         return small(len);
     }
     let mut s = Store::fresh(len);
-    let name = s.make(Call::Name(b"S".to_vec()));
+    let name = s.make(make::name(b"S"));
     others(&mut s, name, (len / 512).clamp(1, 8) as u64);
     let mut groups: Vec<[u64; 4]> = Vec::new();
     let mut k = 100u64;
     while groups.len() < 2 || s.used() + 40 < len / 2 {
-        let int = s.make(Call::Int(k, k + 7));
-        let pair = s.make(Call::Tuple(vec![int, 25]));
-        let st = s.make(Call::Struct(name, vec![name, int, 1, 0, name, pair, 2, k % 2]));
-        let ptr = s.make(Call::Pointer(st, k % 2));
+        let int = s.make(make::int(k, k + 7));
+        let pair = s.make(make::tuple(&[int, 25]));
+        let st = s.make(make::structure(name, &[name, int, 1, 0, name, pair, 2, k % 2]));
+        let ptr = s.make(make::pointer(st, k % 2));
         groups.push([int, pair, st, ptr]);
         k += 9;
     }
@@ -106,22 +107,22 @@ pub fn flat(len: usize) -> Types {
 // A list with room for little more than the fresh words: types that are there from the beginning, and one of each kind that is not.
 fn small(len: usize) -> Types {
     let mut s = Store::fresh(len);
-    let name = s.make(Call::Name(b"S".to_vec()));
+    let name = s.make(make::name(b"S"));
     others(&mut s, name, 1);
-    s.make(Call::Int(0, 255));
-    s.make(Call::Tuple(vec![7, 8]));
-    s.make(Call::Struct(1, vec![]));
-    s.make(Call::Pointer(20, 1));
+    s.make(make::int(0, 255));
+    s.make(make::tuple(&[7, 8]));
+    s.make(make::structure(1, &[]));
+    s.make(make::pointer(20, 1));
     Types { store: s, couples: vec![(9, 12), (64, 67), (18, 20), (82, 85)] }
 }
 
 // Of the kinds that the operations are not asked about, n of each. The first Float and the first memory are there from the beginning.
 fn others(s: &mut Store, name: u64, n: u64) {
     for k in 0..n {
-        s.fits(Call::Fref(if k == 0 { name } else { 1 }));
-        s.fits(Call::Float(0, if k == 0 { 0 } else { (k as f64).to_bits() }));
-        s.fits(if k == 0 { Call::Memory(u32::MAX as u64, 6) } else { Call::Memory(k, 25) });
-        s.fits(Call::Array(25, 2 * k + 1, 40, 2 * k + 2, vec![]));
+        s.fits(make::fref(if k == 0 { name } else { 1 }));
+        s.fits(make::float(k as f64));
+        s.fits(if k == 0 { make::memory(u32::MAX as u64, 6) } else { make::memory(k, 25) });
+        s.fits(make::array(25, 2 * k + 1, 40, 2 * k + 2, b""));
     }
 }
 
@@ -129,22 +130,22 @@ fn others(s: &mut Store, name: u64, n: u64) {
 // the same names and other Ints, so that two of them meet into the fields.
 pub fn deep(len: usize, fields: u64) -> Option<Types> {
     let mut s = Store::fresh(len);
-    let name = s.fits(Call::Name(b"D".to_vec()))?;
+    let name = s.fits(make::name(b"D"))?;
     let mut tops: Vec<[u64; 3]> = Vec::new();
     let mut k = 100u64;
     while tops.len() < 2 || (s.used() as u64 + 40 * fields < len as u64 / 2) {
         let mut big = Vec::new();
         for f in 0..fields {
-            let int = s.fits(Call::Int(k, k + 7))?;
-            let pair = s.fits(Call::Tuple(vec![int, 25]))?;
-            let st = s.fits(Call::Struct(name, vec![name, pair, 1, 0, name, pair, 2, f % 2]))?;
-            let ptr = s.fits(Call::Pointer(st, 0))?;
+            let int = s.fits(make::int(k, k + 7))?;
+            let pair = s.fits(make::tuple(&[int, 25]))?;
+            let st = s.fits(make::structure(name, &[name, pair, 1, 0, name, pair, 2, f % 2]))?;
+            let ptr = s.fits(make::pointer(st, 0))?;
             big.extend([name, ptr, f, f % 2]);
             k += 9;
         }
-        let st = s.fits(Call::Struct(name, big))?;
-        let ptr = s.fits(Call::Pointer(st, 1))?;
-        let pair = s.fits(Call::Tuple(vec![ptr, 25]))?;
+        let st = s.fits(make::structure(name, &big))?;
+        let ptr = s.fits(make::pointer(st, 1))?;
+        let pair = s.fits(make::tuple(&[ptr, 25]))?;
         tops.push([st, ptr, pair]);
     }
     let (x, y) = (tops[0], tops[tops.len() - 1]);
@@ -155,11 +156,11 @@ pub fn deep(len: usize, fields: u64) -> Option<Types> {
 pub fn widest(len: usize) -> Option<Types> {
     [8, 4, 2, 1].into_iter().filter_map(|fields| deep(len, fields)).find(|t| {
         let mut words = t.store.words.clone();
-        operations(&t.couples).iter().all(|call| call.run(&NEW, &mut words) < REFUSED)
+        operations(&t.couples).iter().all(|call| call.run(NEW, &mut words) < REFUSED)
     })
 }
 
 // Every operation on every couple.
 pub fn operations(couples: &[(u64, u64)]) -> Vec<Call> {
-    OPERATIONS.iter().flat_map(|o| couples.iter().map(move |(a, b)| Call::On(o, *a, *b))).collect()
+    OPERATIONS.iter().flat_map(|o| couples.iter().map(move |(a, b)| Call::new(o, &[*a, *b]))).collect()
 }
