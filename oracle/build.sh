@@ -2,7 +2,7 @@
 # build.sh [FOLDER]: builds the oracle around the original Rust, whose eight files are read from FOLDER (the environment variable ORIGINAL,
 # or ../shared/docs/src beside the repository, where none is named). Everything that is built or fetched goes into target/oracle.
 # The last line it prints is the path of the program. PROFILE=fast builds it without debug assertions, for timing. CRATES names a folder
-# of crates made by `cargo vendor`, to be used in the place of Debian's packages.
+# of crates made by `cargo vendor`, to be used in the place of Debian's packages. LINKED=1 builds the linked comparison into it (linked.sh).
 here=$(cd "$(dirname "$0")" && pwd) || exit 2
 top=$(dirname "$here")
 out=$top/target/oracle
@@ -87,7 +87,9 @@ if [ -z "$crates" ]; then
     fi
 fi
 write_workspace
-cargo build -q $offline --config "$out/cargo-config.toml" --manifest-path "$out/Cargo.toml" -p oracle --profile "$profile" \
+linked=
+[ -z "${LINKED:-}" ] || linked="--features linked"
+cargo build -q $offline $linked --config "$out/cargo-config.toml" --manifest-path "$out/Cargo.toml" -p oracle --profile "$profile" \
     --target-dir "$out/build" >&2 ||
     fail "the build failed. If a crate is missing: put the .deb files of these packages (Debian 12) into $out/debs, or name a folder
 made by 'cargo vendor' with CRATES=FOLDER:

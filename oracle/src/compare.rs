@@ -3,9 +3,11 @@
 
 use crate::generate::{list, List, Menu};
 use crate::random::Random;
-use crate::session::Answer;
-use crate::shrink::shrink;
-use crate::steps::Asked;
+use crate::session::{Answer, Session};
+use crate::shrink::{shrink, Shown, Sides};
+use crate::steps::{Asked, Runner, Step};
+use original::datastructures::arena::DroplessArena;
+use original::sea_of_nodes::types::Types;
 use std::collections::BTreeMap;
 use std::fs::{self, File};
 use std::io;
@@ -37,9 +39,38 @@ impl Program {
 }
 
 /// The first call whose answers differ.
-pub fn first_difference(asked: &[Asked], answers: &[String]) -> Option<usize> {
+fn first_difference(asked: &[Asked], answers: &[String]) -> Option<usize> {
     let differs = |i: &usize| answers.get(*i) != Some(&asked[*i].line());
     (0..asked.len()).find(differs)
+}
+
+/// The Rust and a program.
+struct BesideTheRust<'p>(&'p Program);
+
+impl Sides for BesideTheRust<'_> {
+    fn difference(&mut self, steps: &[Step]) -> io::Result<Option<Shown>> {
+        let mut asked = ask_all(steps);
+        let answers = self.0.answers(&asked)?;
+        let Some(at) = first_difference(&asked, &answers) else {
+            return Ok(None);
+        };
+        asked.truncate(at + 1);
+        let mut lines: Vec<String> = asked.iter().map(|asked| format!("{} ; => {}", asked.call, asked.line())).collect();
+        let answer = answers.get(at).map_or("nothing", String::as_str);
+        lines[at].push_str(&format!(" (the Rust); the program answers {answer}"));
+        if asked[at].answer != Answer::Malformed && answer.starts_with('?') {
+            lines.push("; the program does not know the call; --calls names those that are to be made".to_string());
+        }
+        let numbers = asked.iter().map(|asked| asked.call.numbers.clone()).collect();
+        Ok(Some(Shown { at, numbers, asked, first_of_last: at, lines }))
+    }
+}
+
+fn ask_all(steps: &[Step]) -> Vec<Asked> {
+    let arena = DroplessArena::new();
+    let types = Types::new(&arena);
+    let mut runner = Runner::new(Session::new(&types));
+    steps.iter().map(|step| runner.run(step)).collect()
 }
 
 /// How many calls of a name there were, by what the Rust answered: 0 for accepted ones, else the refusal.
@@ -90,8 +121,7 @@ pub fn compare(program: &Program, n: u64, seed: u64, menu: &Menu) -> io::Result<
         let lists = lists_of(CALLS_AT_ONCE.min(n - tally.calls), &mut seeds, menu);
         if let Some(list) = list_that_differs(program, &lists)? {
             println!("a difference, in a list of {} calls (seed {seed}, after {} calls without)", list.steps.len(), tally.calls);
-            eprintln!("looking for a short script that shows it ..");
-            report(program, list)?;
+            shortest(&mut BesideTheRust(program), &list.steps)?.iter().for_each(|line| println!("{line}"));
             return Ok(false);
         }
         lists.iter().for_each(|list| tally.add(list));
@@ -133,26 +163,13 @@ fn list_that_differs<'l>(program: &Program, lists: &'l [List]) -> io::Result<Opt
     Ok(found)
 }
 
-/// Prints the shortest script found that shows the difference.
-fn report(program: &Program, list: &List) -> io::Result<()> {
-    let Some((asked, answers)) = shrink(program, &list.steps)? else {
-        println!("it does not show when the list is run alone");
-        return Ok(());
-    };
-    for (i, asked) in asked.iter().enumerate() {
-        let wanted = asked.line();
-        match answers.get(i) {
-            Some(answer) if *answer == wanted => println!("{} ; => {wanted}", asked.call),
-            Some(answer) => println!("{} ; => {wanted} (the Rust); the program answers {answer}", asked.call),
-            None => println!("{} ; => {wanted} (the Rust); the program answers nothing", asked.call),
-        }
-    }
-    let is_call = asked.last().is_some_and(|last| last.answer != Answer::Malformed);
-    let last = answers.get(asked.len() - 1);
-    if is_call && last.is_some_and(|answer| answer.starts_with('?')) {
-        println!("the program does not know the call; --calls names those that are to be made");
-    }
-    Ok(())
+/// The shortest script found that shows a difference.
+pub fn shortest(sides: &mut impl Sides, steps: &[Step]) -> io::Result<Vec<String>> {
+    eprintln!("looking for a short script that shows it ..");
+    Ok(match shrink(sides, steps)? {
+        Some(shown) => shown.lines,
+        None => vec!["; it does not show when the list is run alone".to_string()],
+    })
 }
 
 /// `oracle sample`: lists of at least n calls as a script, each line with the Rust's answer.

@@ -8,14 +8,14 @@ mod others;
 
 use crate::random::Random;
 use crate::script::known_name;
-use crate::session::Answer;
+use crate::session::{Answer, Room, Session, ROOM_OF_CALLS};
 use crate::steps::{Arg, Asked, Runner, Step};
 use crate::values;
 use original::datastructures::arena::DroplessArena;
 use original::sea_of_nodes::types::Types;
 
 /// The calls that make types. They are always used: without them there is nothing to ask about.
-const MAKERS: &[(usize, &str)] = &[
+pub const MAKERS: &[(usize, &str)] = &[
     (1, "get_bool"),
     (12, "int"),
     (12, "float"),
@@ -29,11 +29,11 @@ const MAKERS: &[(usize, &str)] = &[
 ];
 
 /// The calls of the lattice, and how often each is made where it is switched on.
-const LATTICE: &[(usize, &str)] =
+pub const LATTICE: &[(usize, &str)] =
     &[(3, "kind"), (25, "meet"), (15, "isa"), (8, "dual"), (10, "join"), (5, "glb"), (5, "lub"), (5, "is_final"), (8, "make_ro")];
 
 /// Document 01's other calls, likewise.
-const OTHERS: &[(usize, &str)] = &[
+pub const OTHERS: &[(usize, &str)] = &[
     (3, "make_init"),
     (3, "make_zero"),
     (6, "non_zero"),
@@ -66,16 +66,31 @@ pub struct Menu {
     /// What is asked about the types that the makers make.
     asks: Vec<(usize, &'static str)>,
     /// Whether each list ends with `dump`, so that every used word is compared.
-    dump: bool,
+    pub dump: bool,
     /// Whether the lists are opened.
     pub opened: bool,
+    pub lists: Lists,
 }
+
+/// What lists are like.
+#[derive(Clone, Copy)]
+pub struct Lists {
+    pub room: Room,
+    /// The length of a list.
+    pub length: fn(&mut Random) -> usize,
+    /// Whether makers by chance fill the list before its calls, so that these have late handles.
+    pub are_filled: bool,
+    pub most_calls: usize,
+}
+
+/// Lists that the program `calls` has room for.
+pub const SHORT: Lists = Lists { room: ROOM_OF_CALLS, length: values::length, are_filled: false, most_calls: 400 };
 
 impl Menu {
     /// Reads names separated by commas; `makers` stands for all makers, `lattice` for its calls, `others` for document 01's other calls,
     /// `all` for everything.
     pub fn read(names: &str) -> Result<Menu, String> {
-        let mut menu = Menu { asks: vec![], dump: false, opened: false };
+        let mut menu = Menu { asks: vec![], dump: false, opened: false, lists: SHORT };
         for name in names.split(',') {
             match name {
                 "makers" => {}
@@ -105,7 +120,12 @@ pub struct List {
 
 /// Walks visit shared parts again and again, so a type of 31 tuples (x, x) would take them 2^31 visits. Such types are made, and nothing
 /// that walks is asked about those above this.
-const MOST_VISITS: u64 = 2000;
+pub const MOST_VISITS: u64 = 2000;
+
+/// Whether a call walks through a type.
+pub fn walks(name: &str) -> bool {
+    name == "non_zero" || LATTICE.iter().any(|call| call.1 == name)
+}
 
 struct Generator<'a, 't, 'm> {
     random: Random,
@@ -123,7 +143,7 @@ pub fn list(seed: u64, menu: &Menu) -> List {
     let mut generator = Generator {
         random: Random::new(seed),
         menu,
-        runner: Runner::new(&types),
+        runner: Runner::new(Session::with_room(&types, menu.lists.room)),
         origins: vec![],
         list: List { steps: vec![], asked: vec![] },
     };
@@ -139,16 +159,31 @@ impl Generator<'_, '_, '_> {
         if self.random.percent(4) {
             self.row_one();
         }
-        let length = values::length(&mut self.random);
+        let length = (self.menu.lists.length)(&mut self.random);
         self.run("fresh", vec![Arg::Number(length as u64)], vec![]);
+        if self.menu.lists.are_filled {
+            self.fill(length);
+        }
         // a store that is full soon has little to say for long
-        let most = if length < 130 { 60 } else { 400 };
+        let most = if length < 130 { 60 } else { self.menu.lists.most_calls };
         let size = self.random.between(20, most);
         while self.list.steps.len() < size {
             self.some_call();
         }
         if self.menu.dump {
             self.run("dump", vec![], vec![]);
+        }
+    }
+
+    /// Makers by chance, mostly until little room is left. They are many, so the store is open for them.
+    fn fill(&mut self, length: usize) {
+        let left = if self.random.percent(70) { self.random.below(3000) } else { self.random.below(length) };
+        let until = length.saturating_sub(left);
+        self.run("open", vec![], vec![]);
+        let seed = self.random.word() >> 32;
+        self.run("fill", vec![Arg::Number(seed), Arg::Number(until as u64)], vec![]);
+        if !self.menu.opened {
+            self.run("close", vec![], vec![]);
         }
     }
 
@@ -189,7 +224,7 @@ impl Generator<'_, '_, '_> {
     /// An earlier call once more: what it made is found again.
     fn repeat(&mut self) {
         let step = self.list.steps[self.random.below(self.list.steps.len())].clone();
-        if !["list", "fresh"].contains(&step.name) && self.ends(step.name, &step.args) {
+        if !["list", "fresh", "open", "fill", "close"].contains(&step.name) && self.ends(step.name, &step.args) {
             self.run(step.name, step.args, step.text);
         }
     }
@@ -230,9 +265,8 @@ impl Generator<'_, '_, '_> {
 
     /// Whether a call comes to its end soon: a number by chance may be the handle of a type that takes a walk too many visits.
     fn ends(&self, name: &str, args: &[Arg]) -> bool {
-        let walks = name == "non_zero" || LATTICE.iter().any(|call| call.1 == name);
         let is_long = |arg: &Arg| self.store().entry(self.runner.number(*arg)).is_some_and(|entry| entry.visits > MOST_VISITS);
-        !(walks && args.iter().any(is_long))
+        !(walks(name) && args.iter().any(is_long))
     }
 
     fn spoilt(&mut self, mut args: Vec<Arg>) -> Vec<Arg> {

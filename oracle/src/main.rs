@@ -1,9 +1,15 @@
 //! The original Rust as an oracle: it answers scripts of calls as the program `calls` does. README.md says how.
 
+// What only the linked comparison uses is here in any case.
+#![cfg_attr(not(feature = "linked"), allow(dead_code))]
+
 mod ask;
 mod both_ways;
 mod compare;
+mod filling;
 mod generate;
+#[cfg(feature = "linked")]
+mod linked;
 mod measure;
 mod random;
 mod replay;
@@ -30,6 +36,9 @@ oracle compare N [SEED] [--calls NAMES] [--opened] --program FILE --folder FOLDE
                                             runs N calls or more on the Rust and on a program, which puts its files into a folder
 oracle both-ways N [SEED] [--calls NAMES] --program FILE [--other FILE] --folder FOLDER
                                             runs N lists with poked words on a program, and opened on the same or another one
+oracle linked N [SEED] [--calls NAMES] [--plant NAME] [--folder FOLDER]
+                                            runs N calls or more on the linked library, on the reading and on the Rust
+oracle planted [SEED] [--calls NAMES]       shows that planted mistakes are found
 NAMES: names of calls separated by commas, 'lattice' for kind, meet and the other calls of the lattice, 'others' for the calls from
 make_init to ary_scale, 'dump' for the store's words at the end of each list, 'all'. The makers are always used. --opened opens the stores.";
 
@@ -80,8 +89,27 @@ fn run(words: &[String]) -> Result<bool, Box<dyn Error>> {
             let opened = options.program(options.other.as_ref().map_or(&options.program, |_| &options.other))?;
             Ok(both_ways::compare(&plain, &opened, n.parse()?, number(seed, 1)?, &options.menu(COMPARED)?)?)
         }
+        ("linked" | "planted", _) => linked(mode, &plain, &options),
         _ => Err(USAGE.into()),
     }
+}
+
+#[cfg(feature = "linked")]
+fn linked(mode: &str, plain: &[String], options: &Options) -> Result<bool, Box<dyn Error>> {
+    let calls = options.calls.as_deref().unwrap_or(COMPARED);
+    match (mode, plain) {
+        ("linked", [n, seed @ ..]) => {
+            let (plant, folder) = (options.plant.as_deref(), options.folder.as_deref());
+            Ok(linked::compare(n.parse()?, number(seed, 1)?, calls, plant, folder)?)
+        }
+        ("planted", seed) => Ok(linked::planted(number(seed, 1)?, calls)?),
+        _ => Err(USAGE.into()),
+    }
+}
+
+#[cfg(not(feature = "linked"))]
+fn linked(mode: &str, _plain: &[String], _options: &Options) -> Result<bool, Box<dyn Error>> {
+    Err(format!("{mode}: this oracle was built without the library; 'sh oracle/linked.sh' builds it with it").into())
 }
 
 #[derive(Default)]
@@ -90,6 +118,7 @@ struct Options {
     program: Option<String>,
     other: Option<String>,
     folder: Option<String>,
+    plant: Option<String>,
     opened: bool,
 }
 
@@ -118,6 +147,7 @@ fn split_options(words: &[String]) -> Result<(Vec<String>, Options), Box<dyn Err
             "--program" => &mut options.program,
             "--other" => &mut options.other,
             "--folder" => &mut options.folder,
+            "--plant" => &mut options.plant,
             "--opened" => {
                 options.opened = true;
                 continue;

@@ -57,12 +57,21 @@ impl fmt::Display for Answer {
     }
 }
 
-/// The program `calls` has room for this many words.
+/// How many words a list and an output may have: where they have more, the line is no call.
+#[derive(Clone, Copy)]
+pub struct Room {
+    pub words: u64,
+    pub output: u64,
+}
+
+/// The program `calls` has room for lists of this many words.
 const MOST_WORDS: u64 = 65_536;
 
 /// It has room for outputs of this many, each of which holds this number before the call.
 pub const MOST_OUTPUT: u64 = 4096;
-const KEPT: u64 = 7777;
+pub const KEPT: u64 = 7777;
+
+pub const ROOM_OF_CALLS: Room = Room { words: MOST_WORDS, output: MOST_OUTPUT };
 
 /// The list that calls are lent.
 enum Lent<'a, 't> {
@@ -77,18 +86,22 @@ enum Lent<'a, 't> {
 pub struct Session<'a, 't> {
     types: &'a Types<'t>,
     lent: Lent<'a, 't>,
-    most_words: u64,
+    room: Room,
     pub clock: Clock,
 }
 
 impl<'a, 't> Session<'a, 't> {
     pub fn new(types: &'a Types<'t>) -> Self {
-        Session { types, lent: Lent::Plain(vec![]), most_words: MOST_WORDS, clock: Clock::default() }
+        Session::with_room(types, ROOM_OF_CALLS)
+    }
+
+    pub fn with_room(types: &'a Types<'t>, room: Room) -> Self {
+        Session { types, lent: Lent::Plain(vec![]), room, clock: Clock::default() }
     }
 
     /// One that takes lists as long as a store may be, as the library does.
     pub fn with_long_lists(types: &'a Types<'t>) -> Self {
-        Session { most_words: LONGEST as u64, ..Session::new(types) }
+        Session::with_room(types, Room { words: LONGEST as u64, output: MOST_OUTPUT })
     }
 
     pub fn store(&self) -> Option<&Store<'a, 't>> {
@@ -110,8 +123,8 @@ impl<'a, 't> Session<'a, 't> {
 
     pub fn run(&mut self, call: &Call) -> Answer {
         match (call.name, &call.numbers[..]) {
-            ("list" | "fresh", [n, ..]) if *n > self.most_words => Answer::Malformed,
-            ("fields" | "offsets", [_, length]) if *length > MOST_OUTPUT => Answer::Malformed,
+            ("list" | "fresh", [n, ..]) if *n > self.room.words => Answer::Malformed,
+            ("fields" | "offsets", [_, length]) if *length > self.room.output => Answer::Malformed,
             ("list", [n]) => self.lend(*n, 0),
             ("list", [n, value]) => self.lend(*n, *value),
             ("fresh", []) => self.fresh(),
@@ -174,6 +187,29 @@ impl<'a, 't> Session<'a, 't> {
         }
     }
 
+    /// The list's words up to some place, behind which all are 0; nothing where the Rust's types do not stand for the list any more.
+    fn known_words(&self) -> Option<&[u64]> {
+        match &self.lent {
+            Lent::Plain(words) => Some(words),
+            Lent::Store(store) => Some(&store.words),
+            Lent::Lost(..) => None,
+        }
+    }
+
+    /// A word of the list, where it is known.
+    pub fn word(&self, at: usize) -> Option<u64> {
+        self.known_words().map(|known| known.get(at).copied().unwrap_or(0))
+    }
+
+    /// The first of these words that is known not to be the list's.
+    pub fn first_other_word(&self, words: &[u64]) -> Option<usize> {
+        let known = self.known_words()?;
+        match words.split_at_checked(known.len()) {
+            Some((used, rest)) if used == known && is_zero(rest) => None,
+            _ => (0..words.len()).find(|at| self.word(*at) != Some(words[*at])),
+        }
+    }
+
     fn poke(&mut self, i: usize, value: u64) -> Answer {
         let mut words = self.all_words();
         if let Some(words) = &mut words {
@@ -207,6 +243,11 @@ impl<'a, 't> Session<'a, 't> {
         self.lent = Lent::Lost(self.length(), None);
         Answer::NotHeld(reason.to_string())
     }
+}
+
+/// Whether all words are 0: many at once, since lists are long.
+fn is_zero(words: &[u64]) -> bool {
+    words.chunks(64).all(|chunk| chunk.iter().fold(0, |all, word| all | word) == 0)
 }
 
 /// The words that word 0 counts, and no more than there are.

@@ -5,6 +5,11 @@ use crate::steps::Arg;
 use crate::store::{Entry, Store, SHORTEST};
 use original::sea_of_nodes::types::{Field, Ty, Type};
 
+/// A store that was not filled has fewer entries. Where there are more, so many are looked at.
+const MANY_ENTRIES: usize = 10_000;
+const SOME_ENTRIES: usize = 200;
+const FRESH_ENTRIES: usize = 35;
+
 impl<'a, 't> Generator<'a, 't, '_> {
     pub(super) fn store(&self) -> &Store<'a, 't> {
         self.runner.session.store().expect("a list's calls are made in a store")
@@ -12,14 +17,27 @@ impl<'a, 't> Generator<'a, 't, '_> {
 
     /// An entry that is wanted, if there is one: often a late one.
     pub(super) fn find(&mut self, wanted: impl Fn(&Entry<'t>) -> bool) -> Option<usize> {
+        let places = self.places();
         let entries = &self.store().entries;
-        let places: Vec<usize> = (0..entries.len()).filter(|place| wanted(&entries[*place])).collect();
+        let places: Vec<usize> = places.into_iter().filter(|place| wanted(&entries[*place])).collect();
         if places.is_empty() {
             return None;
         }
         let late = places.len().saturating_sub(12);
         let from = if self.random.percent(40) { late } else { 0 };
         Some(self.random.of(&places[from..]))
+    }
+
+    /// Where entries are looked for: all places, or in a filled store the first ones, the last ones and some by chance.
+    fn places(&mut self) -> Vec<usize> {
+        let count = self.store().entries.len();
+        if count <= MANY_ENTRIES {
+            return (0..count).collect();
+        }
+        let mut places: Vec<usize> = (0..SOME_ENTRIES).map(|_| self.random.below(count)).collect();
+        places.extend((0..FRESH_ENTRIES).chain(count - SOME_ENTRIES..count));
+        places.sort_unstable();
+        places
     }
 
     /// The same, where the fresh store has one.

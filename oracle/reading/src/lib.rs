@@ -1,0 +1,50 @@
+//! A second reading of document 01: each call on whatever words, written from the document, the readings of its open points and the
+//! original Rust alone. It shares nothing with the library beside which it is run: where the two differ, one of them reads the document
+//! wrongly.
+//!
+//! The modules go in the document's order: the store (`entry`, `fresh`, `row_one`, `store`, `making`, `types`), the calls turned back
+//! (`refusals`), and then the calls. Sentences in quotes are the document's.
+
+mod call;
+mod dual;
+mod entry;
+mod finals;
+mod float;
+mod fresh;
+mod glb_lub;
+mod held;
+mod int;
+mod kind;
+mod makers;
+mod making;
+mod meet;
+mod refusals;
+mod row_one;
+mod scalars;
+mod store;
+mod structs;
+mod types;
+
+pub use call::{Call, Reply};
+pub use held::Held;
+use store::{Marks, Store};
+
+/// Row 1, the length included: whether a call other than `fresh` takes these words.
+pub fn well_formed(words: &[u64]) -> bool {
+    row_one::kinds_at(words).is_some()
+}
+
+/// The call on whatever words. Afterwards words and output hold what the document says; `StructFields` and `Offsets` alone use the output.
+pub fn answer(words: &mut [u64], call: &Call, output: &mut [u64]) -> Reply {
+    // "One call writes a fresh store into a lent list [..]; of row 1 it tests the length only".
+    if let Call::Fresh = call {
+        return match fresh::write(words) {
+            true => Reply::Done,
+            false => Reply::Refused(1),
+        };
+    }
+    match row_one::kinds_at(words) {
+        Some(kinds) => Store::new(words, &mut Marks::new(kinds)).answer(call, output),
+        None => Reply::Refused(1),
+    }
+}

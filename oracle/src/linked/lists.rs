@@ -1,0 +1,86 @@
+//! Which lists are made, and how they are run: all by the seed of the list.
+
+use super::damage::{damaged, opening};
+use super::planted::Plant;
+use super::trial::{By, Way};
+use super::unfolded::ROOM;
+use crate::generate::{list, Lists, Menu, SHORT};
+use crate::random::Random;
+use crate::steps::{Arg, Step};
+use crate::store::LONGEST;
+use crate::values;
+
+/// What lists are made of.
+pub struct Menus {
+    short: Menu,
+    long: Menu,
+}
+
+/// A list to be run.
+pub struct Made {
+    pub steps: Vec<Step>,
+    pub way: Way,
+}
+
+impl Menus {
+    pub fn read(names: &str) -> Result<Menus, String> {
+        let menu = |lists: Lists| -> Result<Menu, String> {
+            let mut menu = Menu::read(names)?;
+            // every word is compared after each call
+            menu.dump = false;
+            menu.lists = lists;
+            Ok(menu)
+        };
+        let short = Lists { room: ROOM, length: short_length, ..SHORT };
+        let long = Lists { room: ROOM, length: long_length, are_filled: true, most_calls: 1500 };
+        Ok(Menus { short: menu(short)?, long: menu(long)? })
+    }
+
+    /// The list of this seed.
+    pub fn made(&mut self, seed: u64, plant: Option<Plant>) -> Made {
+        let mut random = Random::new(seed ^ 0x6c69_6e6b_6564);
+        let by = random.of(&[By::Crate, By::C]);
+        let (is_long, is_damaged, is_opened) = (random.below(LISTS_A_LONG_ONE) == 0, random.percent(35), random.percent(50));
+        let holds = is_long || random.percent(40);
+        let menu = if is_long { &mut self.long } else { &mut self.short };
+        menu.opened = is_opened && !is_damaged;
+        let seed = random.word();
+        let steps = match is_damaged {
+            true => damaged(seed, menu, holds),
+            false => with_lengths(list(seed, menu).steps, &mut random),
+        };
+        Made { steps, way: Way { by, holds, plant } }
+    }
+}
+
+/// One list in so many is a long one: a call there takes as long as hundreds of others.
+const LISTS_A_LONG_ONE: usize = 200;
+
+/// Lengths as the program `calls` has them, and those at which the library's tables change.
+fn short_length(random: &mut Random) -> usize {
+    match random.below(40) {
+        0 => random.of(&[4095, 4096, 4097, 8191, 8192, 8193]),
+        _ => values::length(random),
+    }
+}
+
+fn long_length(random: &mut Random) -> usize {
+    match random.below(3) {
+        0 => random.of(&[65_536, 65_537, 131_072, 262_144, 524_288, 524_289, LONGEST - 1, LONGEST, LONGEST]),
+        1 => random.between(65_536, 262_144),
+        _ => random.between(262_144, LONGEST),
+    }
+}
+
+/// The steps with lengths of memory and index for each opening.
+fn with_lengths(mut steps: Vec<Step>, random: &mut Random) -> Vec<Step> {
+    let mut length = 0;
+    for step in &mut steps {
+        match (step.name, step.args.first()) {
+            ("list" | "fresh", Some(Arg::Number(n))) => length = *n as usize,
+            ("open", None) if random.percent(50) => step.args = opening(random, length),
+            _ => {}
+        }
+    }
+    steps
+}

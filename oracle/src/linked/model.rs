@@ -1,0 +1,155 @@
+//! A lent list as the reading has it, and what steps refer to.
+
+use super::entries::Entries;
+use super::typed::{answer, output, typed};
+use crate::generate::{walks, MOST_VISITS};
+use crate::script::Call;
+use crate::session::Answer;
+use crate::steps::{Arg, Outcomes, Step};
+use reading::Held;
+
+/// The list's words: tested anew for each call, or once and held.
+enum Words {
+    Plain(Vec<u64>),
+    Held(Held),
+}
+
+pub struct Model {
+    words: Words,
+    /// Whether words that are well formed are held.
+    holds: bool,
+    /// Whether the words are not what calls alone have left: poked, or never a store.
+    pub is_damaged: bool,
+    pub entries: Entries,
+    pub outcomes: Outcomes,
+    /// The output of the last call.
+    pub output: Vec<u64>,
+}
+
+impl Model {
+    pub fn new(holds: bool) -> Model {
+        let words = Words::Plain(vec![]);
+        Model { words, holds, is_damaged: true, entries: Entries::default(), outcomes: Outcomes::default(), output: vec![] }
+    }
+
+    pub fn words(&self) -> &[u64] {
+        match &self.words {
+            Words::Plain(words) => words,
+            Words::Held(held) => held.words(),
+        }
+    }
+
+    /// How many words are used, where word 0 tells.
+    pub fn used(&self) -> usize {
+        let words = self.words();
+        words.first().map_or(0, |used| (*used).min(words.len() as u64)) as usize
+    }
+
+    pub fn is_well_formed(&self) -> bool {
+        match &self.words {
+            Words::Plain(words) => reading::well_formed(words),
+            Words::Held(_) => true,
+        }
+    }
+
+    /// Another list, or the same with other words.
+    fn lend(&mut self, words: Vec<u64>) -> Answer {
+        self.is_damaged = true;
+        self.entries = Entries::default();
+        self.entries.read_on(&words);
+        self.words = Words::Plain(words);
+        if self.holds {
+            self.hold();
+        }
+        Answer::Accepted
+    }
+
+    fn take_words(&mut self) -> Vec<u64> {
+        match &mut self.words {
+            Words::Plain(words) => std::mem::take(words),
+            Words::Held(held) => held.words().to_vec(),
+        }
+    }
+
+    fn hold(&mut self) {
+        if let Words::Plain(words) = &mut self.words {
+            match Held::new(std::mem::take(words)) {
+                Ok(held) => self.words = Words::Held(held),
+                Err(back) => *words = back,
+            }
+        }
+    }
+
+    /// Runs a line: a call, or one that is about the list.
+    pub fn run(&mut self, call: &Call) -> Answer {
+        self.output = output(call);
+        match (call.name, &call.numbers[..]) {
+            ("list", [n]) => self.lend(vec![0; *n as usize]),
+            ("list", [n, value]) => self.lend(vec![*value; *n as usize]),
+            ("fresh", [n]) => {
+                self.lend(vec![0; *n as usize]);
+                self.fresh()
+            }
+            ("fresh", []) => self.fresh(),
+            ("poke", [i, value]) => {
+                let mut words = self.take_words();
+                words[*i as usize] = *value;
+                self.lend(words)
+            }
+            ("check", []) => Answer::Flag(self.is_well_formed()),
+            _ => self.call(call),
+        }
+    }
+
+    fn fresh(&mut self) -> Answer {
+        let mut words = self.take_words();
+        let reply = reading::answer(&mut words, &reading::Call::Fresh, &mut []);
+        self.lend(words);
+        self.is_damaged = reply != reading::Reply::Done;
+        answer(&reading::Call::Fresh, reply, &[])
+    }
+
+    fn call(&mut self, call: &Call) -> Answer {
+        let typed = typed(call).unwrap_or_else(|| panic!("{call}: no call of document 01"));
+        let reply = match &mut self.words {
+            Words::Plain(words) => reading::answer(words, &typed, &mut self.output),
+            Words::Held(held) => held.answer(&typed, &mut self.output),
+        };
+        let words = match &self.words {
+            Words::Plain(words) => words,
+            Words::Held(held) => held.words(),
+        };
+        self.entries.read_on(words);
+        answer(&typed, reply, &self.output)
+    }
+
+    /// The number that an argument stands for now.
+    pub fn number(&self, arg: Arg) -> u64 {
+        self.outcomes.number(arg, self.used())
+    }
+
+    pub fn numbers(&self, step: &Step) -> Vec<u64> {
+        step.args.iter().map(|arg| self.number(*arg)).collect()
+    }
+
+    /// Writes down what a step answered, and the entries that it appended: those from this word on. Of a list that was filled at once it is the
+    /// last one alone.
+    pub fn note(&mut self, step: &Step, answer: &Answer, from: usize) {
+        let mut appended = self.entries.handles_from(from);
+        if step.name == "raise" {
+            appended.drain(..appended.len().saturating_sub(1));
+        }
+        self.outcomes.note(step.id, answer, appended);
+    }
+
+    /// Whether a walk over what a call is given takes too many visits: shared parts are visited again and again, by the original and by the
+    /// reading, which takes longer ones.
+    pub fn is_long_walk(&self, call: &Call) -> bool {
+        let most = if self.is_damaged { MOST_VISITS_ALONE } else { MOST_VISITS };
+        let is_long = |handle: &u64| self.entries.at(*handle).is_some_and(|entry| entry.visits > most);
+        walks(call.name) && call.numbers.iter().any(is_long)
+    }
+}
+
+/// How many visits a walk may take on words that the original cannot be asked about.
+const MOST_VISITS_ALONE: u64 = 50_000;

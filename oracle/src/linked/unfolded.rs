@@ -1,0 +1,75 @@
+//! The calls that a step is. Most steps are one; `put W..` is the pokes that put an entry of these words behind the used ones, `fill SEED WORDS`
+//! many makers, and `raise WORDS` the pokes that fill a list at once: with empty names, which are zero words, and an Int behind them.
+
+use super::model::Model;
+use super::typed::{output_length, typed};
+use crate::filling::Filler;
+use crate::script::Call;
+use crate::session::Room;
+use crate::steps::Step;
+use crate::store::LONGEST;
+use std::collections::VecDeque;
+
+/// A list may be a word too long, to be refused, and an output as long as a list.
+pub const ROOM: Room = Room { words: LONGEST as u64 + 1, output: LONGEST as u64 };
+
+pub enum Unfolded {
+    Calls(VecDeque<Call>),
+    Filling(Filler),
+}
+
+impl Unfolded {
+    pub fn nothing() -> Unfolded {
+        Unfolded::Calls(VecDeque::new())
+    }
+
+    /// The step with its arguments as numbers.
+    pub fn new(step: &Step, numbers: Vec<u64>, model: &Model) -> Unfolded {
+        match (step.name, &numbers[..]) {
+            ("put", entry) => return Unfolded::Calls(pokes(model.used(), entry, model)),
+            ("raise", [words]) => return Unfolded::Calls(pokes(*words as usize, &[5 + 256, 0, 7], model)),
+            _ => {}
+        }
+        let call = Call { name: step.name, numbers, text: step.text.clone() };
+        match Filler::of(&call) {
+            Some(filler) => Unfolded::Filling(filler),
+            None => Unfolded::Calls([call].into()),
+        }
+    }
+
+    /// The next call that can be run. Only an open store is filled: there are too many calls for a test of the whole list before each.
+    pub fn next_call(&mut self, model: &Model, is_open: bool) -> Option<Call> {
+        loop {
+            let call = match self {
+                Unfolded::Calls(calls) => calls.pop_front(),
+                Unfolded::Filling(filler) if is_open && model.entries.list.len() > 1 => filler.next_call(&model.entries),
+                Unfolded::Filling(_) => None,
+            }?;
+            if can_run(&call, model) {
+                return Some(call);
+            }
+        }
+    }
+}
+
+/// Pokes that append an entry of these words behind so many used ones, if it fits: the last one sets word 0.
+fn pokes(used: usize, entry: &[u64], model: &Model) -> VecDeque<Call> {
+    let words = model.words();
+    if used < model.used() || used == 0 || used + entry.len() > words.len() {
+        return VecDeque::new();
+    }
+    let other = entry.iter().enumerate().map(|(k, word)| (used + k, *word)).filter(|(at, word)| words[*at] != *word);
+    let all = other.chain([(0, (used + entry.len()) as u64)]);
+    all.map(|(at, word)| Call { name: "poke", numbers: vec![at as u64, word], text: vec![] }).collect()
+}
+
+/// Whether there is room for what a line asks for, and a walk comes to its end soon.
+fn can_run(call: &Call, model: &Model) -> bool {
+    match (call.name, &call.numbers[..]) {
+        ("list" | "fresh", [n, ..]) => *n <= ROOM.words,
+        ("poke", [at, _]) => *at < model.words().len() as u64,
+        ("open", [memory, more]) => *memory <= 8 * ROOM.words && *more as i64 <= LONGEST as i64,
+        ("fresh" | "check" | "open" | "close", _) => true,
+        _ => typed(call).is_some() && output_length(call) as u64 <= ROOM.output && !model.is_long_walk(call),
+    }
+}
