@@ -29,42 +29,42 @@ pub extern "C" fn ferigulan_well_formed(words: &[u64]) -> bool
 pub extern "C" fn ferigulan_fresh(words: &mut [u64]) -> u32
     ensures { λ r. ⌜ CodedDone (freshCall (now (words .entry))) r (now (words .exit)) ⌝ }
 {
-    codes::fresh(words)
+    coded_calls::fresh(words)
 }
 
 #[no_mangle]
 pub extern "C" fn ferigulan_kind(words: &[u64], h: u64, answer: &mut u64) -> u32
     ensures { λ r. ⌜ Coded (run (kind h) (now (words .entry))) r (now (words .entry)) (now (answer .entry)) (now (answer .exit)) ⌝ }
 {
-    codes::ask(&*words, Asking::Kind(h), answer)
+    coded_calls::ask(&*words, Asking::Kind(h), answer)
 }
 
 #[no_mangle]
 pub extern "C" fn ferigulan_get_bool(words: &[u64], value: u64, answer: &mut u64) -> u32
     ensures { λ r. ⌜ Coded (run (get-bool value) (now (words .entry))) r (now (words .entry)) (now (answer .entry)) (now (answer .exit)) ⌝ }
 {
-    codes::ask(&*words, Asking::GetBool(value), answer)
+    coded_calls::ask(&*words, Asking::GetBool(value), answer)
 }
 
 #[no_mangle]
 pub extern "C" fn ferigulan_get_int(words: &mut [u64], value: u64, answer: &mut u64) -> u32
     ensures { λ r. ⌜ Coded (run (get-int value) (now (words .entry))) r (now (words .exit)) (now (answer .entry)) (now (answer .exit)) ⌝ }
 {
-    codes::make(words, Making::MakeInt(value, value), answer)
+    coded_calls::make(words, Making::MakeInt(value, value), answer)
 }
 
 #[no_mangle]
 pub extern "C" fn ferigulan_make_int(words: &mut [u64], min: u64, max: u64, answer: &mut u64) -> u32
     ensures { λ r. ⌜ Coded (run (make-int min max) (now (words .entry))) r (now (words .exit)) (now (answer .entry)) (now (answer .exit)) ⌝ }
 {
-    codes::make(words, Making::MakeInt(min, max), answer)
+    coded_calls::make(words, Making::MakeInt(min, max), answer)
 }
 
 #[no_mangle]
 pub extern "C" fn ferigulan_get_float(words: &mut [u64], bits: u64, answer: &mut u64) -> u32
     ensures { λ r. ⌜ Coded (run (get-float bits) (now (words .entry))) r (now (words .exit)) (now (answer .entry)) (now (answer .exit)) ⌝ }
 {
-    codes::make(words, Making::MakeFloat(0, bits), answer)
+    coded_calls::make(words, Making::MakeFloat(0, bits), answer)
 }
 
 #[no_mangle]
@@ -76,21 +76,21 @@ pub extern "C" fn ferigulan_make_float(
 ) -> u32
     ensures { λ r. ⌜ Coded (run (make-float sz bits) (now (words .entry))) r (now (words .exit)) (now (answer .entry)) (now (answer .exit)) ⌝ }
 {
-    codes::make(words, Making::MakeFloat(sz, bits), answer)
+    coded_calls::make(words, Making::MakeFloat(sz, bits), answer)
 }
 
 #[no_mangle]
 pub extern "C" fn ferigulan_get_tuple(words: &mut [u64], types: &[u64], answer: &mut u64) -> u32
     ensures { λ r. ⌜ Coded (run (get-tuple (now (types .entry))) (now (words .entry))) r (now (words .exit)) (now (answer .entry)) (now (answer .exit)) ⌝ }
 {
-    codes::append(words, Making::GetTuple, &*types, b"", answer)
+    coded_calls::append(words, Making::GetTuple, &*types, b"", answer)
 }
 
 #[no_mangle]
 pub extern "C" fn ferigulan_get_str(words: &mut [u64], name: &[u8], answer: &mut u64) -> u32
     ensures { λ r. ⌜ Coded (run (get-str (now (name .entry))) (now (words .entry))) r (now (words .exit)) (now (answer .entry)) (now (answer .exit)) ⌝ }
 {
-    codes::append(words, Making::GetStr, &[], &*name, answer)
+    coded_calls::append(words, Making::GetStr, &[], &*name, answer)
 }
 
 #[no_mangle]
@@ -102,7 +102,7 @@ pub extern "C" fn ferigulan_get_struct(
 ) -> u32
     ensures { λ r. ⌜ Coded (run (get-struct name (now (fields .entry))) (now (words .entry))) r (now (words .exit)) (now (answer .entry)) (now (answer .exit)) ⌝ }
 {
-    codes::append(words, Making::GetStruct(name), &*fields, b"", answer)
+    coded_calls::append(words, Making::GetStruct(name), &*fields, b"", answer)
 }
 
 #[no_mangle]
@@ -117,7 +117,7 @@ pub extern "C" fn ferigulan_make_ary(
 ) -> u32
     ensures { λ r. ⌜ Coded (run (make-ary len «len_alias» body «body_alias» (now (text .entry))) (now (words .entry))) r (now (words .exit)) (now (answer .entry)) (now (answer .exit)) ⌝ }
 {
-    codes::append(
+    coded_calls::append(
         words,
         Making::MakeAry(len, len_alias, body, body_alias),
         &[],
@@ -130,7 +130,7 @@ pub extern "C" fn ferigulan_make_ary(
 pub extern "C" fn ferigulan_make_struct_fref(words: &mut [u64], name: u64, answer: &mut u64) -> u32
     ensures { λ r. ⌜ Coded (run (make-struct-fref name) (now (words .entry))) r (now (words .exit)) (now (answer .entry)) (now (answer .exit)) ⌝ }
 {
-    codes::make(words, Making::MakeStructFref(name), answer)
+    coded_calls::make(words, Making::MakeStructFref(name), answer)
 }
 
 #[no_mangle]
@@ -142,70 +142,70 @@ pub extern "C" fn ferigulan_get_mem_ptr(
 ) -> u32
     ensures { λ r. ⌜ Coded (run (get-mem-ptr to nil) (now (words .entry))) r (now (words .exit)) (now (answer .entry)) (now (answer .exit)) ⌝ }
 {
-    codes::make(words, Making::GetMemPtr(to, nil), answer)
+    coded_calls::make(words, Making::GetMemPtr(to, nil), answer)
 }
 
 #[no_mangle]
 pub extern "C" fn ferigulan_get_mem(words: &mut [u64], alias: u64, t: u64, answer: &mut u64) -> u32
     ensures { λ r. ⌜ Coded (run (get-mem alias t) (now (words .entry))) r (now (words .exit)) (now (answer .entry)) (now (answer .exit)) ⌝ }
 {
-    codes::make(words, Making::GetMem(alias, t), answer)
+    coded_calls::make(words, Making::GetMem(alias, t), answer)
 }
 
 #[no_mangle]
 pub extern "C" fn ferigulan_meet(words: &mut [u64], a: u64, b: u64, answer: &mut u64) -> u32
     ensures { λ r. ⌜ Coded (run (meet a b) (now (words .entry))) r (now (words .exit)) (now (answer .entry)) (now (answer .exit)) ⌝ }
 {
-    codes::make(words, Making::Meet(a, b), answer)
+    coded_calls::make(words, Making::Meet(a, b), answer)
 }
 
 #[no_mangle]
 pub extern "C" fn ferigulan_isa(words: &[u64], a: u64, b: u64, answer: &mut u64) -> u32
     ensures { λ r. ⌜ Coded (run (isa a b) (now (words .entry))) r (now (words .entry)) (now (answer .entry)) (now (answer .exit)) ⌝ }
 {
-    codes::ask(&*words, Asking::Isa(a, b), answer)
+    coded_calls::ask(&*words, Asking::Isa(a, b), answer)
 }
 
 #[no_mangle]
 pub extern "C" fn ferigulan_dual(words: &mut [u64], a: u64, answer: &mut u64) -> u32
     ensures { λ r. ⌜ Coded (run (dual a) (now (words .entry))) r (now (words .exit)) (now (answer .entry)) (now (answer .exit)) ⌝ }
 {
-    codes::make(words, Making::Walk(Walk::Dual, a), answer)
+    coded_calls::make(words, Making::Walk(Walk::Dual, a), answer)
 }
 
 #[no_mangle]
 pub extern "C" fn ferigulan_join(words: &mut [u64], a: u64, b: u64, answer: &mut u64) -> u32
     ensures { λ r. ⌜ Coded (run (join a b) (now (words .entry))) r (now (words .exit)) (now (answer .entry)) (now (answer .exit)) ⌝ }
 {
-    codes::make(words, Making::Join(a, b), answer)
+    coded_calls::make(words, Making::Join(a, b), answer)
 }
 
 #[no_mangle]
 pub extern "C" fn ferigulan_glb(words: &mut [u64], a: u64, answer: &mut u64) -> u32
     ensures { λ r. ⌜ Coded (run (glb a) (now (words .entry))) r (now (words .exit)) (now (answer .entry)) (now (answer .exit)) ⌝ }
 {
-    codes::make(words, Making::Walk(Walk::Glb, a), answer)
+    coded_calls::make(words, Making::Walk(Walk::Glb, a), answer)
 }
 
 #[no_mangle]
 pub extern "C" fn ferigulan_lub(words: &mut [u64], a: u64, answer: &mut u64) -> u32
     ensures { λ r. ⌜ Coded (run (lub a) (now (words .entry))) r (now (words .exit)) (now (answer .entry)) (now (answer .exit)) ⌝ }
 {
-    codes::make(words, Making::Walk(Walk::Lub, a), answer)
+    coded_calls::make(words, Making::Walk(Walk::Lub, a), answer)
 }
 
 #[no_mangle]
 pub extern "C" fn ferigulan_is_final(words: &[u64], a: u64, answer: &mut u64) -> u32
     ensures { λ r. ⌜ Coded (run (is-final a) (now (words .entry))) r (now (words .entry)) (now (answer .entry)) (now (answer .exit)) ⌝ }
 {
-    codes::ask(&*words, Asking::IsFinal(a), answer)
+    coded_calls::ask(&*words, Asking::IsFinal(a), answer)
 }
 
 #[no_mangle]
 pub extern "C" fn ferigulan_make_ro(words: &mut [u64], a: u64, answer: &mut u64) -> u32
     ensures { λ r. ⌜ Coded (run (make-ro a) (now (words .entry))) r (now (words .exit)) (now (answer .entry)) (now (answer .exit)) ⌝ }
 {
-    codes::make(words, Making::MakeRo(a), answer)
+    coded_calls::make(words, Making::MakeRo(a), answer)
 }
 
 // ---- what is told of types, numbers and structs. `which` is 1 where there is an answer, and 0 where it is absent or, of a reading, a size alone
@@ -214,70 +214,70 @@ pub extern "C" fn ferigulan_make_ro(words: &mut [u64], a: u64, answer: &mut u64)
 pub extern "C" fn ferigulan_make_init(words: &[u64], a: u64, answer: &mut u64) -> u32
     ensures { λ r. ⌜ Coded (run (make-init a) (now (words .entry))) r (now (words .entry)) (now (answer .entry)) (now (answer .exit)) ⌝ }
 {
-    codes::ask(&*words, Asking::Type(OfType::MakeInit, a), answer)
+    coded_calls::ask(&*words, Asking::Type(OfType::MakeInit, a), answer)
 }
 
 #[no_mangle]
 pub extern "C" fn ferigulan_make_zero(words: &[u64], a: u64, answer: &mut u64) -> u32
     ensures { λ r. ⌜ Coded (run (make-zero a) (now (words .entry))) r (now (words .entry)) (now (answer .entry)) (now (answer .exit)) ⌝ }
 {
-    codes::ask(&*words, Asking::Type(OfType::MakeZero, a), answer)
+    coded_calls::ask(&*words, Asking::Type(OfType::MakeZero, a), answer)
 }
 
 #[no_mangle]
 pub extern "C" fn ferigulan_non_zero(words: &mut [u64], a: u64, answer: &mut u64) -> u32
     ensures { λ r. ⌜ Coded (run (non-zero a) (now (words .entry))) r (now (words .exit)) (now (answer .entry)) (now (answer .exit)) ⌝ }
 {
-    codes::make(words, Making::NonZero(a), answer)
+    coded_calls::make(words, Making::NonZero(a), answer)
 }
 
 #[no_mangle]
 pub extern "C" fn ferigulan_is_high(words: &[u64], a: u64, answer: &mut u64) -> u32
     ensures { λ r. ⌜ Coded (run (is-high a) (now (words .entry))) r (now (words .entry)) (now (answer .entry)) (now (answer .exit)) ⌝ }
 {
-    codes::ask(&*words, Asking::Type(OfType::IsHigh, a), answer)
+    coded_calls::ask(&*words, Asking::Type(OfType::IsHigh, a), answer)
 }
 
 #[no_mangle]
 pub extern "C" fn ferigulan_is_high_or_constant(words: &[u64], a: u64, answer: &mut u64) -> u32
     ensures { λ r. ⌜ Coded (run (is-high-or-constant a) (now (words .entry))) r (now (words .entry)) (now (answer .entry)) (now (answer .exit)) ⌝ }
 {
-    codes::ask(&*words, Asking::Type(OfType::IsHighOrConstant, a), answer)
+    coded_calls::ask(&*words, Asking::Type(OfType::IsHighOrConstant, a), answer)
 }
 
 #[no_mangle]
 pub extern "C" fn ferigulan_is_constant(words: &[u64], a: u64, answer: &mut u64) -> u32
     ensures { λ r. ⌜ Coded (run (is-constant a) (now (words .entry))) r (now (words .entry)) (now (answer .entry)) (now (answer .exit)) ⌝ }
 {
-    codes::ask(&*words, Asking::Type(OfType::IsConstant, a), answer)
+    coded_calls::ask(&*words, Asking::Type(OfType::IsConstant, a), answer)
 }
 
 #[no_mangle]
 pub extern "C" fn ferigulan_is_fref(words: &[u64], a: u64, answer: &mut u64) -> u32
     ensures { λ r. ⌜ Coded (run (is-fref a) (now (words .entry))) r (now (words .entry)) (now (answer .entry)) (now (answer .exit)) ⌝ }
 {
-    codes::ask(&*words, Asking::Type(OfType::IsFref, a), answer)
+    coded_calls::ask(&*words, Asking::Type(OfType::IsFref, a), answer)
 }
 
 #[no_mangle]
 pub extern "C" fn ferigulan_log_size(words: &[u64], a: u64, answer: &mut u64) -> u32
     ensures { λ r. ⌜ Coded (run (log-size a) (now (words .entry))) r (now (words .entry)) (now (answer .entry)) (now (answer .exit)) ⌝ }
 {
-    codes::ask(&*words, Asking::Type(OfType::LogSize, a), answer)
+    coded_calls::ask(&*words, Asking::Type(OfType::LogSize, a), answer)
 }
 
 #[no_mangle]
 pub extern "C" fn ferigulan_int_min(words: &[u64], a: u64, answer: &mut u64) -> u32
     ensures { λ r. ⌜ Coded (run (int-min a) (now (words .entry))) r (now (words .entry)) (now (answer .entry)) (now (answer .exit)) ⌝ }
 {
-    codes::ask(&*words, Asking::Int(OfInt::Min, a), answer)
+    coded_calls::ask(&*words, Asking::Int(OfInt::Min, a), answer)
 }
 
 #[no_mangle]
 pub extern "C" fn ferigulan_int_max(words: &[u64], a: u64, answer: &mut u64) -> u32
     ensures { λ r. ⌜ Coded (run (int-max a) (now (words .entry))) r (now (words .entry)) (now (answer .entry)) (now (answer .exit)) ⌝ }
 {
-    codes::ask(&*words, Asking::Int(OfInt::Max, a), answer)
+    coded_calls::ask(&*words, Asking::Int(OfInt::Max, a), answer)
 }
 
 #[no_mangle]
@@ -289,28 +289,28 @@ pub extern "C" fn ferigulan_int_value(
 ) -> u32
     ensures { λ r. ⌜ CodedWhich (run (int-value a) (now (words .entry))) r (now (words .entry)) (now (which .entry)) (now (which .exit)) (now (answer .entry)) (now (answer .exit)) ⌝ }
 {
-    codes::ask_which(&*words, Asking::Int(OfInt::Value, a), which, answer)
+    coded_calls::ask_which(&*words, Asking::Int(OfInt::Value, a), which, answer)
 }
 
 #[no_mangle]
 pub extern "C" fn ferigulan_int_mask(words: &[u64], a: u64, answer: &mut u64) -> u32
     ensures { λ r. ⌜ Coded (run (int-mask a) (now (words .entry))) r (now (words .entry)) (now (answer .entry)) (now (answer .exit)) ⌝ }
 {
-    codes::ask(&*words, Asking::Int(OfInt::Mask, a), answer)
+    coded_calls::ask(&*words, Asking::Int(OfInt::Mask, a), answer)
 }
 
 #[no_mangle]
 pub extern "C" fn ferigulan_float_sz(words: &[u64], a: u64, answer: &mut u64) -> u32
     ensures { λ r. ⌜ Coded (run (float-sz a) (now (words .entry))) r (now (words .entry)) (now (answer .entry)) (now (answer .exit)) ⌝ }
 {
-    codes::ask(&*words, Asking::Float(OfFloat::Sz, a), answer)
+    coded_calls::ask(&*words, Asking::Float(OfFloat::Sz, a), answer)
 }
 
 #[no_mangle]
 pub extern "C" fn ferigulan_float_is_f32(words: &[u64], a: u64, answer: &mut u64) -> u32
     ensures { λ r. ⌜ Coded (run (float-is-f32 a) (now (words .entry))) r (now (words .entry)) (now (answer .entry)) (now (answer .exit)) ⌝ }
 {
-    codes::ask(&*words, Asking::Float(OfFloat::IsF32, a), answer)
+    coded_calls::ask(&*words, Asking::Float(OfFloat::IsF32, a), answer)
 }
 
 #[no_mangle]
@@ -322,7 +322,7 @@ pub extern "C" fn ferigulan_float_value(
 ) -> u32
     ensures { λ r. ⌜ CodedWhich (run (float-value a) (now (words .entry))) r (now (words .entry)) (now (which .entry)) (now (which .exit)) (now (answer .entry)) (now (answer .exit)) ⌝ }
 {
-    codes::ask_which(&*words, Asking::Float(OfFloat::Value, a), which, answer)
+    coded_calls::ask_which(&*words, Asking::Float(OfFloat::Value, a), which, answer)
 }
 
 #[no_mangle]
@@ -334,14 +334,14 @@ pub extern "C" fn ferigulan_float_reading(
 ) -> u32
     ensures { λ r. ⌜ CodedWhich (run (float-reading a) (now (words .entry))) r (now (words .entry)) (now (which .entry)) (now (which .exit)) (now (answer .entry)) (now (answer .exit)) ⌝ }
 {
-    codes::ask_which(&*words, Asking::Float(OfFloat::Reading, a), which, answer)
+    coded_calls::ask_which(&*words, Asking::Float(OfFloat::Reading, a), which, answer)
 }
 
 #[no_mangle]
 pub extern "C" fn ferigulan_struct_name(words: &[u64], s: u64, answer: &mut u64) -> u32
     ensures { λ r. ⌜ Coded (run (struct-name s) (now (words .entry))) r (now (words .entry)) (now (answer .entry)) (now (answer .exit)) ⌝ }
 {
-    codes::ask(&*words, Asking::Struct(OfStruct::Name, s), answer)
+    coded_calls::ask(&*words, Asking::Struct(OfStruct::Name, s), answer)
 }
 
 #[no_mangle]
@@ -354,7 +354,7 @@ pub extern "C" fn ferigulan_struct_fields(
     ensures { λ r. ⌜ Coded (run (struct-fields s (length (now (output .entry)))) (now (words .entry))) r (now (words .entry)) (now (answer .entry)) (now (answer .exit)) ⌝ }
     ensures { λ _. ⌜ now (output .exit) ≡ structFieldsOutput s (now (words .entry)) (now (output .entry)) ⌝ }
 {
-    codes::fill(&*words, Filling::Fields, s, output, answer)
+    coded_calls::fill(&*words, Filling::Fields, s, output, answer)
 }
 
 #[no_mangle]
@@ -367,7 +367,7 @@ pub extern "C" fn ferigulan_find(
 ) -> u32
     ensures { λ r. ⌜ CodedWhich (run (find s name) (now (words .entry))) r (now (words .entry)) (now (which .entry)) (now (which .exit)) (now (answer .entry)) (now (answer .exit)) ⌝ }
 {
-    codes::ask_which(
+    coded_calls::ask_which(
         &*words,
         Asking::Struct(OfStruct::Find(name), s),
         which,
@@ -385,7 +385,7 @@ pub extern "C" fn ferigulan_find_alias(
 ) -> u32
     ensures { λ r. ⌜ CodedWhich (run (find-alias s alias) (now (words .entry))) r (now (words .entry)) (now (which .entry)) (now (which .exit)) (now (answer .entry)) (now (answer .exit)) ⌝ }
 {
-    codes::ask_which(
+    coded_calls::ask_which(
         &*words,
         Asking::Struct(OfStruct::FindAlias(alias), s),
         which,
@@ -397,14 +397,14 @@ pub extern "C" fn ferigulan_find_alias(
 pub extern "C" fn ferigulan_is_ary(words: &[u64], s: u64, answer: &mut u64) -> u32
     ensures { λ r. ⌜ Coded (run (is-ary s) (now (words .entry))) r (now (words .entry)) (now (answer .entry)) (now (answer .exit)) ⌝ }
 {
-    codes::ask(&*words, Asking::Struct(OfStruct::IsAry, s), answer)
+    coded_calls::ask(&*words, Asking::Struct(OfStruct::IsAry, s), answer)
 }
 
 #[no_mangle]
 pub extern "C" fn ferigulan_offset(words: &[u64], s: u64, i: u64, answer: &mut u64) -> u32
     ensures { λ r. ⌜ Coded (run (offset s i) (now (words .entry))) r (now (words .entry)) (now (answer .entry)) (now (answer .exit)) ⌝ }
 {
-    codes::ask(&*words, Asking::Struct(OfStruct::Offset(i), s), answer)
+    coded_calls::ask(&*words, Asking::Struct(OfStruct::Offset(i), s), answer)
 }
 
 #[no_mangle]
@@ -417,21 +417,21 @@ pub extern "C" fn ferigulan_offsets(
     ensures { λ r. ⌜ Coded (run (offsets s (length (now (output .entry)))) (now (words .entry))) r (now (words .entry)) (now (answer .entry)) (now (answer .exit)) ⌝ }
     ensures { λ _. ⌜ now (output .exit) ≡ offsetsOutput s (now (words .entry)) (now (output .entry)) ⌝ }
 {
-    codes::fill(&*words, Filling::Offsets, s, output, answer)
+    coded_calls::fill(&*words, Filling::Offsets, s, output, answer)
 }
 
 #[no_mangle]
 pub extern "C" fn ferigulan_ary_base(words: &[u64], s: u64, answer: &mut u64) -> u32
     ensures { λ r. ⌜ Coded (run (ary-base s) (now (words .entry))) r (now (words .entry)) (now (answer .entry)) (now (answer .exit)) ⌝ }
 {
-    codes::ask(&*words, Asking::Struct(OfStruct::AryBase, s), answer)
+    coded_calls::ask(&*words, Asking::Struct(OfStruct::AryBase, s), answer)
 }
 
 #[no_mangle]
 pub extern "C" fn ferigulan_ary_scale(words: &[u64], s: u64, answer: &mut u64) -> u32
     ensures { λ r. ⌜ Coded (run (ary-scale s) (now (words .entry))) r (now (words .entry)) (now (answer .entry)) (now (answer .exit)) ⌝ }
 {
-    codes::ask(&*words, Asking::Struct(OfStruct::AryScale, s), answer)
+    coded_calls::ask(&*words, Asking::Struct(OfStruct::AryScale, s), answer)
 }
 
 // ---- the calls on an opened store
@@ -446,7 +446,7 @@ pub extern "C" fn ferigulan_open(words: &[u64], index: &mut [u64], memory: &mut 
     ensures { λ r. ⌜ r ≡ status (openReply (now (words .entry)) (length (now (index .entry)))) ⌝ }
     ensures { λ r. ⌜ CodedOpening (now (words .entry)) (now (index .entry)) (now (memory .entry)) (now (index .exit)) (now (memory .exit)) r ⌝ }
 {
-    codes::open(&*words, index, memory)
+    coded_calls::open(&*words, index, memory)
 }
 
 #[no_mangle]
@@ -461,7 +461,7 @@ pub extern "C" fn ferigulan_opened_kind(
     ensures { λ r. ⌜ Coded (run (kind h) (now (words .entry))) r (now (words .entry)) (now (answer .entry)) (now (answer .exit)) ⌝ }
     ensures { λ _. ⌜ OpenStore (now (words .entry)) (now (index .entry)) (now (memory .exit)) ⌝ }
 {
-    codes::opened_ask(&*words, &*index, memory, Asking::Kind(h), answer)
+    coded_calls::opened_ask(&*words, &*index, memory, Asking::Kind(h), answer)
 }
 
 #[no_mangle]
@@ -476,7 +476,7 @@ pub extern "C" fn ferigulan_opened_get_bool(
     ensures { λ r. ⌜ Coded (run (get-bool value) (now (words .entry))) r (now (words .entry)) (now (answer .entry)) (now (answer .exit)) ⌝ }
     ensures { λ _. ⌜ OpenStore (now (words .entry)) (now (index .entry)) (now (memory .exit)) ⌝ }
 {
-    codes::opened_ask(&*words, &*index, memory, Asking::GetBool(value), answer)
+    coded_calls::opened_ask(&*words, &*index, memory, Asking::GetBool(value), answer)
 }
 
 #[no_mangle]
@@ -491,7 +491,7 @@ pub extern "C" fn ferigulan_opened_get_int(
     ensures { λ r. ⌜ Coded (run (get-int value) (now (words .entry))) r (now (words .exit)) (now (answer .entry)) (now (answer .exit)) ⌝ }
     ensures { λ _. ⌜ OpenStore (now (words .exit)) (now (index .exit)) (now (memory .exit)) ⌝ }
 {
-    codes::opened_append(
+    coded_calls::opened_append(
         words,
         index,
         memory,
@@ -515,7 +515,7 @@ pub extern "C" fn ferigulan_opened_make_int(
     ensures { λ r. ⌜ Coded (run (make-int min max) (now (words .entry))) r (now (words .exit)) (now (answer .entry)) (now (answer .exit)) ⌝ }
     ensures { λ _. ⌜ OpenStore (now (words .exit)) (now (index .exit)) (now (memory .exit)) ⌝ }
 {
-    codes::opened_append(
+    coded_calls::opened_append(
         words,
         index,
         memory,
@@ -538,7 +538,7 @@ pub extern "C" fn ferigulan_opened_get_float(
     ensures { λ r. ⌜ Coded (run (get-float bits) (now (words .entry))) r (now (words .exit)) (now (answer .entry)) (now (answer .exit)) ⌝ }
     ensures { λ _. ⌜ OpenStore (now (words .exit)) (now (index .exit)) (now (memory .exit)) ⌝ }
 {
-    codes::opened_append(
+    coded_calls::opened_append(
         words,
         index,
         memory,
@@ -562,7 +562,7 @@ pub extern "C" fn ferigulan_opened_make_float(
     ensures { λ r. ⌜ Coded (run (make-float sz bits) (now (words .entry))) r (now (words .exit)) (now (answer .entry)) (now (answer .exit)) ⌝ }
     ensures { λ _. ⌜ OpenStore (now (words .exit)) (now (index .exit)) (now (memory .exit)) ⌝ }
 {
-    codes::opened_append(
+    coded_calls::opened_append(
         words,
         index,
         memory,
@@ -585,7 +585,7 @@ pub extern "C" fn ferigulan_opened_get_tuple(
     ensures { λ r. ⌜ Coded (run (get-tuple (now (types .entry))) (now (words .entry))) r (now (words .exit)) (now (answer .entry)) (now (answer .exit)) ⌝ }
     ensures { λ _. ⌜ OpenStore (now (words .exit)) (now (index .exit)) (now (memory .exit)) ⌝ }
 {
-    codes::opened_append(words, index, memory, Making::GetTuple, &*types, b"", answer)
+    coded_calls::opened_append(words, index, memory, Making::GetTuple, &*types, b"", answer)
 }
 
 #[no_mangle]
@@ -600,7 +600,7 @@ pub extern "C" fn ferigulan_opened_get_str(
     ensures { λ r. ⌜ Coded (run (get-str (now (name .entry))) (now (words .entry))) r (now (words .exit)) (now (answer .entry)) (now (answer .exit)) ⌝ }
     ensures { λ _. ⌜ OpenStore (now (words .exit)) (now (index .exit)) (now (memory .exit)) ⌝ }
 {
-    codes::opened_append(words, index, memory, Making::GetStr, &[], &*name, answer)
+    coded_calls::opened_append(words, index, memory, Making::GetStr, &[], &*name, answer)
 }
 
 #[no_mangle]
@@ -616,7 +616,7 @@ pub extern "C" fn ferigulan_opened_get_struct(
     ensures { λ r. ⌜ Coded (run (get-struct name (now (fields .entry))) (now (words .entry))) r (now (words .exit)) (now (answer .entry)) (now (answer .exit)) ⌝ }
     ensures { λ _. ⌜ OpenStore (now (words .exit)) (now (index .exit)) (now (memory .exit)) ⌝ }
 {
-    codes::opened_append(
+    coded_calls::opened_append(
         words,
         index,
         memory,
@@ -643,7 +643,7 @@ pub extern "C" fn ferigulan_opened_make_ary(
     ensures { λ r. ⌜ Coded (run (make-ary len «len_alias» body «body_alias» (now (text .entry))) (now (words .entry))) r (now (words .exit)) (now (answer .entry)) (now (answer .exit)) ⌝ }
     ensures { λ _. ⌜ OpenStore (now (words .exit)) (now (index .exit)) (now (memory .exit)) ⌝ }
 {
-    codes::opened_append(
+    coded_calls::opened_append(
         words,
         index,
         memory,
@@ -666,7 +666,7 @@ pub extern "C" fn ferigulan_opened_make_struct_fref(
     ensures { λ r. ⌜ Coded (run (make-struct-fref name) (now (words .entry))) r (now (words .exit)) (now (answer .entry)) (now (answer .exit)) ⌝ }
     ensures { λ _. ⌜ OpenStore (now (words .exit)) (now (index .exit)) (now (memory .exit)) ⌝ }
 {
-    codes::opened_append(
+    coded_calls::opened_append(
         words,
         index,
         memory,
@@ -690,7 +690,7 @@ pub extern "C" fn ferigulan_opened_get_mem_ptr(
     ensures { λ r. ⌜ Coded (run (get-mem-ptr to nil) (now (words .entry))) r (now (words .exit)) (now (answer .entry)) (now (answer .exit)) ⌝ }
     ensures { λ _. ⌜ OpenStore (now (words .exit)) (now (index .exit)) (now (memory .exit)) ⌝ }
 {
-    codes::opened_append(
+    coded_calls::opened_append(
         words,
         index,
         memory,
@@ -714,7 +714,7 @@ pub extern "C" fn ferigulan_opened_get_mem(
     ensures { λ r. ⌜ Coded (run (get-mem alias t) (now (words .entry))) r (now (words .exit)) (now (answer .entry)) (now (answer .exit)) ⌝ }
     ensures { λ _. ⌜ OpenStore (now (words .exit)) (now (index .exit)) (now (memory .exit)) ⌝ }
 {
-    codes::opened_append(
+    coded_calls::opened_append(
         words,
         index,
         memory,
@@ -738,7 +738,7 @@ pub extern "C" fn ferigulan_opened_meet(
     ensures { λ r. ⌜ Coded (run (meet a b) (now (words .entry))) r (now (words .exit)) (now (answer .entry)) (now (answer .exit)) ⌝ }
     ensures { λ _. ⌜ OpenStore (now (words .exit)) (now (index .exit)) (now (memory .exit)) ⌝ }
 {
-    codes::opened_append(words, index, memory, Making::Meet(a, b), &[], b"", answer)
+    coded_calls::opened_append(words, index, memory, Making::Meet(a, b), &[], b"", answer)
 }
 
 #[no_mangle]
@@ -754,7 +754,7 @@ pub extern "C" fn ferigulan_opened_isa(
     ensures { λ r. ⌜ Coded (run (isa a b) (now (words .entry))) r (now (words .entry)) (now (answer .entry)) (now (answer .exit)) ⌝ }
     ensures { λ _. ⌜ OpenStore (now (words .entry)) (now (index .entry)) (now (memory .exit)) ⌝ }
 {
-    codes::opened_ask(&*words, &*index, memory, Asking::Isa(a, b), answer)
+    coded_calls::opened_ask(&*words, &*index, memory, Asking::Isa(a, b), answer)
 }
 
 #[no_mangle]
@@ -769,7 +769,7 @@ pub extern "C" fn ferigulan_opened_dual(
     ensures { λ r. ⌜ Coded (run (dual a) (now (words .entry))) r (now (words .exit)) (now (answer .entry)) (now (answer .exit)) ⌝ }
     ensures { λ _. ⌜ OpenStore (now (words .exit)) (now (index .exit)) (now (memory .exit)) ⌝ }
 {
-    codes::opened_append(
+    coded_calls::opened_append(
         words,
         index,
         memory,
@@ -793,7 +793,7 @@ pub extern "C" fn ferigulan_opened_join(
     ensures { λ r. ⌜ Coded (run (join a b) (now (words .entry))) r (now (words .exit)) (now (answer .entry)) (now (answer .exit)) ⌝ }
     ensures { λ _. ⌜ OpenStore (now (words .exit)) (now (index .exit)) (now (memory .exit)) ⌝ }
 {
-    codes::opened_append(words, index, memory, Making::Join(a, b), &[], b"", answer)
+    coded_calls::opened_append(words, index, memory, Making::Join(a, b), &[], b"", answer)
 }
 
 #[no_mangle]
@@ -808,7 +808,7 @@ pub extern "C" fn ferigulan_opened_glb(
     ensures { λ r. ⌜ Coded (run (glb a) (now (words .entry))) r (now (words .exit)) (now (answer .entry)) (now (answer .exit)) ⌝ }
     ensures { λ _. ⌜ OpenStore (now (words .exit)) (now (index .exit)) (now (memory .exit)) ⌝ }
 {
-    codes::opened_append(
+    coded_calls::opened_append(
         words,
         index,
         memory,
@@ -831,7 +831,7 @@ pub extern "C" fn ferigulan_opened_lub(
     ensures { λ r. ⌜ Coded (run (lub a) (now (words .entry))) r (now (words .exit)) (now (answer .entry)) (now (answer .exit)) ⌝ }
     ensures { λ _. ⌜ OpenStore (now (words .exit)) (now (index .exit)) (now (memory .exit)) ⌝ }
 {
-    codes::opened_append(
+    coded_calls::opened_append(
         words,
         index,
         memory,
@@ -854,7 +854,7 @@ pub extern "C" fn ferigulan_opened_is_final(
     ensures { λ r. ⌜ Coded (run (is-final a) (now (words .entry))) r (now (words .entry)) (now (answer .entry)) (now (answer .exit)) ⌝ }
     ensures { λ _. ⌜ OpenStore (now (words .entry)) (now (index .entry)) (now (memory .exit)) ⌝ }
 {
-    codes::opened_ask(&*words, &*index, memory, Asking::IsFinal(a), answer)
+    coded_calls::opened_ask(&*words, &*index, memory, Asking::IsFinal(a), answer)
 }
 
 #[no_mangle]
@@ -869,7 +869,7 @@ pub extern "C" fn ferigulan_opened_make_ro(
     ensures { λ r. ⌜ Coded (run (make-ro a) (now (words .entry))) r (now (words .exit)) (now (answer .entry)) (now (answer .exit)) ⌝ }
     ensures { λ _. ⌜ OpenStore (now (words .exit)) (now (index .exit)) (now (memory .exit)) ⌝ }
 {
-    codes::opened_append(words, index, memory, Making::MakeRo(a), &[], b"", answer)
+    coded_calls::opened_append(words, index, memory, Making::MakeRo(a), &[], b"", answer)
 }
 
 #[no_mangle]
@@ -884,7 +884,7 @@ pub extern "C" fn ferigulan_opened_make_init(
     ensures { λ r. ⌜ Coded (run (make-init a) (now (words .entry))) r (now (words .entry)) (now (answer .entry)) (now (answer .exit)) ⌝ }
     ensures { λ _. ⌜ OpenStore (now (words .entry)) (now (index .entry)) (now (memory .exit)) ⌝ }
 {
-    codes::opened_ask(
+    coded_calls::opened_ask(
         &*words,
         &*index,
         memory,
@@ -905,7 +905,7 @@ pub extern "C" fn ferigulan_opened_make_zero(
     ensures { λ r. ⌜ Coded (run (make-zero a) (now (words .entry))) r (now (words .entry)) (now (answer .entry)) (now (answer .exit)) ⌝ }
     ensures { λ _. ⌜ OpenStore (now (words .entry)) (now (index .entry)) (now (memory .exit)) ⌝ }
 {
-    codes::opened_ask(
+    coded_calls::opened_ask(
         &*words,
         &*index,
         memory,
@@ -926,7 +926,7 @@ pub extern "C" fn ferigulan_opened_non_zero(
     ensures { λ r. ⌜ Coded (run (non-zero a) (now (words .entry))) r (now (words .exit)) (now (answer .entry)) (now (answer .exit)) ⌝ }
     ensures { λ _. ⌜ OpenStore (now (words .exit)) (now (index .exit)) (now (memory .exit)) ⌝ }
 {
-    codes::opened_append(words, index, memory, Making::NonZero(a), &[], b"", answer)
+    coded_calls::opened_append(words, index, memory, Making::NonZero(a), &[], b"", answer)
 }
 
 #[no_mangle]
@@ -941,7 +941,7 @@ pub extern "C" fn ferigulan_opened_is_high(
     ensures { λ r. ⌜ Coded (run (is-high a) (now (words .entry))) r (now (words .entry)) (now (answer .entry)) (now (answer .exit)) ⌝ }
     ensures { λ _. ⌜ OpenStore (now (words .entry)) (now (index .entry)) (now (memory .exit)) ⌝ }
 {
-    codes::opened_ask(
+    coded_calls::opened_ask(
         &*words,
         &*index,
         memory,
@@ -962,7 +962,7 @@ pub extern "C" fn ferigulan_opened_is_high_or_constant(
     ensures { λ r. ⌜ Coded (run (is-high-or-constant a) (now (words .entry))) r (now (words .entry)) (now (answer .entry)) (now (answer .exit)) ⌝ }
     ensures { λ _. ⌜ OpenStore (now (words .entry)) (now (index .entry)) (now (memory .exit)) ⌝ }
 {
-    codes::opened_ask(
+    coded_calls::opened_ask(
         &*words,
         &*index,
         memory,
@@ -983,7 +983,7 @@ pub extern "C" fn ferigulan_opened_is_constant(
     ensures { λ r. ⌜ Coded (run (is-constant a) (now (words .entry))) r (now (words .entry)) (now (answer .entry)) (now (answer .exit)) ⌝ }
     ensures { λ _. ⌜ OpenStore (now (words .entry)) (now (index .entry)) (now (memory .exit)) ⌝ }
 {
-    codes::opened_ask(
+    coded_calls::opened_ask(
         &*words,
         &*index,
         memory,
@@ -1004,7 +1004,7 @@ pub extern "C" fn ferigulan_opened_is_fref(
     ensures { λ r. ⌜ Coded (run (is-fref a) (now (words .entry))) r (now (words .entry)) (now (answer .entry)) (now (answer .exit)) ⌝ }
     ensures { λ _. ⌜ OpenStore (now (words .entry)) (now (index .entry)) (now (memory .exit)) ⌝ }
 {
-    codes::opened_ask(
+    coded_calls::opened_ask(
         &*words,
         &*index,
         memory,
@@ -1025,7 +1025,7 @@ pub extern "C" fn ferigulan_opened_log_size(
     ensures { λ r. ⌜ Coded (run (log-size a) (now (words .entry))) r (now (words .entry)) (now (answer .entry)) (now (answer .exit)) ⌝ }
     ensures { λ _. ⌜ OpenStore (now (words .entry)) (now (index .entry)) (now (memory .exit)) ⌝ }
 {
-    codes::opened_ask(
+    coded_calls::opened_ask(
         &*words,
         &*index,
         memory,
@@ -1046,7 +1046,7 @@ pub extern "C" fn ferigulan_opened_int_min(
     ensures { λ r. ⌜ Coded (run (int-min a) (now (words .entry))) r (now (words .entry)) (now (answer .entry)) (now (answer .exit)) ⌝ }
     ensures { λ _. ⌜ OpenStore (now (words .entry)) (now (index .entry)) (now (memory .exit)) ⌝ }
 {
-    codes::opened_ask(&*words, &*index, memory, Asking::Int(OfInt::Min, a), answer)
+    coded_calls::opened_ask(&*words, &*index, memory, Asking::Int(OfInt::Min, a), answer)
 }
 
 #[no_mangle]
@@ -1061,7 +1061,7 @@ pub extern "C" fn ferigulan_opened_int_max(
     ensures { λ r. ⌜ Coded (run (int-max a) (now (words .entry))) r (now (words .entry)) (now (answer .entry)) (now (answer .exit)) ⌝ }
     ensures { λ _. ⌜ OpenStore (now (words .entry)) (now (index .entry)) (now (memory .exit)) ⌝ }
 {
-    codes::opened_ask(&*words, &*index, memory, Asking::Int(OfInt::Max, a), answer)
+    coded_calls::opened_ask(&*words, &*index, memory, Asking::Int(OfInt::Max, a), answer)
 }
 
 #[no_mangle]
@@ -1077,7 +1077,7 @@ pub extern "C" fn ferigulan_opened_int_value(
     ensures { λ r. ⌜ CodedWhich (run (int-value a) (now (words .entry))) r (now (words .entry)) (now (which .entry)) (now (which .exit)) (now (answer .entry)) (now (answer .exit)) ⌝ }
     ensures { λ _. ⌜ OpenStore (now (words .entry)) (now (index .entry)) (now (memory .exit)) ⌝ }
 {
-    codes::opened_ask_which(
+    coded_calls::opened_ask_which(
         &*words,
         &*index,
         memory,
@@ -1099,7 +1099,7 @@ pub extern "C" fn ferigulan_opened_int_mask(
     ensures { λ r. ⌜ Coded (run (int-mask a) (now (words .entry))) r (now (words .entry)) (now (answer .entry)) (now (answer .exit)) ⌝ }
     ensures { λ _. ⌜ OpenStore (now (words .entry)) (now (index .entry)) (now (memory .exit)) ⌝ }
 {
-    codes::opened_ask(
+    coded_calls::opened_ask(
         &*words,
         &*index,
         memory,
@@ -1120,7 +1120,7 @@ pub extern "C" fn ferigulan_opened_float_sz(
     ensures { λ r. ⌜ Coded (run (float-sz a) (now (words .entry))) r (now (words .entry)) (now (answer .entry)) (now (answer .exit)) ⌝ }
     ensures { λ _. ⌜ OpenStore (now (words .entry)) (now (index .entry)) (now (memory .exit)) ⌝ }
 {
-    codes::opened_ask(
+    coded_calls::opened_ask(
         &*words,
         &*index,
         memory,
@@ -1141,7 +1141,7 @@ pub extern "C" fn ferigulan_opened_float_is_f32(
     ensures { λ r. ⌜ Coded (run (float-is-f32 a) (now (words .entry))) r (now (words .entry)) (now (answer .entry)) (now (answer .exit)) ⌝ }
     ensures { λ _. ⌜ OpenStore (now (words .entry)) (now (index .entry)) (now (memory .exit)) ⌝ }
 {
-    codes::opened_ask(
+    coded_calls::opened_ask(
         &*words,
         &*index,
         memory,
@@ -1163,7 +1163,7 @@ pub extern "C" fn ferigulan_opened_float_value(
     ensures { λ r. ⌜ CodedWhich (run (float-value a) (now (words .entry))) r (now (words .entry)) (now (which .entry)) (now (which .exit)) (now (answer .entry)) (now (answer .exit)) ⌝ }
     ensures { λ _. ⌜ OpenStore (now (words .entry)) (now (index .entry)) (now (memory .exit)) ⌝ }
 {
-    codes::opened_ask_which(
+    coded_calls::opened_ask_which(
         &*words,
         &*index,
         memory,
@@ -1186,7 +1186,7 @@ pub extern "C" fn ferigulan_opened_float_reading(
     ensures { λ r. ⌜ CodedWhich (run (float-reading a) (now (words .entry))) r (now (words .entry)) (now (which .entry)) (now (which .exit)) (now (answer .entry)) (now (answer .exit)) ⌝ }
     ensures { λ _. ⌜ OpenStore (now (words .entry)) (now (index .entry)) (now (memory .exit)) ⌝ }
 {
-    codes::opened_ask_which(
+    coded_calls::opened_ask_which(
         &*words,
         &*index,
         memory,
@@ -1208,7 +1208,7 @@ pub extern "C" fn ferigulan_opened_struct_name(
     ensures { λ r. ⌜ Coded (run (struct-name s) (now (words .entry))) r (now (words .entry)) (now (answer .entry)) (now (answer .exit)) ⌝ }
     ensures { λ _. ⌜ OpenStore (now (words .entry)) (now (index .entry)) (now (memory .exit)) ⌝ }
 {
-    codes::opened_ask(
+    coded_calls::opened_ask(
         &*words,
         &*index,
         memory,
@@ -1231,7 +1231,7 @@ pub extern "C" fn ferigulan_opened_struct_fields(
     ensures { λ _. ⌜ now (output .exit) ≡ structFieldsOutput s (now (words .entry)) (now (output .entry)) ⌝ }
     ensures { λ _. ⌜ OpenStore (now (words .entry)) (now (index .entry)) (now (memory .exit)) ⌝ }
 {
-    codes::opened_fill(&*words, &*index, memory, Filling::Fields, s, output, answer)
+    coded_calls::opened_fill(&*words, &*index, memory, Filling::Fields, s, output, answer)
 }
 
 #[no_mangle]
@@ -1248,7 +1248,7 @@ pub extern "C" fn ferigulan_opened_find(
     ensures { λ r. ⌜ CodedWhich (run (find s name) (now (words .entry))) r (now (words .entry)) (now (which .entry)) (now (which .exit)) (now (answer .entry)) (now (answer .exit)) ⌝ }
     ensures { λ _. ⌜ OpenStore (now (words .entry)) (now (index .entry)) (now (memory .exit)) ⌝ }
 {
-    codes::opened_ask_which(
+    coded_calls::opened_ask_which(
         &*words,
         &*index,
         memory,
@@ -1272,7 +1272,7 @@ pub extern "C" fn ferigulan_opened_find_alias(
     ensures { λ r. ⌜ CodedWhich (run (find-alias s alias) (now (words .entry))) r (now (words .entry)) (now (which .entry)) (now (which .exit)) (now (answer .entry)) (now (answer .exit)) ⌝ }
     ensures { λ _. ⌜ OpenStore (now (words .entry)) (now (index .entry)) (now (memory .exit)) ⌝ }
 {
-    codes::opened_ask_which(
+    coded_calls::opened_ask_which(
         &*words,
         &*index,
         memory,
@@ -1294,7 +1294,7 @@ pub extern "C" fn ferigulan_opened_is_ary(
     ensures { λ r. ⌜ Coded (run (is-ary s) (now (words .entry))) r (now (words .entry)) (now (answer .entry)) (now (answer .exit)) ⌝ }
     ensures { λ _. ⌜ OpenStore (now (words .entry)) (now (index .entry)) (now (memory .exit)) ⌝ }
 {
-    codes::opened_ask(
+    coded_calls::opened_ask(
         &*words,
         &*index,
         memory,
@@ -1316,7 +1316,7 @@ pub extern "C" fn ferigulan_opened_offset(
     ensures { λ r. ⌜ Coded (run (offset s i) (now (words .entry))) r (now (words .entry)) (now (answer .entry)) (now (answer .exit)) ⌝ }
     ensures { λ _. ⌜ OpenStore (now (words .entry)) (now (index .entry)) (now (memory .exit)) ⌝ }
 {
-    codes::opened_ask(
+    coded_calls::opened_ask(
         &*words,
         &*index,
         memory,
@@ -1339,7 +1339,7 @@ pub extern "C" fn ferigulan_opened_offsets(
     ensures { λ _. ⌜ now (output .exit) ≡ offsetsOutput s (now (words .entry)) (now (output .entry)) ⌝ }
     ensures { λ _. ⌜ OpenStore (now (words .entry)) (now (index .entry)) (now (memory .exit)) ⌝ }
 {
-    codes::opened_fill(
+    coded_calls::opened_fill(
         &*words,
         &*index,
         memory,
@@ -1362,7 +1362,7 @@ pub extern "C" fn ferigulan_opened_ary_base(
     ensures { λ r. ⌜ Coded (run (ary-base s) (now (words .entry))) r (now (words .entry)) (now (answer .entry)) (now (answer .exit)) ⌝ }
     ensures { λ _. ⌜ OpenStore (now (words .entry)) (now (index .entry)) (now (memory .exit)) ⌝ }
 {
-    codes::opened_ask(
+    coded_calls::opened_ask(
         &*words,
         &*index,
         memory,
@@ -1383,7 +1383,7 @@ pub extern "C" fn ferigulan_opened_ary_scale(
     ensures { λ r. ⌜ Coded (run (ary-scale s) (now (words .entry))) r (now (words .entry)) (now (answer .entry)) (now (answer .exit)) ⌝ }
     ensures { λ _. ⌜ OpenStore (now (words .entry)) (now (index .entry)) (now (memory .exit)) ⌝ }
 {
-    codes::opened_ask(
+    coded_calls::opened_ask(
         &*words,
         &*index,
         memory,

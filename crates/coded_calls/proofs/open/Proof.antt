@@ -1,8 +1,8 @@
--- `codes::open` meets its contract.
+-- `coded_calls::open` meets its contract.
 use Rattle.codes.proofs.Told.{coded-open, opening}
 use borrow.Author.Needs.{needs}
-use Rattle.codes.proofs.open.Statement.{statement}
-use Rattle.codes.proofs.open.Tie as tie
+use Rattle.coded_calls.proofs.open.Statement.{statement}
+use Rattle.coded_calls.proofs.open.Tie as tie
 
 open-requires : tie.Need-open-requires
 open-requires c κs = search needs

@@ -1,8 +1,8 @@
--- `codes::opened_ask` meets its contract.
+-- `coded_calls::opened_ask` meets its contract.
 use Rattle.codes.proofs.Told.{coded}
 use borrow.Author.Needs.{needs}
-use Rattle.codes.proofs.opened_ask.Statement.{statement}
-use Rattle.codes.proofs.opened_ask.Tie as tie
+use Rattle.coded_calls.proofs.opened_ask.Statement.{statement}
+use Rattle.coded_calls.proofs.opened_ask.Tie as tie
 
 ask-requires : tie.Need-ask-requires
 ask-requires c κs = search needs

@@ -1,8 +1,8 @@
--- `codes::fresh` meets its contract.
+-- `coded_calls::fresh` meets its contract.
 use Rattle.codes.proofs.Told.{coded-done}
 use borrow.Author.Needs.{needs}
-use Rattle.codes.proofs.fresh.Statement.{statement}
-use Rattle.codes.proofs.fresh.Tie as tie
+use Rattle.coded_calls.proofs.fresh.Statement.{statement}
+use Rattle.coded_calls.proofs.fresh.Tie as tie
 
 fresh-requires : tie.Need-fresh-requires
 fresh-requires c κs = search needs

@@ -1,8 +1,8 @@
--- `codes::ask` meets its contract.
+-- `coded_calls::ask` meets its contract.
 use Rattle.codes.proofs.Told.{coded}
 use borrow.Author.Needs.{needs}
-use Rattle.codes.proofs.ask.Statement.{statement}
-use Rattle.codes.proofs.ask.Tie as tie
+use Rattle.coded_calls.proofs.ask.Statement.{statement}
+use Rattle.coded_calls.proofs.ask.Tie as tie
 
 ask-requires : tie.Need-ask-requires
 ask-requires c κs = search needs

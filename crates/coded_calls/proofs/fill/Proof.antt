@@ -1,8 +1,8 @@
--- `codes::fill` meets its contract.
+-- `coded_calls::fill` meets its contract.
 use Rattle.codes.proofs.Told.{coded}
 use borrow.Author.Needs.{needs}
-use Rattle.codes.proofs.fill.Statement.{statement}
-use Rattle.codes.proofs.fill.Tie as tie
+use Rattle.coded_calls.proofs.fill.Statement.{statement}
+use Rattle.coded_calls.proofs.fill.Tie as tie
 
 fill-requires : tie.Need-fill-requires
 fill-requires c κs = search needs
