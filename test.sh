@@ -15,9 +15,5 @@ in_memory() {
     return "$runs"
 }
 if in_memory 2>/dev/null; then TMPDIR=/dev/shm && export TMPDIR; fi
-# Six checks at a time where there is memory for them, else four, also where there are two processors: rt waits for a whole batch, and one that takes longer than the others would
-# leave processors idle. Each takes up to 2.4 GB of memory and half a GB of files: RT_JOBS=2 sh test.sh where there is less than 12 GB.
-jobs=4
-free=$(awk '/^MemAvailable:/ { print $2 }' /proc/meminfo 2>/dev/null)
-if [ "${free:-0}" -ge 18000000 ]; then jobs=6; fi
-RT_JOBS=${RT_JOBS:-$jobs} exec rt ci
+# rt runs as many checks at a time as there are processors, at most four; RT_JOBS=1 sh test.sh where there is little memory, since each takes up to 3.2 GB and half a GB of files.
+exec rt ci

@@ -12,7 +12,8 @@ use Rattle.call.specs.declared.Answer.{Answer}
 use Rattle.call.specs.declared.Answer.the-variants as Answer-variants
 use Rattle.call.specs.declared.Done.{Done}
 use Rattle.call.specs.declared.Done.the-variants as Done-variants
-use Rattle.opened.specs.OpenStore.{Opening, openReply, indexSize}
+use Rattle.store_index.specs.StoreIndex.{indexSize}
+use Rattle.opened.specs.OpenStore.{Opening, openReply}
 use Rattle.codes.specs.Code.{status, answerAfter, whichAfter, CodedDone, Coded, CodedWhich, CodedOpening}
 
 -- ---- from the reply to the outcome

@@ -1,20 +1,20 @@
--- The index of a store over a call: it stays one of the first words, and takes the rest in. Assumes nothing.
+-- The index of a store over a call: it stays one of the first words. Assumes nothing.
 use mathlib.Core.Path.{_≡_, sym, ap, _∙_}
 use mathlib.Core.Bool.{true}
-use mathlib.Core.List.{List, [], _++_, append-nil}
-use Prim.Native.Nat.{ℕ, _+_, _-_, _/_, _≤_, _<_}
+use mathlib.Core.List.{List}
+use Prim.Native.Nat.{ℕ, _+_, _/_, _≤_, _<_}
 use native.Mathlib.Omega.{arith}
-use lib.ListN.{length, take, drop, getD, length-drop, drop-of-length-le}
-use lib.Seq.{length-take-le, length-front, take-at, drop-at, take-length, getD-take, getD-drop, ext-getD, take-take}
-use borrow.Rule.Slice.PartMut.{putMid, same-len-mid}
+use lib.ListN.{length, take, drop, getD, length-drop}
+use lib.Seq.{length-take-le, getD-take, getD-drop, ext-getD, take-take}
 use Rattle.words.specs.Table.{rows, entries, starts}
 use Rattle.bitset.specs.Bitset.{bitAt}
 use Rattle.wellformed.specs.Form.{wellFormed, usedWords}
 use Rattle.wellformed.proofs.Before.{tests}
-use Rattle.index.specs.Covers.{indexedTo, Covers, Blank, Opened}
+use Rattle.index.specs.Covers.{indexedTo, Covers}
 use Rattle.later.specs.Later.{Later}
-use Rattle.opened.specs.OpenStore.{marksSize, indexSize, chainsOf, IndexOf}
-use Rattle.opened.specs.Steps.{Stale}
+use Rattle.store_index.specs.StoreIndex.{marksSize, chainsOf, IndexOf}
+use Rattle.store_index.specs.Steps.{Stale}
+use Rattle.store_index.proofs.Index.{used-long}
 
 -- ---- later words: the first ones are the same, but for word 0
 
@@ -47,97 +47,23 @@ covers-later u v index x c =
 
 -- ---- the index of a store
 
-module _ (ws index : List ℕ) (ok : wellFormed ws ≡ true) where
-  pub used-long : length (usedWords ws) ≡ getD ws 0 0
-  used-long = length-take-le (getD ws 0 0) ws (tests ws ok .within)
+module _ (ws index : List ℕ) (ok : wellFormed ws ≡ true) (x : IndexOf ws index) where
+  pub chains-long : length (usedWords ws) ≤ length (chainsOf ws index) / 2
+  chains-long = omega (arith, used-long ws ok, tests ws ok .within, x .room, length-drop (marksSize (length ws)) index)
 
-  module _ (x : IndexOf ws index) where
-    pub chains-long : length (usedWords ws) ≤ length (chainsOf ws index) / 2
-    chains-long = omega (arith, used-long, tests ws ok .within, x .room, length-drop (marksSize (length ws)) index)
+  pub all-in : indexedTo (chainsOf ws index) ≡ length (usedWords ws)
+  all-in = x .chains .all chains-long
 
-    pub all-in : indexedTo (chainsOf ws index) ≡ length (usedWords ws)
-    all-in = x .chains .all chains-long
-
-    -- a later store of the same length
-    pub stale : (vs : List ℕ) → length vs ≡ length ws → Later (usedWords ws) (usedWords vs) → wellFormed vs ≡ true → Stale vs index
-    stale vs same l well =
-        let u = usedWords ws in
-        let n = length u in
-        let e : take n (usedWords vs) ≡ take n vs = take-take n (getD vs 0 0) vs (omega (arith, l .long, length-take-le (getD vs 0 0) vs (tests vs well .within))) in
-        let f : take n u ≡ u = take-take n (getD ws 0 0) ws (omega (arith, used-long)) ∙ ap (λ (k : ℕ). take k ws) used-long in
-        let g : entries (take n vs) ≡ entries u = ap entries (sym e) ∙ entries-same l n (omega arith) ∙ ap entries f in
-        record {
-          room = rw same (x .room);
-          covers = rw same (covers-later u (usedWords vs) (chainsOf ws index) l (x .chains .covers));
-          marks = rw (same, all-in, g) (x .marks);
-        }
-
--- ---- the two parts of the index, lent one after the other
-
-pub tail-all : (k : ℕ) (l : List ℕ) → take (length l - k) (drop k l) ≡ drop k l
-tail-all k l = ap (λ (n : ℕ). take n (drop k l)) (sym (length-drop k l)) ∙ take-length (drop k l)
-
--- nothing was appended
-pub none-new : (ws index : List ℕ) → wellFormed ws ≡ true → Stale ws index → (k : ℕ) → k ≡ marksSize (length ws) → (from : ℕ) → from ≡ indexedTo (take (length index - k) (drop k index)) → from ≡ getD ws 0 0 → IndexOf ws index
-none-new ws index ok s k is from covered all =
-    let q : indexedTo (drop k index) ≡ getD ws 0 0 = ap indexedTo (sym (tail-all k index)) ∙ sym covered ∙ all in
-    let e : indexedTo (chainsOf ws index) ≡ getD ws 0 0 = rw is at q in
-    record {
-      room = s .room;
-      marks = s .marks ∙ ap (λ (n : ℕ). starts (take n ws)) e;
-      chains = record { covers = s .covers; all = λ fits. e ∙ sym (used-long ws index ok) };
-    }
-
-module _ (ws index : List ℕ) (k : ℕ) (is : k ≡ marksSize (length ws)) (room : indexSize (length ws) ≤ length index) where
-  pub k-fits : k ≤ length index
-  k-fits = omega (arith, is, room)
-
-  pub marks-long : k ≡ length (take k index)
-  marks-long = sym (length-take-le k index k-fits)
-
-  -- the marks came back
-  module _ (bits : List ℕ) (same : length bits ≡ length (take k index)) where
-    abbrev two : List ℕ
-    two = bits ++ drop k index
-
-    bits-long : length bits ≡ k
-    bits-long = same ∙ length-take-le k index k-fits
-
-    pub two-long : length two ≡ length index
-    two-long = length-front index bits k same
-
-    pub two-marks : take k two ≡ bits
-    two-marks = take-at bits (drop k index) k bits-long
-
-    pub two-chains : take (length two - k) (drop k two) ≡ drop k index
-    two-chains = tail-all k two ∙ drop-at bits (drop k index) k bits-long
-
-    -- and then the chains
-    module _ (chains : List ℕ) (long : length chains ≡ length (take (length two - k) (drop k two))) where
-      abbrev three : List ℕ
-      three = putMid k (length two - k) two chains
-
-      pub three-room : indexSize (length ws) ≤ length three
-      three-room = omega (arith, same-len-mid k (length two - k) two chains long, two-long, room)
-
-      three-front-long : length (take k two) ≡ k
-      three-front-long = length-take-le k two (omega (arith, two-long, k-fits))
-
-      pub three-marks : take k three ≡ bits
-      three-marks = take-at (take k two) (chains ++ drop (length two - k) (drop k two)) k three-front-long ∙ two-marks
-
-      pub three-chains : drop k three ≡ chains
-      three-chains =
-          let none : drop (length two - k) (drop k two) ≡ [] = drop-of-length-le (drop k two) {i = length two - k} (omega (arith, length-drop k two)) in
-          drop-at (take k two) (chains ++ drop (length two - k) (drop k two)) k three-front-long ∙ rw none (append-nil chains)
-
-      pub three-index : bitAt bits ≡ starts (usedWords ws) → Opened (usedWords ws) chains → IndexOf ws three
-      three-index marks opened = record { room = three-room; marks = rw (sym is, three-marks) marks; chains = rw (sym is, three-chains) opened }
-
-      -- no entry is in it yet
-      pub three-blank : 1 ≤ length (usedWords ws) → bitAt bits ≡ starts (take 1 ws) → Blank chains → Stale ws three
-      three-blank some marks blank = record {
-        room = three-room;
-        covers = rw (sym is, three-chains) (blank .covers (usedWords ws) some);
-        marks = rw (sym is, three-marks, three-chains, blank .none) marks;
+  -- a later store of the same length
+  pub stale : (vs : List ℕ) → length vs ≡ length ws → Later (usedWords ws) (usedWords vs) → wellFormed vs ≡ true → Stale vs index
+  stale vs same l well =
+      let u = usedWords ws in
+      let n = length u in
+      let e : take n (usedWords vs) ≡ take n vs = take-take n (getD vs 0 0) vs (omega (arith, l .long, length-take-le (getD vs 0 0) vs (tests vs well .within))) in
+      let f : take n u ≡ u = take-take n (getD ws 0 0) ws (omega (arith, used-long ws ok)) ∙ ap (λ (k : ℕ). take k ws) (used-long ws ok) in
+      let g : entries (take n vs) ≡ entries u = ap entries (sym e) ∙ entries-same l n (omega arith) ∙ ap entries f in
+      record {
+        room = rw same (x .room);
+        covers = rw same (covers-later u (usedWords vs) (chainsOf ws index) l (x .chains .covers));
+        marks = rw (same, all-in, g) (x .marks);
       }

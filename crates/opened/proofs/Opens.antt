@@ -15,10 +15,12 @@ use Rattle.index.specs.Covers.{Blank}
 use Rattle.call.specs.declared.Done.the-variants.{Accepted, Refused}
 use Rattle.call.specs.Call.{done}
 use Rattle.lent_memory.proofs.Laws.{right-blank}
-use Rattle.opened.specs.OpenStore.{marksSize, indexSize, IndexOf, openReply, Opening}
-use Rattle.opened.specs.Steps.{Stale}
-use Rattle.opened.proofs.Index.{three-blank}
-use Rattle.opened.proofs.Store.{used-within, no-starts}
+use Rattle.store_index.specs.StoreIndex.{marksSize, indexSize, IndexOf}
+use Rattle.store_index.specs.Steps.{Stale}
+use Rattle.store_index.proofs.Index.{three-blank}
+use Rattle.store_index.proofs.Store.{used-within}
+use Rattle.opened.specs.OpenStore.{openReply, Opening}
+use Rattle.opened.proofs.Store.{no-starts}
 
 no-accept : (n : ℕ) → Refused n ≡ Accepted → ⊥
 no-accept n q = let z : _≡_ {A = ℕ} 0 1 = cc in omega arith

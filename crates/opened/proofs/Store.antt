@@ -1,49 +1,27 @@
 -- What an opened store gives its calls, and what they leave. Assumes nothing.
-use mathlib.Core.Path.{_≡_, refl, ap, _∙_}
+use mathlib.Core.Path.{_≡_, refl}
 use mathlib.Core.Bool.{true}
-use mathlib.Core.List.{List, [], _∷_, _++_}
-use Prim.Native.Nat.{ℕ, _+_, _*_, _-_, _≤_, _<_}
-use native.Mathlib.Omega.{arith}
+use mathlib.Core.List.{List, [], _∷_}
+use Prim.Native.Nat.{ℕ, _-_}
 use lib.ListN.{length, take, drop, getD}
-use lib.Seq.{length-take-le, take-take}
-use Rattle.words.specs.Words.{fills}
 use Rattle.words.specs.Table.{rows, entries, isAt, starts}
-use Rattle.bitset.specs.Bitset.{bitAt, nowhere}
-use Rattle.wellformed.specs.Form.{wellFormed, usedWords}
+use Rattle.bitset.specs.Bitset.{nowhere}
+use Rattle.wellformed.specs.Form.{wellFormed}
 use Rattle.wellformed.proofs.Before.{tests}
-use Rattle.index.specs.Covers.{indexedTo, Covers}
+use Rattle.index.specs.Covers.{Covers}
 use Rattle.call.specs.Call.{Reply, left}
-use Rattle.call.specs.Steps.{usedOf, Marked}
+use Rattle.call.specs.Steps.{Marked}
 use Rattle.call.specs.Keep.{Keeps}
-use Rattle.call.proofs.Keep.{well-sound}
 use Rattle.later.proofs.Keeps.{later-keeps}
 use Rattle.every_call.specs.Run.{Call, run, typed}
 use Rattle.every_call.proofs.Keeps.{run-keeps}
-use Rattle.opened.specs.OpenStore.{marksSize, chainsOf, IndexOf, OpenStore}
-use Rattle.opened.specs.Steps.{Stale}
-use Rattle.opened.proofs.Index.{tail-all, two-chains, stale}
+use Rattle.store_index.specs.StoreIndex.{marksSize, IndexOf}
+use Rattle.store_index.specs.Steps.{Stale}
+use Rattle.store_index.proofs.Index.{tail-all}
+use Rattle.opened.specs.OpenStore.{OpenStore}
+use Rattle.opened.proofs.Index.{stale}
 
 -- ---- what is known of an opened store
-
-module _ (ws : List ℕ) (ok : wellFormed ws ≡ true) where
-  pub first-word : 0 < length ws
-  first-word = omega (arith, tests ws ok .least)
-
-  pub few-words : length ws ≤ 1048576
-  few-words = tests ws ok .most
-
-  pub used-is : getD ws 0 0 ≡ usedOf ws
-  unfolding usedOf
-  used-is = rw ok
-
-  pub used-some : getD ws 0 0 ≡ 0 → ⊥
-  used-some z = omega (arith, tests ws ok .enough)
-
-  pub used-low : 1 ≤ getD ws 0 0
-  used-low = omega (arith, tests ws ok .enough)
-
-  pub used-within : getD ws 0 0 ≤ length ws
-  used-within = tests ws ok .within
 
 module _ {ws index memory : List ℕ} (o : OpenStore ws index memory) (k : ℕ) (is : k ≡ marksSize (length ws)) where
   pub marked-rows : Marked ws (take k index) (getD ws 0 0)
@@ -51,36 +29,6 @@ module _ {ws index memory : List ℕ} (o : OpenStore ws index memory) (k : ℕ) 
 
   pub lent-covers : Covers (take (getD ws 0 0) ws) (take (length index - k) (drop k index))
   lent-covers = rw (tail-all k index, is) (o .whole .chains .covers)
-
--- ---- what `extend` and `open` require of their parts
-
-module _ (ws : List ℕ) (ok : wellFormed ws ≡ true) where
-  pub used-fills : fills 0 (drop 1 (take (getD ws 0 0) ws)) ≡ true
-  used-fills = well-sound ws ok .full
-
-  module _ (index : List ℕ) (s : Stale ws index) (k : ℕ) (is : k ≡ marksSize (length ws)) where
-    chains-are : take (length index - k) (drop k index) ≡ chainsOf ws index
-    chains-are = tail-all k index ∙ ap (λ (n : ℕ). drop n index) is
-
-    abbrev Ready : ℕ → Type 0
-    Ready from = ((from ≤ getD ws 0 0) × (getD ws 0 0 ≤ length ws) × (getD ws 0 0 < 64 * length (take k index)))
-        × ((fills 0 (drop 1 (take from ws)) ≡ true) × (1 ≤ from) × (fills 0 (drop 1 (take (getD ws 0 0) ws)) ≡ true) × (bitAt (take k index) ≡ starts (take from ws)))
-
-    pub mark-ready : (from : ℕ) → from ≡ indexedTo (take (length index - k) (drop k index)) → Ready from
-    mark-ready from e =
-        let c = s .covers in
-        let n = length-take-le (getD ws 0 0) ws (tests ws ok .within) in
-        let f : from ≡ indexedTo (chainsOf ws index) = e ∙ ap indexedTo chains-are in
-        let h : from ≤ getD ws 0 0 = omega (arith, f, c .high, n) in
-        let t : length (take k index) ≡ k = length-take-le k index (omega (arith, is, s .room)) in
-        let p : take from (usedWords ws) ≡ take from ws = take-take from (getD ws 0 0) ws h in
-        let q : take (indexedTo (chainsOf ws index)) (usedWords ws) ≡ take from ws = rw (← f) p in (
-          (h, tests ws ok .within, omega (arith, t, is, tests ws ok .within)),
-          (rw q at (c .cut), omega (arith, f, c .low), used-fills, rw (is, f) (s .marks)),
-        )
-
-    pub extend-covers : (bits : List ℕ) → length bits ≡ length (take k index) → Covers (usedWords ws) (take (length (bits ++ drop k index) - k) (drop k (bits ++ drop k index)))
-    extend-covers bits same = rw (two-chains ws index k is (s .room) bits same, is) (s .covers)
 
 -- no entry starts in word 0
 pub no-starts : (ws : List ℕ) → nowhere ≡ starts (take 1 ws)

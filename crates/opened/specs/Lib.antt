@@ -1,2 +1,1 @@
 pub mod OpenStore
-pub mod Steps

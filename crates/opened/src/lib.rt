@@ -9,59 +9,13 @@ use making::Making;
 use struct_calls::Filling;
 use struct_calls::OfStruct;
 ghost use mathlib.Core.Path.{_≡_};
-ghost use mathlib.Core.Bool.{true};
 ghost use mathlib.Core.List.{[]};
-ghost use Prim.Native.Nat.{_*_, _≤_, _<_};
-ghost use lib.ListN.{length, take, drop};
-ghost use Rattle.words.specs.Words.{fills};
-ghost use Rattle.words.specs.Table.{starts};
-ghost use Rattle.bitset.specs.Bitset.{bitAt, wordBits};
-ghost use Rattle.wellformed.specs.Form.{wellFormed, longestAllowed};
+ghost use lib.ListN.{length};
 ghost use Rattle.call.specs.Call.{left, made, told, done};
 ghost use Rattle.every_call.specs.Run.{run};
 ghost use Rattle.making.specs.Making.{appended};
 ghost use Rattle.asking.specs.Asking.{askedFilling, asked, outputOf};
-ghost use Rattle.opened.specs.OpenStore.{marksSize, IndexOf, OpenStore, openReply, Opening};
-ghost use Rattle.opened.specs.Steps.{Stale};
-
-// ---- the index
-
-// How many words of an index mark the entries of a list of n words.
-fn marks_size(n: usize) -> usize
-    requires { ⌜ n ≤ longestAllowed ⌝ }
-    ensures { λ r. ⌜ (r ≡ marksSize n) × (r ≤ marksSize longestAllowed) ⌝ }
-{
-    n / bitset::WORD_BITS + 1
-}
-
-// Marks the entries from `from` on.
-fn mark_from(words: &[u64], from: usize, used: usize, bits: &mut [u64])
-    requires { ⌜ (from ≤ used) × (used ≤ length (now words)) × (used < wordBits * length (now bits)) ⌝ }
-    requires { ⌜ (fills 0 (drop 1 (take from (now words))) ≡ true) × (1 ≤ from) × (fills 0 (drop 1 (take used (now words))) ≡ true) × (bitAt (now bits) ≡ starts (take from (now words))) ⌝ }
-    ensures { λ _. ⌜ bitAt (now (bits .exit)) ≡ starts (take used (now (words .entry))) ⌝ }
-{
-    let mut at = from;
-    while at < used {
-        bitset::mark(bits, at);
-        at += words::size(words[at]);
-    }
-}
-
-// Takes the entries that are not in the index yet into it, if there are any.
-fn extend(words: &[u64], index: &mut [u64])
-    requires { ⌜ wellFormed (now words) ≡ true ⌝ }
-    requires { ⌜ Stale (now words) (now index) ⌝ }
-    ensures { λ _. ⌜ IndexOf (now (words .entry)) (now (index .exit)) ⌝ }
-{
-    let used = words[0] as usize;
-    let k = marks_size(words.len());
-    let from = index::covered(&index[k..]);
-    if from == used {
-        return;
-    }
-    mark_from(&*words, from, used, &mut index[..k]);
-    index::extend(&*words, used, &mut index[k..]);
-}
+ghost use Rattle.opened.specs.OpenStore.{OpenStore, openReply, Opening};
 
 // ---- opening
 
@@ -74,14 +28,14 @@ pub fn open(words: &[u64], index: &mut [u64], memory: &mut [u64]) -> Done
         return Done::Refused(1);
     }
     let n = words.len();
-    let k = marks_size(n);
+    let k = store_index::marks_size(n);
     // behind the bits the two halves of the chains, a word for each word of the list
     if index.len() < k + 2 * n {
         return Done::Refused(11);
     }
     bitset::clear(&mut index[..k]);
     index::blank(&mut index[k..]);
-    extend(&*words, index);
+    store_index::extend(&*words, index);
     words::clear(memory);
     Done::Accepted
 }
@@ -102,7 +56,7 @@ pub fn append(
     ensures { λ _. ⌜ OpenStore (now (words .exit)) (now (index .exit)) (now (memory .exit)) ⌝ }
 {
     let used = words[0] as usize;
-    let k = marks_size(words.len());
+    let k = store_index::marks_size(words.len());
     let no = making::rows_of(words, used, &index[..k], making, &*list, &*text);
     if no != 0 {
         return Made::Refused(no);
@@ -118,7 +72,7 @@ pub fn append(
         memory,
         &index[k..],
     );
-    extend(words, index);
+    store_index::extend(words, index);
     r
 }
 
@@ -138,7 +92,7 @@ pub fn ask(words: &[u64], index: &[u64], memory: &mut [u64], asking: Asking) -> 
     ensures { λ _. ⌜ OpenStore (now (words .entry)) (now (index .entry)) (now (memory .exit)) ⌝ }
 {
     let used = words[0] as usize;
-    let k = marks_size(words.len());
+    let k = store_index::marks_size(words.len());
     let no = asking::rows_of(&*words, used, &index[..k], asking);
     if no != 0 {
         return Answer::Refused(no);

@@ -3,8 +3,9 @@ use mathlib.Core.Path.{sym, _∙_}
 use Rattle.call.proofs.Ways.{turned}
 use Rattle.making.specs.Making.{appended}
 use Rattle.making.proofs.As.{appended-is}
-use Rattle.opened.proofs.Index.{marks-long}
-use Rattle.opened.proofs.Store.{first-word, few-words, used-is, used-some, marked-rows, lent-covers, after-well, after-stale}
+use Rattle.store_index.proofs.Index.{marks-long}
+use Rattle.store_index.proofs.Store.{first-word, few-words, used-is, used-some}
+use Rattle.opened.proofs.Store.{marked-rows, lent-covers, after-well, after-stale}
 use borrow.Author.Needs.{needs}
 use Rattle.opened.proofs.append.Statement.{statement}
 use Rattle.opened.proofs.append.Tie as tie

@@ -3,8 +3,9 @@ use mathlib.Core.Path.{sym, _∙_}
 use Rattle.call.proofs.Ways.{begun, read-back, answered}
 use Rattle.every_call.proofs.Cleared.{whole}
 use Rattle.asking.proofs.As.{asked-is}
-use Rattle.opened.proofs.Index.{marks-long}
-use Rattle.opened.proofs.Store.{first-word, few-words, used-is, used-some, marked-rows, lent-covers}
+use Rattle.store_index.proofs.Index.{marks-long}
+use Rattle.store_index.proofs.Store.{first-word, few-words, used-is, used-some}
+use Rattle.opened.proofs.Store.{marked-rows, lent-covers}
 use borrow.Author.Needs.{needs}
 use Rattle.opened.proofs.ask.Statement.{statement}
 use Rattle.opened.proofs.ask.Tie as tie

@@ -1,7 +1,7 @@
 -- `opened::open` meets its contract.
 use mathlib.Core.List.{[]}
-use Rattle.opened.proofs.Index.{marks-long}
-use Rattle.opened.proofs.Store.{few-words}
+use Rattle.store_index.proofs.Index.{marks-long}
+use Rattle.store_index.proofs.Store.{few-words}
 use Rattle.opened.proofs.Opens.{no-store, too-short, good-store, enough, begin-index, opened-store}
 use borrow.Author.Needs.{needs}
 use Rattle.opened.proofs.open.Statement.{statement}

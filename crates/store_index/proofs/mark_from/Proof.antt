@@ -1,14 +1,14 @@
--- `opened::mark_from` meets its contract.
+-- `store_index::mark_from` meets its contract.
 use mathlib.Core.Path.{_≡_, refl}
 use Prim.Native.Nat.{_-_}
 use native.Mathlib.Omega.{arith}
 use denote.Ref.{now}
 use lib.ListN.{length, getD}
 use Rattle.words.proofs.Walk.{size-pos}
-use Rattle.opened.proofs.Marks.{Marked, mark-first, mark-all, mark-inside, mark-more}
+use Rattle.store_index.proofs.Marks.{Marked, mark-first, mark-all, mark-inside, mark-more}
 use borrow.Author.Needs.{needs}
-use Rattle.opened.proofs.mark_from.Statement.{statement}
-use Rattle.opened.proofs.mark_from.Tie as tie
+use Rattle.store_index.proofs.mark_from.Statement.{statement}
+use Rattle.store_index.proofs.mark_from.Tie as tie
 
 abbrev Inv-loop : tie.InvT-loop
 Inv-loop words from used bits₀ at₀ bits at = (length bits ≡ length bits₀) × Marked words used bits at

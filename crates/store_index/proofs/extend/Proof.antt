@@ -1,9 +1,9 @@
--- `opened::extend` meets its contract.
-use Rattle.opened.proofs.Index.{marks-long, none-new, three-index}
-use Rattle.opened.proofs.Store.{first-word, few-words, used-within, used-fills, mark-ready, extend-covers}
+-- `store_index::extend` meets its contract.
+use Rattle.store_index.proofs.Index.{marks-long, none-new, three-index}
+use Rattle.store_index.proofs.Store.{first-word, few-words, used-within, used-fills, mark-ready, extend-covers}
 use borrow.Author.Needs.{needs}
-use Rattle.opened.proofs.extend.Statement.{statement}
-use Rattle.opened.proofs.extend.Tie as tie
+use Rattle.store_index.proofs.extend.Statement.{statement}
+use Rattle.store_index.proofs.extend.Tie as tie
 
 shared-slice-read-used : tie.Need-shared-slice-read-used
 shared-slice-read-used c = first-word _ (c .before .before .before .pre .0)

@@ -7,7 +7,7 @@ use Rattle.words.specs.Table.{starts}
 use Rattle.bitset.specs.Bitset.{bitAt}
 use Rattle.wellformed.specs.Form.{usedWords}
 use Rattle.index.specs.Covers.{indexedTo, Covers}
-use Rattle.opened.specs.OpenStore.{indexSize, marksOf, chainsOf}
+use Rattle.store_index.specs.StoreIndex.{indexSize, marksOf, chainsOf}
 
 -- an index of the first words of a store, before the entries of the last call are taken into it
 pub record Stale (ws index : List ℕ) : Type 0 where

@@ -1,0 +1,2 @@
+pub mod StoreIndex
+pub mod Steps
