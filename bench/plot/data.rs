@@ -1,4 +1,5 @@
 // The figures of the file that the part `growth` writes.
+use crate::grouped::grouped;
 use std::collections::HashMap;
 
 pub struct Data {
@@ -114,15 +115,7 @@ fn row(line: &str) -> Option<Row> {
 
 // A number with commas.
 pub fn whole(n: usize) -> String {
-    let digits = n.to_string();
-    let mut text = String::new();
-    for (i, digit) in digits.chars().enumerate() {
-        if i > 0 && (digits.len() - i) % 3 == 0 {
-            text.push(',');
-        }
-        text.push(digit);
-    }
-    text
+    grouped(n as u64)
 }
 
 // Three digits, or all of those before the point.

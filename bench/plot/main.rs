@@ -1,6 +1,8 @@
 // plot FIGURES FOLDER: makes the drawings bench-*.svg of a folder, and the tables of its BENCHMARKS.md, from the figures of the part `growth`.
 mod data;
 mod drawings;
+#[path = "../../oracle/src/linked/grouped.rs"]
+mod grouped;
 mod panel;
 mod sentences;
 mod svg;

@@ -1,5 +1,6 @@
 //! The figures of a run: everything that is to be written down about it.
 
+use super::grouped::grouped;
 use super::trial::By;
 use crate::script::Call;
 use crate::session::Answer;
@@ -122,17 +123,4 @@ impl Tally {
             first = last.saturating_add(1);
         }
     }
-}
-
-/// A number with commas between its thousands.
-pub fn grouped(n: u64) -> String {
-    let digits = n.to_string();
-    let mut text = String::new();
-    for (i, digit) in digits.chars().enumerate() {
-        if i > 0 && (digits.len() - i) % 3 == 0 {
-            text.push(',');
-        }
-        text.push(digit);
-    }
-    text
 }
