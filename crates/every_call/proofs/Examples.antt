@@ -1,14 +1,20 @@
--- non_zero on the fresh store, computed: 0..0 and 0..1 become 1..1, a pointer "void", Top Bot, and a high Int stays; and -4..0, behind the fresh words, becomes -4..-1, which is appended. Assumes nothing.
+-- Computed on the fresh store. non_zero: 0..0 and 0..1 become 1..1, a pointer "void", Top Bot, and a high Int stays; and -4..0, behind the fresh words, becomes -4..-1, which is appended. The merge of a list, from Top, with what it appends on the way, and its rows. Assumes nothing.
 use mathlib.Core.Path.{_≡_, refl}
-use mathlib.Core.List.{List, _∷_, _++_}
+use mathlib.Core.List.{List, [], _∷_, _++_}
 use Prim.Native.Nat.{ℕ, _-_, _^_}
+use lib.ListN.{replicate}
 use Rattle.words.specs.Words.{wordsAfter, sizeOf, eqs}
-use Rattle.words.specs.Table.{rows, entries, firstOf, findIn}
+use Rattle.words.specs.Table.{rows, entries, firstOf, findIn, isAt}
 use Rattle.words.specs.Made.{there, make}
+use Rattle.wellformed.specs.Entry.{all}
 use Rattle.wellformed.specs.Fresh.{freshWords}
+use Rattle.call.specs.Handles.{typesRows}
 use Rattle.makers.specs.Entries.{intEntry}
+use Rattle.meet_rules.specs.Rules.{pairRule, ruleFor}
+use Rattle.meet.specs.Meet.{follow, meetWithin}
 use Rattle.walk_rules.specs.Tables.{formFor}
 use Rattle.walk.specs.Walk.{followForm, walkWithin}
+use Rattle.every_call.specs.MeetList.{mergeFrom, meetListOf, meetListRows}
 use Rattle.every_call.specs.NonZero.{nonZeroOf}
 
 abbrev fresh : List ℕ
@@ -30,3 +36,21 @@ non-zero-below = refl
 pub non-zero-others : (nonZeroOf fresh 12 ≡ there fresh 12) × (nonZeroOf fresh 31 ≡ there fresh 31) × (nonZeroOf fresh 55 ≡ there fresh 61) × (nonZeroOf fresh 7 ≡ there fresh 7)
 unfolding nonZeroOf walkWithin followForm formFor make findIn entries rows firstOf eqs sizeOf wordsAfter freshWords
 non-zero-others = (refl, refl, refl, refl)
+
+-- no handle, one, two, and three, of which the answer 0..2 is new; the other way round 1..2 comes in between
+pub merges : (meetListOf [] fresh ≡ there fresh 6) × (meetListOf (9 ∷ []) fresh ≡ there fresh 9) × (meetListOf (9 ∷ 12 ∷ []) fresh ≡ there fresh 15) × (meetListOf (6 ∷ 6 ∷ 9 ∷ 6 ∷ []) fresh ≡ there fresh 9) × (meetListOf (7 ∷ 8 ∷ 7 ∷ []) fresh ≡ there fresh 7)
+unfolding mergeFrom meetWithin follow ruleFor pairRule make findIn entries rows firstOf eqs sizeOf wordsAfter freshWords
+merges = (refl, refl, refl, refl, refl)
+
+pub merge-new : meetListOf (9 ∷ 12 ∷ 28 ∷ []) fresh ≡ record { words = fresh ++ intEntry 0 2; handle = 94 }
+unfolding mergeFrom meetWithin follow ruleFor pairRule make findIn entries rows firstOf eqs sizeOf wordsAfter freshWords
+merge-new = refl
+
+pub merge-between : meetListOf (28 ∷ 12 ∷ 9 ∷ []) fresh ≡ record { words = (fresh ++ intEntry 1 2) ++ intEntry 0 2; handle = 97 }
+unfolding mergeFrom meetWithin follow ruleFor pairRule make findIn entries rows firstOf eqs sizeOf wordsAfter freshWords
+merge-between = refl
+
+-- 13 before 2, 2 before 3, and a handle that a merge before it would make is no handle yet
+pub merge-rows : (meetListRows (replicate 4097 2) fresh ≡ 13) × (meetListRows (replicate 4096 2) fresh ≡ 2) × (meetListRows (replicate 4096 9) fresh ≡ 0) × (meetListRows (9 ∷ 1 ∷ 2 ∷ []) fresh ≡ 2) × (meetListRows (9 ∷ 1 ∷ []) fresh ≡ 3) × (meetListRows (9 ∷ 28 ∷ 94 ∷ []) fresh ≡ 2)
+unfolding meetListRows typesRows all isAt entries rows sizeOf wordsAfter freshWords
+merge-rows = (refl, refl, refl, refl, refl, refl)

@@ -31,8 +31,9 @@ use Rattle.finals.specs.Final.{isFinalOf}
 use Rattle.make_ro.specs.ReadOnly.{makeRoOf}
 use Rattle.make_ro.proofs.Nice.{make-ro-nice}
 use Rattle.every_call.specs.Ty.{meetCall, isaCall, walkCall, joinCall, isFinalCall, makeRoCall}
-use Rattle.every_call.specs.Run.{Call, kind, get-bool, get-int, make-int, get-float, make-float, get-tuple, get-str, get-struct, make-ary, make-struct-fref, get-mem-ptr, get-mem, meet, isa, join, dual, glb, lub, is-final, make-ro, make-init, make-zero, non-zero, is-high, is-high-or-constant, is-constant, is-fref, log-size, int-min, int-max, int-value, int-mask, float-sz, float-is-f32, float-value, float-reading, struct-name, struct-fields, find, find-alias, is-ary, offset, offsets, ary-base, ary-scale, run, typed}
+use Rattle.every_call.specs.Run.{Call, kind, get-bool, get-int, make-int, get-float, make-float, get-tuple, get-str, get-struct, make-ary, make-struct-fref, get-mem-ptr, get-mem, meet, meet-list, isa, join, dual, glb, lub, is-final, make-ro, make-init, make-zero, non-zero, is-high, is-high-or-constant, is-constant, is-fref, log-size, int-min, int-max, int-value, int-mask, float-sz, float-is-f32, float-value, float-reading, struct-name, struct-fields, find, find-alias, is-ary, offset, offsets, ary-base, ary-scale, run, typed}
 use Rattle.every_call.proofs.Parts.{one-part, two-parts}
+use Rattle.every_call.proofs.MeetList.{meet-list-keeps}
 use Rattle.every_call.proofs.NonZero.{non-zero-keeps}
 
 -- the meet of two types of good used words adds entries, and its answer is a type at most 32 deep, new where anything was added
@@ -95,6 +96,7 @@ run-keeps (make-struct-fref name) k = fref-keeps name
 run-keeps (get-mem-ptr to nil) k = pointer-keeps to nil
 run-keeps (get-mem alias t) k = memory-keeps alias t
 run-keeps (meet a b) k = meet-keeps _ _
+run-keeps (meet-list types) k = meet-list-keeps types
 run-keeps (isa a b) k = isa-keeps a b
 run-keeps (join a b) k = join-keeps a b
 run-keeps (dual a) k = walk-keeps Dual a

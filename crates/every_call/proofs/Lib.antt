@@ -1,4 +1,5 @@
 pub mod Parts
+pub mod MeetList
 pub mod Keeps
 pub mod Cleared
 pub mod NonZero

@@ -8,6 +8,7 @@ use Rattle.wellformed.specs.Entry.{all}
 use Rattle.call.specs.Call.{Outcome}
 use Rattle.makers.specs.Makers.{kindCall, getBoolCall, getIntCall, makeIntCall, getFloatCall, makeFloatCall, getTupleCall, getStrCall, getStructCall, makeAryCall, makeStructFrefCall, getMemPtrCall, getMemCall}
 use Rattle.every_call.specs.Ty.{meetCall, isaCall, joinCall, dualCall, glbCall, lubCall, isFinalCall, makeRoCall}
+use Rattle.every_call.specs.MeetList.{meetListCall}
 use Rattle.every_call.specs.Others.{makeInitCall, makeZeroCall, nonZeroCall, isHighCall, isHighOrConstantCall, isConstantCall, isFrefCall, logSizeCall, intMinCall, intMaxCall, intValueCall, intMaskCall, floatSzCall, floatIsF32Call, floatValueCall, floatReadingCall, structNameCall, structFieldsCall, findCall, findAliasCall, isAryCall, offsetCall, offsetsCall, aryBaseCall, aryScaleCall}
 
 -- "with any arguments": any numbers and lists at all. `kind` stands for the Rust's casts. A call that fills a lent output has the
@@ -27,6 +28,7 @@ pub data Call : Type 0 where
   get-mem-ptr : ℕ → ℕ → Call
   get-mem : ℕ → ℕ → Call
   meet : ℕ → ℕ → Call
+  meet-list : List ℕ → Call
   isa : ℕ → ℕ → Call
   join : ℕ → ℕ → Call
   dual : ℕ → Call
@@ -76,6 +78,7 @@ runWith merge (make-struct-fref name) = makeStructFrefCall name
 runWith merge (get-mem-ptr to nil) = getMemPtrCall to nil
 runWith merge (get-mem alias t) = getMemCall alias t
 runWith merge (meet a b) = merge a b
+runWith merge (meet-list types) = meetListCall types
 runWith merge (isa a b) = isaCall a b
 runWith merge (join a b) = joinCall a b
 runWith merge (dual a) = dualCall a
@@ -139,6 +142,7 @@ typed (make-struct-fref name) = true
 typed (get-mem-ptr to nil) = true
 typed (get-mem alias t) = true
 typed (meet a b) = true
+typed (meet-list types) = true
 typed (isa a b) = true
 typed (join a b) = true
 typed (dual a) = true

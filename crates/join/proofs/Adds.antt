@@ -32,17 +32,22 @@ pub dualled : (u : List ℕ) (h : ℕ) → Good u → Type-in u h → Given u (d
 dualled u h g p = answered (walk-nice Dual (suc h) .types u h 33 g (part-below (suc h) (omega arith) p))
 
 -- one operation after another
-after : {u : List ℕ} (g₁ g₂ : Grown) → Given u g₁ → Given (g₁ .words) g₂ → Given u g₂
+pub after : {u : List ℕ} (g₁ g₂ : Grown) → Given u g₁ → Given (g₁ .words) g₂ → Given u g₂
 after {u} g₁ g₂ a b = record { adds = adds-then u g₁ g₂ (a .adds) (b .adds); part = b .part }
 
-later : {u : List ℕ} {g : Grown} (h : ℕ) → Good u → Given u g → Type-in u h → Type-in (g .words) h
+-- a type that was there is still there
+pub later : {u : List ℕ} {g : Grown} (h : ℕ) → Good u → Given u g → Type-in u h → Type-in (g .words) h
 later {u} {g} h good a p = part-weak (length (g .words)) 33 (adds-long good (a .adds)) (omega arith) (part-adds good (a .adds) p)
+
+pub met : (u : List ℕ) (a b : ℕ) → Good u → Type-in u a → Type-in u b → Given u (meetOf u a b)
+met u a b g pa pb =
+    let k = suc (max a b) in
+    answered (meet-nice k u a b 33 g (part-below k (omega arith) pa) (part-below k (omega arith) pb))
 
 meet-dualled : (u : List ℕ) (a b : ℕ) → Good u → Type-in u a → Type-in u b → Given u (dualOfMeet u a b)
 meet-dualled u a b g pa pb =
-    let k = suc (max a b) in
     let m = meetOf u a b in
-    let r = answered (meet-nice k u a b 33 g (part-below k (omega arith) pa) (part-below k (omega arith) pb)) in
+    let r = met u a b g pa pb in
     after m (dualOf (m .words) (m .handle)) r (dualled (m .words) (m .handle) (good-adds g (r .adds)) (r .part))
 
 with-given : (u : List ℕ) (a b : ℕ) → Good u → Type-in u a → Type-in u b → Given u (joinWith u a b)
