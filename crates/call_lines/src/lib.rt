@@ -10,11 +10,13 @@ use replies::arg;
 use replies::is;
 use replies::made;
 use replies::told;
+use script::Count;
 use struct_calls::Filling;
 use struct_calls::OfStruct;
 use walk_rules::Walk;
 ghost use Prim.Native.Nat.{_≤_};
 ghost use lib.ListN.{length};
+ghost use Rattle.script.specs.Words.{Within};
 ghost use Rattle.opened.specs.OpenStore.{OpenStore};
 ghost use Rattle.call_lines.specs.OpenIf.{OpenIf};
 
@@ -39,11 +41,37 @@ pub fn behind(name: &[u8]) -> Shape {
     Shape::Numbers
 }
 
+// A line `meet_rep N H` says a list by its length and the one handle in it: its numbers become that list, where they have room. Other lines keep theirs.
+pub fn repeated(name: &[u8], numbers: &mut [u64], count: Count) -> Count
+    requires { ⌜ Within count (length (now numbers)) ⌝ }
+    ensures { λ r. ⌜ Within r (length (now (numbers .exit))) ⌝ }
+{
+    if !check::same(name, b"meet_rep") {
+        return count;
+    }
+    let Count::Of(n) = count else {
+        return Count::Bad;
+    };
+    if n != 2 {
+        return Count::Bad;
+    }
+    let times = arg(numbers, 0);
+    let handle = arg(numbers, 1);
+    if times > numbers.len() as u64 {
+        return Count::Bad;
+    }
+    let k = times as usize;
+    replies::fill(&mut numbers[0..k], handle);
+    Count::Of(k)
+}
+
 // ---- which call
 
 // The call that a line names. What it takes as a list or a text is lent beside it.
 pub enum Line {
     Append(Making),
+    // the merge of a list
+    Merge,
     Ask(Asking),
     // of a struct, into an output of so many words
     Fill(Filling, u64, usize),
@@ -78,6 +106,18 @@ fn line_of(name: &[u8], a: &[u64]) -> Line {
     }
     if is(name, n, b"make_ro", 1) {
         return Line::Append(Making::MakeRo(x));
+    }
+    merges(name, a)
+}
+
+// The merge of all the numbers that a line has, or of those that `repeated` made of two.
+fn merges(name: &[u8], a: &[u64]) -> Line {
+    let n = a.len();
+    if is(name, n, b"meet_list", n) {
+        return Line::Merge;
+    }
+    if is(name, n, b"meet_rep", n) {
+        return Line::Merge;
     }
     values(name, a)
 }
@@ -293,6 +333,7 @@ fn filled(answer: Answer, n: usize) -> Reply {
 fn on_plain(line: Line, words: &mut [u64], list: &[u64], text: &[u8], output: &mut [u64]) -> Reply {
     match line {
         Line::Append(making) => made(plain::append(words, making, list, text)),
+        Line::Merge => made(plain::append(words, Making::MeetList, list, text)),
         Line::Ask(asking) => told(plain::ask(words, asking)),
         Line::Fill(filling, s, _) => {
             filled(plain::fill(words, filling, s, output), output.len())
@@ -316,6 +357,7 @@ fn on_opened(
 {
     match line {
         Line::Append(making) => made(opened::append(words, index, memory, making, list, text)),
+        Line::Merge => made(opened::append(words, index, memory, Making::MeetList, list, text)),
         Line::Ask(asking) => told(opened::ask(words, index, memory, asking)),
         Line::Fill(filling, s, _) => {
             let answer = opened::fill(words, index, memory, filling, s, output);

@@ -5,7 +5,7 @@ ghost use lib.ListN.{length};
 ghost use Rattle.calls.specs.Kept.{Kept};
 use libc::STDIN_FILENO;
 
-// The room that the program has: bytes of a line, and of answers that are not written yet; words of a list, and of its index (opened/specs/OpenStore.antt) and memory where it is open; numbers of a line, bytes of a text, and words of the output that a call may fill.
+// The room that the program has: bytes of a line, and of answers that are not written yet; words of a list, and of its index (opened/specs/OpenStore.antt) and memory where it is open; numbers of a line, bytes of a text, and words of the output that a call may fill; words of a list that is remembered, behind its length.
 pub const LINE: usize = 262144;
 
 pub const OUT: usize = 65536;
@@ -21,6 +21,8 @@ pub const NUMBERS: usize = 131072;
 pub const TEXT: usize = 131072;
 
 pub const OUTPUT: usize = 4096;
+
+pub const KEPT: usize = WORDS + 1;
 
 // What is kept from line to line.
 pub struct State {
@@ -49,6 +51,7 @@ pub fn script(
     numbers: &mut [u64; NUMBERS],
     text: &mut [u8; TEXT],
     output: &mut [u64; OUTPUT],
+    kept: &mut [u64; KEPT],
 ) {
     let mut state = State {
         len: 0,
@@ -69,6 +72,7 @@ pub fn script(
             numbers,
             text,
             output,
+            kept,
             state,
         );
         if state.ended {
@@ -88,6 +92,7 @@ fn turn(
     numbers: &mut [u64; NUMBERS],
     text: &mut [u8; TEXT],
     output: &mut [u64; OUTPUT],
+    kept: &mut [u64; KEPT],
     state: State,
 ) -> State
     requires { ⌜ Kept state (now words) (now index) (now memory) (length (now out)) × (state .at ≤ length (now input)) ⌝ }
@@ -104,6 +109,7 @@ fn turn(
         numbers,
         text,
         output,
+        kept,
         state,
     );
     if end == waiting {
@@ -116,6 +122,7 @@ fn turn(
             numbers,
             text,
             output,
+            kept,
             after,
         );
     }
@@ -142,6 +149,7 @@ fn lines(
     numbers: &mut [u64; NUMBERS],
     text: &mut [u8; TEXT],
     output: &mut [u64; OUTPUT],
+    kept: &mut [u64; KEPT],
     state: State,
 ) -> State
     requires { ⌜ Kept state (now words) (now index) (now memory) (length (now out)) ⌝ }
@@ -165,6 +173,7 @@ fn lines(
             numbers,
             text,
             output,
+            kept,
             s,
         );
         s.at = next;
@@ -218,6 +227,7 @@ fn one(
     numbers: &mut [u64; NUMBERS],
     text: &mut [u8; TEXT],
     output: &mut [u64; OUTPUT],
+    kept: &mut [u64; KEPT],
     state: State,
 ) -> State
     requires { ⌜ Kept state (now words) (now index) (now memory) (length (now out)) ⌝ }
@@ -234,6 +244,7 @@ fn one(
         numbers,
         text,
         output,
+        kept,
     );
     let len = outcome.len;
     let reply = outcome.reply;
@@ -258,6 +269,7 @@ fn last(
     numbers: &mut [u64; NUMBERS],
     text: &mut [u8; TEXT],
     output: &mut [u64; OUTPUT],
+    kept: &mut [u64; KEPT],
     state: State,
 ) -> State
     requires { ⌜ Kept state (now words) (now index) (now memory) (length (now out)) ⌝ }
@@ -275,6 +287,7 @@ fn last(
         numbers,
         text,
         output,
+        kept,
         state,
     );
     output::flush(out, s.used);

@@ -10,6 +10,7 @@ fn main() {
     let mut numbers = [0u64; input::NUMBERS];
     let mut text = [0u8; input::TEXT];
     let mut output = [0u64; input::OUTPUT];
+    let mut kept = [0u64; input::KEPT];
     whole(
         &mut line,
         &mut out,
@@ -19,6 +20,7 @@ fn main() {
         &mut numbers,
         &mut text,
         &mut output,
+        &mut kept,
     );
 }
 
@@ -32,6 +34,7 @@ fn whole(
     numbers: &mut [u64; input::NUMBERS],
     text: &mut [u8; input::TEXT],
     output: &mut [u64; input::OUTPUT],
+    kept: &mut [u64; input::KEPT],
 ) {
-    input::script(line, out, words, index, memory, numbers, text, output);
+    input::script(line, out, words, index, memory, numbers, text, output, kept);
 }

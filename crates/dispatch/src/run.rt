@@ -1,5 +1,5 @@
 // One line of a script: its words are read, and the call that it names is made. A call is lent the list, which is the first `len` words, and where that is an opened store, its
-// index and its memory. A call that fills an output is lent one beside them.
+// index and its memory. A call that fills an output is lent one beside them. A list that a script has remembered stands in `kept`.
 ghost use Prim.Native.Nat.{_≤_};
 ghost use lib.ListN.{length};
 ghost use Rattle.dispatch.specs.Held.{Held};
@@ -27,6 +27,7 @@ pub fn line(
     numbers: &mut [u64],
     text: &mut [u8],
     output: &mut [u64],
+    kept: &mut [u64],
 ) -> Outcome
     requires { ⌜ Held len opened (now words) (now index) (now memory) ⌝ }
     ensures { λ r. ⌜ Held (r .len) (r .opened) (now (words .exit)) (now (index .exit)) (now (memory .exit)) ⌝ }
@@ -49,6 +50,7 @@ pub fn line(
         numbers,
         text,
         output,
+        kept,
     )
 }
 
@@ -63,6 +65,7 @@ fn spoken(
     numbers: &mut [u64],
     text: &mut [u8],
     output: &mut [u64],
+    kept: &mut [u64],
 ) -> Outcome
     requires { ⌜ Held len opened (now words) (now index) (now memory) ⌝ }
     ensures { λ r. ⌜ Held (r .len) (r .opened) (now (words .exit)) (now (index .exit)) (now (memory .exit)) ⌝ }
@@ -95,6 +98,7 @@ fn spoken(
             opened,
             numbers,
             output,
+            kept,
         ),
     }
 }
@@ -110,12 +114,14 @@ fn with_numbers(
     opened: bool,
     numbers: &mut [u64],
     output: &mut [u64],
+    kept: &mut [u64],
 ) -> Outcome
     requires { ⌜ stop ≤ length (now line) ⌝ }
     requires { ⌜ Held len opened (now words) (now index) (now memory) ⌝ }
     ensures { λ r. ⌜ Held (r .len) (r .opened) (now (words .exit)) (now (index .exit)) (now (memory .exit)) ⌝ }
 {
-    let count = script::numbers(line, stop, numbers);
+    let said = script::numbers(line, stop, numbers);
+    let count = call_lines::repeated(&line[0..stop], numbers, said);
     match count {
         Count::Of(n) => {
             ordered(
@@ -127,6 +133,7 @@ fn with_numbers(
                 memory,
                 opened,
                 output,
+                kept,
             )
         }
         Count::Bad => Outcome {
@@ -190,6 +197,7 @@ fn ordered(
     memory: &mut [u64],
     opened: bool,
     output: &mut [u64],
+    kept: &mut [u64],
 ) -> Outcome
     requires { ⌜ Held len opened (now words) (now index) (now memory) ⌝ }
     ensures { λ r. ⌜ Held (r .len) (r .opened) (now (words .exit)) (now (index .exit)) (now (memory .exit)) ⌝ }
@@ -206,7 +214,7 @@ fn ordered(
             }
         }
         Order::Read(reading) => {
-            let reply = list_lines::read(reading, &words[0..len]);
+            let reply = list_lines::read(reading, &words[0..len], kept);
             Outcome {
                 len: len,
                 opened: opened,

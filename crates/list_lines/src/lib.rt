@@ -1,4 +1,6 @@
 // The lines about the list itself.
+mod remembered;
+
 ghost use Prim.Native.Nat.{_≤_};
 use replies::Reply;
 use replies::arg;
@@ -29,12 +31,16 @@ pub enum Closing {
     Close,
 }
 
-// A line that reads it.
+// A line that reads it, and leaves it open where it is.
 pub enum Reading {
     Peek(u64),
     Dump,
     DumpAll,
     Check,
+    // remembers it, all its words and its length
+    Keep,
+    // tells whether it is as it was then
+    Kept,
 }
 
 // ---- which line
@@ -81,6 +87,12 @@ fn others(name: &[u8], a: &[u64]) -> Order {
     }
     if is(name, n, b"check", 0) {
         return Order::Read(Reading::Check);
+    }
+    if is(name, n, b"keep", 0) {
+        return Order::Read(Reading::Keep);
+    }
+    if is(name, n, b"kept", 0) {
+        return Order::Read(Reading::Kept);
     }
     Order::Call
 }
@@ -149,13 +161,25 @@ fn poke(words: &mut [u64], i: u64, value: u64) -> Reply {
 
 // ---- lines that read
 
-pub fn read(reading: Reading, words: &[u64]) -> Reply {
+// What is remembered stands in `kept`: before the first `keep` zeros, which are the empty list.
+pub fn read(reading: Reading, words: &[u64], kept: &mut [u64]) -> Reply {
     match reading {
         Reading::Peek(i) => peek(words, i),
         Reading::Dump => Reply::Used,
         Reading::DumpAll => Reply::All,
         Reading::Check => flag(wellformed::well_formed(words)),
+        Reading::Keep => remember(words, kept),
+        Reading::Kept => flag(remembered::is_kept(words, kept)),
     }
+}
+
+// A list that there is no room for is not remembered.
+fn remember(words: &[u64], kept: &mut [u64]) -> Reply {
+    if kept.len() <= words.len() {
+        return Reply::Malformed;
+    }
+    remembered::keep(words, kept);
+    Reply::Short(Answer::Accepted)
 }
 
 fn peek(words: &[u64], i: u64) -> Reply {

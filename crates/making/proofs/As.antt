@@ -28,6 +28,7 @@ appended-is (Making-variants.MakeStructFref name) list text ws = refl
 appended-is (Making-variants.GetMemPtr to nil) list text ws = refl
 appended-is (Making-variants.GetMem alias t) list text ws = refl
 appended-is (Making-variants.Meet a b) list text ws = refl
+appended-is Making-variants.MeetList list text ws = refl
 appended-is (Making-variants.Join a b) list text ws = refl
 appended-is (Making-variants.Walk Dual a) list text ws = refl
 appended-is (Making-variants.Walk Glb a) list text ws = refl

@@ -15,6 +15,7 @@ use Rattle.walk.proofs.Grows.{walk-grows}
 use Rattle.join.specs.Join.{joinWith, joinOf}
 use Rattle.join.proofs.Steps.{with-grows}
 use Rattle.make_ro.proofs.Grows.{make-ro-grows}
+use Rattle.every_call.proofs.MeetList.{merge-grows}
 use Rattle.every_call.proofs.NonZero.{non-zero-grows}
 use Rattle.making.specs.declared.Making.{Making}
 use Rattle.making.specs.declared.Making.the-variants as Making-variants
@@ -49,6 +50,7 @@ making-grows (Making-variants.MakeStructFref name) list text u = make-extends u 
 making-grows (Making-variants.GetMemPtr to nil) list text u = make-extends u _
 making-grows (Making-variants.GetMem alias t) list text u = make-extends u _
 making-grows (Making-variants.Meet a b) list text u = meet-grows (suc (max a b)) u a b
+making-grows Making-variants.MeetList list text u = merge-grows 6 list u
 making-grows (Making-variants.Join a b) list text u = join-grows u a b
 making-grows (Making-variants.Walk walk a) list text u = walk-grows walk (suc a) u a
 making-grows (Making-variants.MakeRo a) list text u = make-ro-grows (suc a) u a

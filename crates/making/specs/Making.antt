@@ -1,5 +1,5 @@
 -- The calls that append, as the values that the functions take: which call each is, its rows and its operation on the used words `u`. A call's lists are lent
--- beside it: `list` the types of a tuple or the fields of a struct, `text` the bytes of a name. That `run` of the call is the rows and then the operation is
+-- beside it: `list` the types of a tuple or of a merge, or the fields of a struct, `text` the bytes of a name. That `run` of the call is the rows and then the operation is
 -- `appended-is` (proofs/As.antt), each line by computation.
 use mathlib.Core.Bool.{not}
 use mathlib.Core.List.{List, [], _∷_}
@@ -19,6 +19,7 @@ use Rattle.walk_rules.specs.declared.Walk.the-variants.{Dual, Glb, Lub}
 use Rattle.walk.specs.Walk.{walkOf}
 use Rattle.join.specs.Join.{joinOf}
 use Rattle.make_ro.specs.ReadOnly.{makeRoOf}
+use Rattle.every_call.specs.MeetList.{meetListRows, meetListOf}
 use Rattle.every_call.specs.NonZero.{nonZeroOf}
 use Rattle.every_call.specs.Run as Run
 use Rattle.making.specs.declared.Making.{Making}
@@ -41,6 +42,7 @@ appended (Making-variants.MakeStructFref name) list text = Run.make-struct-fref 
 appended (Making-variants.GetMemPtr to nil) list text = Run.get-mem-ptr to nil
 appended (Making-variants.GetMem alias t) list text = Run.get-mem alias t
 appended (Making-variants.Meet a b) list text = Run.meet a b
+appended Making-variants.MeetList list text = Run.meet-list list
 appended (Making-variants.Join a b) list text = Run.join a b
 appended (Making-variants.Walk walk a) list text = walked walk a
 appended (Making-variants.MakeRo a) list text = Run.make-ro a
@@ -58,6 +60,7 @@ rowsOf (Making-variants.MakeStructFref name) list text = frefRows name
 rowsOf (Making-variants.GetMemPtr to nil) list text = partRows isStruct (isFlag nil) to
 rowsOf (Making-variants.GetMem alias t) list text = partRows isType (isAlias alias) t
 rowsOf (Making-variants.Meet a b) list text = typesRows (a ∷ b ∷ [])
+rowsOf Making-variants.MeetList list text = meetListRows list
 rowsOf (Making-variants.Join a b) list text = typesRows (a ∷ b ∷ [])
 rowsOf (Making-variants.Walk walk a) list text = typesRows (a ∷ [])
 rowsOf (Making-variants.MakeRo a) list text = typesRows (a ∷ [])
@@ -75,6 +78,7 @@ opOf (Making-variants.MakeStructFref name) list text = λ u. make u (frefEntry n
 opOf (Making-variants.GetMemPtr to nil) list text = λ u. make u (pointerEntry to nil u)
 opOf (Making-variants.GetMem alias t) list text = λ u. make u (memoryEntry alias t u)
 opOf (Making-variants.Meet a b) list text = λ u. meetOf u a b
+opOf Making-variants.MeetList list text = meetListOf list
 opOf (Making-variants.Join a b) list text = λ u. joinOf u a b
 opOf (Making-variants.Walk walk a) list text = λ u. walkOf walk u a
 opOf (Making-variants.MakeRo a) list text = λ u. makeRoOf u a

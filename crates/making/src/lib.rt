@@ -23,7 +23,7 @@ ghost use Rattle.every_call.specs.Run.{run, typed};
 ghost use Rattle.every_call.specs.Cleared.{Cleared};
 ghost use Rattle.making.specs.Making.{appended, rowsOf, opOf};
 
-// A call that appends. The types of a tuple, the fields of a struct and the bytes of a name are lent beside it. get_int is MakeInt, get_float is MakeFloat.
+// A call that appends. The types of a tuple or of a merge, the fields of a struct and the bytes of a name are lent beside it. get_int is MakeInt, get_float is MakeFloat.
 pub enum Making {
     MakeInt(u64, u64),
     MakeFloat(u64, u64),
@@ -35,6 +35,7 @@ pub enum Making {
     GetMemPtr(u64, u64),
     GetMem(u64, u64),
     Meet(u64, u64),
+    MeetList,
     Join(u64, u64),
     Walk(Walk, u64),
     MakeRo(u64),
@@ -86,6 +87,7 @@ pub fn rows_of(
             )
         }
         Making::Meet(a, b) => rows::types_rows(&*words, used, &*bits, &[a, b]),
+        Making::MeetList => meet_list::list_rows(&*words, used, &*bits, &*list),
         Making::Join(a, b) => rows::types_rows(&*words, used, &*bits, &[a, b]),
         Making::Walk(_, a) => rows::types_rows(&*words, used, &*bits, &[a]),
         Making::MakeRo(a) => rows::types_rows(&*words, used, &*bits, &[a]),
@@ -140,6 +142,7 @@ pub fn operate(
         Making::Meet(a, b) => {
             lent_memory::meet(&*old, new, used, a as usize, b as usize, memory, &*index)
         }
+        Making::MeetList => meet_list::meet_list(&*old, new, used, &*list, memory, &*index),
         Making::Join(a, b) => {
             lent_memory::join(&*old, new, used, a as usize, b as usize, memory, &*index)
         }

@@ -60,6 +60,12 @@ module _ (ws index : List ℕ) (k : ℕ) (is : k ≡ marksSize (length ws)) (roo
     pub two-chains : take (length two - k) (drop k two) ≡ drop k index
     two-chains = tail-all k two ∙ drop-at bits (drop k index) k bits-long
 
+    -- the chains are as they were
+    pub two-index : bitAt bits ≡ starts (usedWords ws) → Opened (usedWords ws) (chainsOf ws index) → IndexOf ws two
+    two-index marks opened =
+        let c : drop k two ≡ drop k index = drop-at bits (drop k index) k bits-long in
+        record { room = omega (arith, two-long, room); marks = rw (sym is, two-marks) marks; chains = rw (sym is, c) (rw (sym is) at opened) }
+
     -- and then the chains
     module _ (chains : List ℕ) (long : length chains ≡ length (take (length two - k) (drop k two))) where
       abbrev three : List ℕ

@@ -1,4 +1,4 @@
--- What a well-formed store gives, and what `extend` requires of its parts. Assumes nothing.
+-- What a well-formed store gives, and what `extend` and `mark_new` require of its parts. Assumes nothing.
 use mathlib.Core.Path.{_≡_, ap, _∙_}
 use mathlib.Core.Bool.{true}
 use mathlib.Core.List.{List, _++_}
@@ -15,7 +15,7 @@ use Rattle.index.specs.Covers.{indexedTo, Covers}
 use Rattle.call.specs.Steps.{usedOf}
 use Rattle.call.proofs.Keep.{well-sound}
 use Rattle.store_index.specs.StoreIndex.{marksSize, chainsOf}
-use Rattle.store_index.specs.Steps.{Stale}
+use Rattle.store_index.specs.Steps.{Stale, Unmarked}
 use Rattle.store_index.proofs.Index.{tail-all, two-chains}
 
 -- ---- what is known of a well-formed store
@@ -46,15 +46,16 @@ module _ (ws : List ℕ) (ok : wellFormed ws ≡ true) where
   pub used-fills : fills 0 (drop 1 (take (getD ws 0 0) ws)) ≡ true
   used-fills = well-sound ws ok .full
 
+  -- what marking the entries from `from` on requires
+  abbrev Ready : List ℕ → ℕ → ℕ → Type 0
+  Ready index k from = ((from ≤ getD ws 0 0) × (getD ws 0 0 ≤ length ws) × (getD ws 0 0 < 64 * length (take k index)))
+      × ((fills 0 (drop 1 (take from ws)) ≡ true) × (1 ≤ from) × (fills 0 (drop 1 (take (getD ws 0 0) ws)) ≡ true) × (bitAt (take k index) ≡ starts (take from ws)))
+
   module _ (index : List ℕ) (s : Stale ws index) (k : ℕ) (is : k ≡ marksSize (length ws)) where
     chains-are : take (length index - k) (drop k index) ≡ chainsOf ws index
     chains-are = tail-all k index ∙ ap (λ (n : ℕ). drop n index) is
 
-    abbrev Ready : ℕ → Type 0
-    Ready from = ((from ≤ getD ws 0 0) × (getD ws 0 0 ≤ length ws) × (getD ws 0 0 < 64 * length (take k index)))
-        × ((fills 0 (drop 1 (take from ws)) ≡ true) × (1 ≤ from) × (fills 0 (drop 1 (take (getD ws 0 0) ws)) ≡ true) × (bitAt (take k index) ≡ starts (take from ws)))
-
-    pub mark-ready : (from : ℕ) → from ≡ indexedTo (take (length index - k) (drop k index)) → Ready from
+    pub mark-ready : (from : ℕ) → from ≡ indexedTo (take (length index - k) (drop k index)) → Ready index k from
     mark-ready from e =
         let c = s .covers in
         let n = length-take-le (getD ws 0 0) ws (tests ws ok .within) in
@@ -69,3 +70,10 @@ module _ (ws : List ℕ) (ok : wellFormed ws ≡ true) where
 
     pub extend-covers : (bits : List ℕ) → length bits ≡ length (take k index) → Covers (usedWords ws) (take (length (bits ++ drop k index) - k) (drop k (bits ++ drop k index)))
     extend-covers bits same = rw (two-chains ws index k is (s .room) bits same, is) (s .covers)
+
+  -- ---- what `mark_new` requires
+
+  pub new-ready : (index : List ℕ) (from : ℕ) → Unmarked ws from index → (k : ℕ) → k ≡ marksSize (length ws) → Ready index k from
+  new-ready index from x k is =
+      let t : length (take k index) ≡ k = length-take-le k index (omega (arith, is, x .room)) in
+      ((x .high, tests ws ok .within, omega (arith, t, is, tests ws ok .within)), (x .cut, x .low, used-fills, rw is (x .marks)))

@@ -8,7 +8,7 @@ ghost use Rattle.words.specs.Table.{starts};
 ghost use Rattle.bitset.specs.Bitset.{bitAt, wordBits};
 ghost use Rattle.wellformed.specs.Form.{wellFormed, longestAllowed};
 ghost use Rattle.store_index.specs.StoreIndex.{marksSize, IndexOf};
-ghost use Rattle.store_index.specs.Steps.{Stale};
+ghost use Rattle.store_index.specs.Steps.{Stale, Unmarked};
 
 // How many words of an index mark the entries of a list of n words.
 pub fn marks_size(n: usize) -> usize
@@ -45,4 +45,15 @@ pub fn extend(words: &[u64], index: &mut [u64])
     }
     mark_from(&*words, from, used, &mut index[..k]);
     index::extend(&*words, used, &mut index[k..]);
+}
+
+// Marks the entries from `from` on, which are in the chains already.
+pub fn mark_new(words: &[u64], from: usize, index: &mut [u64])
+    requires { ⌜ wellFormed (now words) ≡ true ⌝ }
+    requires { ⌜ Unmarked (now words) from (now index) ⌝ }
+    ensures { λ _. ⌜ IndexOf (now (words .entry)) (now (index .exit)) ⌝ }
+{
+    let used = words[0] as usize;
+    let k = marks_size(words.len());
+    mark_from(&*words, from, used, &mut index[..k]);
 }

@@ -7,6 +7,18 @@ use Rattle.dispatch.proofs.run.with_numbers.Tie as tie
 numbers-requires : tie.Need-numbers-requires
 numbers-requires c κs = search needs
 
+sub-repeated : tie.Need-sub-repeated
+sub-repeated c = search needs
+
+part-repeated-start : tie.Need-part-repeated-start
+part-repeated-start c = search needs
+
+part-repeated-end : tie.Need-part-repeated-end
+part-repeated-end c = search needs
+
+repeated-requires : tie.Need-repeated-requires
+repeated-requires c κs = search needs
+
 enum-known-count : tie.Need-enum-known-count
 enum-known-count c = search needs
 
@@ -49,11 +61,14 @@ same-length-4 c = search needs
 same-length-5 : tie.Need-same-length-5
 same-length-5 c = search needs
 
+same-length-6 : tie.Need-same-length-6
+same-length-6 c = search needs
+
 returns : tie.Need-returns
 returns c = search needs
 
-same-length-6 : tie.Need-same-length-6
-same-length-6 c = search needs
+same-length-7 : tie.Need-same-length-7
+same-length-7 c = search needs
 
 returns-2 : tie.Need-returns-2
 returns-2 c = search needs
@@ -63,6 +78,10 @@ with-numbers-spec =
     tie.close
     (tie.spec
     numbers-requires
+    sub-repeated
+    part-repeated-start
+    part-repeated-end
+    repeated-requires
     enum-known-count
     sub-ordered
     part-ordered-start
@@ -77,6 +96,7 @@ with-numbers-spec =
     same-length-3
     same-length-4
     same-length-5
-    returns
     same-length-6
+    returns
+    same-length-7
     returns-2)
