@@ -357,7 +357,7 @@ fn on_opened(
 {
     match line {
         Line::Append(making) => made(opened::append(words, index, memory, making, list, text)),
-        Line::Merge => made(opened::append(words, index, memory, Making::MeetList, list, text)),
+        Line::Merge => made(opened_lists::meet_list(words, index, memory, list)),
         Line::Ask(asking) => told(opened::ask(words, index, memory, asking)),
         Line::Fill(filling, s, _) => {
             let answer = opened::fill(words, index, memory, filling, s, output);

@@ -6,7 +6,7 @@ ghost use mathlib.Core.Path.{_≡_};
 ghost use mathlib.Core.List.{[]};
 ghost use lib.ListN.{length};
 ghost use Rattle.makers.specs.Makers.{freshCall};
-ghost use Rattle.every_call.specs.Run.{run};
+ghost use Rattle.every_call.specs.Run.{run, meet-list};
 ghost use Rattle.making.specs.Making.{appended};
 ghost use Rattle.asking.specs.Asking.{askedFilling, asked, outputOf};
 ghost use Rattle.opened.specs.OpenStore.{OpenStore, openReply};
@@ -78,6 +78,24 @@ pub fn opened_append(
 {
     codes::of_made(
         opened::append(words, index, memory, making, &*list, &*text),
+        answer,
+    )
+}
+
+// The merge of a list.
+pub fn opened_meet_list(
+    words: &mut [u64],
+    index: &mut [u64],
+    memory: &mut [u64],
+    types: &[u64],
+    answer: &mut u64,
+) -> u32
+    requires { ⌜ OpenStore (now words) (now index) (now memory) ⌝ }
+    ensures { λ r. ⌜ Coded (run (meet-list (now (types .entry))) (now (words .entry))) r (now (words .exit)) (now (answer .entry)) (now (answer .exit)) ⌝ }
+    ensures { λ _. ⌜ OpenStore (now (words .exit)) (now (index .exit)) (now (memory .exit)) ⌝ }
+{
+    codes::of_made(
+        opened_lists::meet_list(words, index, memory, &*types),
         answer,
     )
 }

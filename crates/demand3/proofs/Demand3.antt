@@ -1,6 +1,6 @@
 -- Demand 3, the theorem: every list of calls from every fresh store has the laws of specs/Demand3.antt. Assumes nothing.
 use mathlib.Core.Path.{_≡_, refl, sym, ap, _∙_}
-use mathlib.Core.Logic.{inl, inr, _↔_}
+use mathlib.Core.Logic.{_⊎_, inl, inr, ⊎-elim, ⊎-map, _↔_}
 use mathlib.Core.Bool.{Bool, true, false}
 use mathlib.Core.List.{List, [], _∷_, _++_, append-assoc}
 use Prim.Native.Nat.{ℕ, zero, suc, max}
@@ -16,7 +16,7 @@ use Rattle.call.specs.Handles.{typesRows}
 use Rattle.words.specs.Columns.{kindOn}
 use Rattle.call.specs.Adds.{Adds}
 use Rattle.makers.specs.Makers.{freshCall}
-use Rattle.parts.specs.Parts.{Good}
+use Rattle.parts.specs.Parts.{Good, All}
 use Rattle.parts.proofs.Good.{well-good, good-adds, part-below, Answers}
 use Rattle.meet.specs.Meet.{meetOf, isaOf}
 use Rattle.meet.proofs.Nice.{meet-nice}
@@ -30,21 +30,24 @@ use Rattle.make_ro.specs.ReadOnly.{makeRoOf}
 use Rattle.make_ro.proofs.Nice.{make-ro-nice}
 use Rattle.every_call.proofs.Parts.{one-part, two-parts}
 use Rattle.every_call.proofs.Keeps.{meet-answers}
+use Rattle.every_call.specs.MeetList.{meetListOf, meetListRows}
+use Rattle.every_call.proofs.MeetList.{list-parts, meet-list-given}
 use Rattle.trees.proofs.Order.{Order, le-of-lub, turn}
-use Rattle.trees.proofs.Tree.{Ty, _⊑_, ⊑-order}
+use Rattle.trees.proofs.Tree.{Ty, any, up, _⊑_, ⊑-order}
 use Rattle.trees.proofs.Meet.{Meet}
-use Rattle.trees.proofs.Free.{NoMem, NoFre, meet-no-mem, meet-no-fre}
+use Rattle.trees.proofs.Free.{lhi, NoMem, NoFre, meet-no-mem, meet-no-fre}
 use Rattle.trees.proofs.Dual.{dual as dualTree, dual-dual, dual-lacks, dual-turns as turns, Join}
 use Rattle.meaning.proofs.Store.{Distinct, Typed, treeOn, handle-same, Onward, onward-adds, grown, still, kept}
 use Rattle.meaning.proofs.Meets.{Side, meet-right}
 use Rattle.meaning.proofs.Walks.{Rel, walk-right}
 use Rattle.meaning.proofs.ReadOnly.{ro-above}
 use Rattle.meaning.proofs.Joins.{join-right}
-use Rattle.every_call.specs.Run.{Call, meet, isa, join, dual, glb, lub, make-ro, run, allTyped}
-use Rattle.demand3.specs.Demand3.{reaches, leaves, Gave, finalWords, Isa, Plain, Bracketing, single, pair, Member, AllPlain, SameSet, Laws, Demand3}
+use Rattle.every_call.specs.Run.{Call, meet, meet-list, isa, join, dual, glb, lub, make-ro, run, allTyped}
+use Rattle.demand3.specs.Demand3.{reaches, leaves, Gave, finalWords, Isa, Plain, In, Bracketing, Bracketings, single, pair, whole, none, more, Member, Members, AllPlain, SameSet, Empty, Laws, Demand3}
 use Rattle.demand3.proofs.Runs.{Store, Later, fresh-store, leaves-store, gave-at}
 use Rattle.demand3.proofs.Accepted.{accepted}
 use Rattle.demand3.proofs.Reaching.{no-mem, no-fre}
+use Rattle.demand3.proofs.Lists.{Among, top-tree, list-bound}
 
 -- a store that calls made, as its used words
 distinct : (ws : List ℕ) → Store ws → Distinct (usedWords ws)
@@ -238,35 +241,91 @@ module _ (cs : List Call) (typed : allTyped cs ≡ true) (ws : List ℕ) (s : St
   -- ---- bracketings, for meets and for joins: R is the order or the order turned over, P what a bound is asked
 
   module _ (R : Ty → Ty → Type 0) (O : Order R) (P : Ty → Type 0) (plain : (h : ℕ) → Fine h → P (T h)) (op : ℕ → ℕ → Call)
-      (step : (a b c : ℕ) → Gave run cs ws (op a b) c → Fine a → Fine b → Fine c × R (T a) (T c) × R (T b) (T c) × ((t : Ty) → P t → R (T a) t → R (T b) t → R (T c) t)) where
-    whole : {c : ℕ} (p : Bracketing run cs ws op c) → AllPlain run cs ws p → Fine c
-    whole (single h) f = fine (f h refl)
-    whole (pair {a} {b} {c} p q g) f = step a b c g (whole p λ x i. f x (inl i)) (whole q λ x i. f x (inr i)) .0
+      (step : (a b c : ℕ) → Gave run cs ws (op a b) c → Fine a → Fine b → Fine c × R (T a) (T c) × R (T b) (T c) × ((t : Ty) → P t → R (T a) t → R (T b) t → R (T c) t))
+      (lists : op ≡ meet → (hs : List ℕ) (c : ℕ) → Gave run cs ws (meet-list hs) c → ((x : ℕ) → In x hs → Fine x) → Fine c × ((x : ℕ) → In x hs → R (T x) (T c)) × ((t : Ty) → P t → ((x : ℕ) → In x hs → R (T x) t) → R (T c) t)) where
+    mutual
+      fine-of : {c : ℕ} (p : Bracketing run cs ws op c) → AllPlain run cs ws p → Fine c
+      fine-of (single h) f = fine (f h refl)
+      fine-of (pair {a} {b} {c} p q x) f = step a b c x (fine-of p λ y i. f y (inl i)) (fine-of q λ y i. f y (inr i)) .0
+      fine-of (whole {hs} {c} e ps x) f = lists e hs c x (each-fine ps f) .0
 
-    bound : {c : ℕ} (p : Bracketing run cs ws op c) → AllPlain run cs ws p → (x : ℕ) → Member run cs ws p x → R (T x) (T c)
-    bound (single h) f x i = rw i (O .rfl (T h))
-    bound (pair {a} {b} {c} p q g) f x (inl i) = O .trn (bound p (λ y j. f y (inl j)) x i) (step a b c g (whole p λ y j. f y (inl j)) (whole q λ y j. f y (inr j)) .1)
-    bound (pair {a} {b} {c} p q g) f x (inr i) = O .trn (bound q (λ y j. f y (inr j)) x i) (step a b c g (whole p λ y j. f y (inl j)) (whole q λ y j. f y (inr j)) .2)
+      each-fine : {hs : List ℕ} (ps : Bracketings run cs ws op hs) → ((x : ℕ) → Members run cs ws ps x → Plain run cs ws x) → (h : ℕ) → In h hs → Fine h
+      each-fine none f h i = absurd i
+      each-fine (more {k} {hs} p ps) f h i = ⊎-elim (λ (e : h ≡ k). rw e (fine-of p λ y j. f y (inl j))) (λ (j : In h hs). each-fine ps (λ y l. f y (inr l)) h j) i
 
-    least : {c : ℕ} (p : Bracketing run cs ws op c) → AllPlain run cs ws p → (t : Ty) → P t → ((x : ℕ) → Member run cs ws p x → R (T x) t) → R (T c) t
-    least (single h) f t o k = k h refl
-    least (pair {a} {b} {c} p q g) f t o k =
-        step a b c g (whole p λ y j. f y (inl j)) (whole q λ y j. f y (inr j)) .3 t o (least p (λ y j. f y (inl j)) t o λ x i. k x (inl i)) (least q (λ y j. f y (inr j)) t o λ x i. k x (inr i))
+    mutual
+      bound : {c : ℕ} (p : Bracketing run cs ws op c) → AllPlain run cs ws p → (x : ℕ) → Member run cs ws p x → R (T x) (T c)
+      bound (single h) f x i = rw i (O .rfl (T h))
+      bound (pair {a} {b} {c} p q d) f x (inl i) = O .trn (bound p (λ y j. f y (inl j)) x i) (step a b c d (fine-of p λ y j. f y (inl j)) (fine-of q λ y j. f y (inr j)) .1)
+      bound (pair {a} {b} {c} p q d) f x (inr i) = O .trn (bound q (λ y j. f y (inr j)) x i) (step a b c d (fine-of p λ y j. f y (inl j)) (fine-of q λ y j. f y (inr j)) .2)
+      bound (whole {hs} {c} e ps d) f x i =
+          let b = one-bound ps f x i in
+          O .trn (b .2) (lists e hs c d (each-fine ps f) .1 (b .0) (b .1))
+
+      -- the one of the list whose set x is in
+      one-bound : {hs : List ℕ} (ps : Bracketings run cs ws op hs) → ((x : ℕ) → Members run cs ws ps x → Plain run cs ws x) → (x : ℕ) → Members run cs ws ps x → (h : ℕ) × In h hs × R (T x) (T h)
+      one-bound none f x i = absurd i
+      one-bound (more {k} p ps) f x (inl i) = (k, inl refl, bound p (λ y j. f y (inl j)) x i)
+      one-bound (more p ps) f x (inr i) = let b = one-bound ps (λ y j. f y (inr j)) x i in (b .0, inr (b .1), b .2)
+
+    mutual
+      least : {c : ℕ} (p : Bracketing run cs ws op c) → AllPlain run cs ws p → (t : Ty) → P t → ((x : ℕ) → Member run cs ws p x → R (T x) t) → R (T c) t
+      least (single h) f t o k = k h refl
+      least (pair {a} {b} {c} p q d) f t o k =
+          step a b c d (fine-of p λ y j. f y (inl j)) (fine-of q λ y j. f y (inr j)) .3 t o (least p (λ y j. f y (inl j)) t o λ x i. k x (inl i)) (least q (λ y j. f y (inr j)) t o λ x i. k x (inr i))
+      least (whole {hs} {c} e ps d) f t o k = lists e hs c d (each-fine ps f) .2 t o (each-least ps f t o k)
+
+      each-least : {hs : List ℕ} (ps : Bracketings run cs ws op hs) → ((x : ℕ) → Members run cs ws ps x → Plain run cs ws x) → (t : Ty) → P t → ((x : ℕ) → Members run cs ws ps x → R (T x) t) → (h : ℕ) → In h hs → R (T h) t
+      each-least none f t o k h i = absurd i
+      each-least (more {l} {hs} p ps) f t o k h i = ⊎-elim (λ (e : h ≡ l). rw e (least p (λ y j. f y (inl j)) t o λ x m. k x (inl m))) (λ (j : In h hs). each-least ps (λ y m. f y (inr m)) t o (λ x m. k x (inr m)) h j) i
 
     one-handle : {c d : ℕ} (p : Bracketing run cs ws op c) (q : Bracketing run cs ws op d) → AllPlain run cs ws p → SameSet run cs ws p q → c ≡ d
     one-handle {c} {d} p q f e =
         let f′ : AllPlain run cs ws q = λ x i. f x (e x .1 i) in
-        let wp = whole p f in
-        let wq = whole q f′ in
+        let wp = fine-of p f in
+        let wq = fine-of q f′ in
         handle-same S c d (wp .type) (wq .type) (O .ant
         (least p f (T d) (plain d wq) λ x i. bound q f′ x (e x .0 i))
         (least q f′ (T c) (plain c wp) λ x i. bound p f x (e x .1 i)))
+
+  -- ---- the steps: of two, and of a list
 
   meet-step : (a b c : ℕ) → Gave run cs ws (meet a b) c → Fine a → Fine b → Fine c × (T a ⊑ T c) × (T b ⊑ T c) × ((t : Ty) → Unit {0} → T a ⊑ t → T b ⊑ t → T c ⊑ t)
   meet-step a b c g fa fb =
       let x = met a b c g in
       let m = x .1 (inl (fa .memory)) in
       (record { type = x .0; memory = meet-no-mem m (fa .memory) (fb .memory); forward = meet-no-fre m (fa .forward) (fb .forward) }, m .left, m .right, λ t o p q. m .least p q)
+
+  -- the trees of types without memory and forward references
+  abbrev Clean : Ty → Type 0
+  Clean t = NoMem t × NoFre t
+
+  list-step : _≡_ {A = ℕ → ℕ → Call} meet meet → (hs : List ℕ) (c : ℕ) → Gave run cs ws (meet-list hs) c → ((x : ℕ) → In x hs → Fine x) → Fine c × ((x : ℕ) → In x hs → T x ⊑ T c) × ((t : Ty) → Unit {0} → ((x : ℕ) → In x hs → T x ⊑ t) → T c ⊑ t)
+  list-step e hs c g f =
+      let r = ran (meet-list hs) (meetListRows hs) (meetListOf hs) c (λ vs. refl) (λ v good q. meet-list-given hs v good q .adds) g in
+      let parts = list-parts hs (r .v) (r .store .good) (r .none) in
+      let out = gone r (meet-list-given hs (r .v) (r .store .good) (r .none)) in
+      let b = list-bound Clean (λ p. p .0) (λ m p q. (meet-no-mem m (p .0) (q .0), meet-no-fre m (p .1) (q .1))) (lhi, lhi) hs (r .v) (r .store) (among r hs parts f) in
+      let at = λ x i. came r x (part-of hs parts x i) .1 in (
+        record { type = out .0; memory = rw (out .1) (b .known .0); forward = rw (out .1) (b .known .1) },
+        λ x i. rw (at x i, out .1) (b .each x i),
+        λ t o k. rw (out .1) (b .least t (rw (top-tree (r .v) (r .store .good)) (up any)) (λ x i. rw (at x i) at (k x i))),
+      )
+    where
+      part-of : {v : List ℕ} (ks : List ℕ) → All (Typed v) ks → (x : ℕ) → In x ks → Typed v x
+      part-of [] ps x i = absurd i
+      part-of (k ∷ ks) ps x i = ⊎-elim (λ (e : x ≡ k). rw e (ps .0)) (λ (j : In x ks). part-of ks (ps .1) x j) i
+
+      among : {rows : List ℕ → ℕ} {op : List ℕ → Grown} {c : ℕ} (r : Ran rows op c) (ks : List ℕ) → All (Typed (r .v)) ks → ((x : ℕ) → In x ks → Fine x) → All (Among Clean (λ p. p .0) (λ m p q. (meet-no-mem m (p .0) (q .0), meet-no-fre m (p .1) (q .1))) (r .v)) ks
+      among r [] ps f = tt
+      among r (k ∷ ks) ps f =
+          let e = came r k (ps .0) .1 in
+          let x = f k (inl refl) in
+          (record { type = ps .0; known = rw e at (x .memory, x .forward) }, among r ks (ps .1) (λ y i. f y (inr i)))
+
+  -- no list of joins is merged by one call
+  no-list : {X : Type 0} → _≡_ {A = ℕ → ℕ → Call} join meet → X
+  no-list e = let q : join 0 0 ≡ meet 0 0 = ap (λ (f : ℕ → ℕ → Call). f 0 0) e in let z : _≡_ {A = ℕ} 0 1 = cc in absurd (omega arith)
 
   join-step : (a b c : ℕ) → Gave run cs ws (join a b) c → Fine a → Fine b → Fine c × (T c ⊑ T a) × (T c ⊑ T b) × ((t : Ty) → NoFre t → t ⊑ T a → t ⊑ T b → t ⊑ T c)
   join-step a b c g fa fb =
@@ -281,29 +340,54 @@ module _ (cs : List Call) (typed : allTyped cs ≡ true) (ws : List ℕ) (s : St
   Joins = Bracketing run cs ws join
 
   meets-whole : {c : ℕ} (p : Meets c) → AllPlain run cs ws p → Fine c
-  meets-whole = whole _⊑_ ⊑-order (λ t. Unit {0}) (λ h f. tt) meet meet-step
+  meets-whole = fine-of _⊑_ ⊑-order (λ t. Unit {0}) (λ h f. tt) meet meet-step list-step
 
   joins-whole : {c : ℕ} (p : Joins c) → AllPlain run cs ws p → Fine c
-  joins-whole = whole (λ a b. b ⊑ a) (turn ⊑-order) NoFre (λ h f. f .forward) join join-step
+  joins-whole = fine-of (λ a b. b ⊑ a) (turn ⊑-order) NoFre (λ h f. f .forward) join join-step (λ e. no-list e)
 
-  -- a bracketing has a member
-  member : {op : ℕ → ℕ → Call} {c : ℕ} (p : Bracketing run cs ws op c) → (x : ℕ) × Member run cs ws p x
-  member (single h) = (h, refl)
-  member (pair p q g) = (member p .0, inl (member p .1))
+  -- a bracketing has a member, or is of empty lists alone
+  mutual
+    member : {op : ℕ → ℕ → Call} {c : ℕ} (p : Bracketing run cs ws op c) → ((x : ℕ) × Member run cs ws p x) ⊎ ((op ≡ meet) × Empty run cs ws p)
+    member (single h) = inl (h, refl)
+    member (pair p q d) = ⊎-elim
+    (λ i. inl (i .0, inl (i .1)))
+    (λ n. ⊎-elim (λ j. inl (j .0, inr (j .1))) (λ o. inr (n .0, λ x i. ⊎-elim (n .1 x) (o .1 x) i)) (member q))
+    (member p)
+    member (whole e ps d) = ⊎-elim (λ i. inl i) (λ n. inr (e, n)) (members ps)
 
-  meets-under : {c : ℕ} (p : Meets c) → AllPlain run cs ws p → (t : ℕ) → ((x : ℕ) → Member run cs ws p x → Isa run cs ws x t) → Isa run cs ws c t
-  meets-under {c} p f t k =
+    members : {op : ℕ → ℕ → Call} {hs : List ℕ} (ps : Bracketings run cs ws op hs) → ((x : ℕ) × Members run cs ws ps x) ⊎ ((x : ℕ) → Members run cs ws ps x → ⊥)
+    members none = inr (λ x i. i)
+    members (more p ps) = ⊎-elim
+    (λ i. inl (i .0, inl (i .1)))
+    (λ n. ⊎-elim (λ j. inl (j .0, inr (j .1))) (λ o. inr (λ x i. ⊎-elim (n .1 x) (o x) i)) (members ps))
+    (member p)
+
+  meets-under : {c : ℕ} (p : Meets c) → AllPlain run cs ws p → (t : ℕ) → (Empty run cs ws p → typesRows (t ∷ []) u ≡ 0) → ((x : ℕ) → Member run cs ws p x → Isa run cs ws x t) → Isa run cs ws c t
+  meets-under {c} p f t z k =
       let w = meets-whole p f in
-      let some = member p in
-      let vt = of-isa (some .0) t (k (some .0) (some .1)) .1 in
-      isa-of c t (w .type) vt (inl (w .memory)) (least _⊑_ ⊑-order (λ t. Unit {0}) (λ h f. tt) meet meet-step p f (T t) tt λ x i. of-isa x t (k x i) .2 (inl (fine (f x i) .memory)))
+      let vt : Typed u t = ⊎-elim (λ (some : (x : ℕ) × Member run cs ws p x). of-isa (some .0) t (k (some .0) (some .1)) .1) (λ n. one-part t u (S .good) (z (n .1))) (member p) in
+      isa-of c t (w .type) vt (inl (w .memory)) (least _⊑_ ⊑-order (λ t. Unit {0}) (λ h f. tt) meet meet-step list-step p f (T t) tt λ x i. of-isa x t (k x i) .2 (inl (fine (f x i) .memory)))
 
   joins-over : {c : ℕ} (p : Joins c) → AllPlain run cs ws p → (t : ℕ) → reaches u Fref t ≡ false → ((x : ℕ) → Member run cs ws p x → Isa run cs ws t x) → Isa run cs ws t c
   joins-over {c} p f t o k =
       let w = joins-whole p f in
-      let some = member p in
-      let vt = of-isa t (some .0) (k (some .0) (some .1)) .0 in
-      isa-of t c vt (w .type) (inr (w .memory)) (least (λ a b. b ⊑ a) (turn ⊑-order) NoFre (λ h f. f .forward) join join-step p f (T t) (no-fre (S .good) t vt o) λ x i. of-isa t x (k x i) .2 (inr (fine (f x i) .memory)))
+      let vt : Typed u t = ⊎-elim (λ (some : (x : ℕ) × Member run cs ws p x). of-isa t (some .0) (k (some .0) (some .1)) .0) (λ n. no-list (n .0)) (member p) in
+      isa-of t c vt (w .type) (inr (w .memory)) (least (λ a b. b ⊑ a) (turn ⊑-order) NoFre (λ h f. f .forward) join join-step (λ e. no-list e) p f (T t) (no-fre (S .good) t vt o) λ x i. of-isa t x (k x i) .2 (inr (fine (f x i) .memory)))
+
+  -- a list as a bracketing: each of its handles is a single type
+  singles : (hs : List ℕ) → Bracketings run cs ws meet hs
+  singles [] = none
+  singles (h ∷ hs) = more (single h) (singles hs)
+
+  singles-in : (hs : List ℕ) (x : ℕ) → Members run cs ws (singles hs) x ↔ In x hs
+  unfolding singles
+  singles-in [] x = ((λ i. i), λ i. i)
+  singles-in (h ∷ hs) x = let i = singles-in hs x in (⊎-map (λ e. e) (i .0), ⊎-map (λ e. e) (i .1))
+
+  one-list : (hs ks : List ℕ) (c d : ℕ) → Gave run cs ws (meet-list hs) c → Gave run cs ws (meet-list ks) d → ((x : ℕ) → In x hs → Plain run cs ws x) → ((x : ℕ) → In x hs ↔ In x ks) → c ≡ d
+  one-list hs ks c d g h f e =
+      one-handle _⊑_ ⊑-order (λ t. Unit {0}) (λ k l. tt) meet meet-step list-step (whole refl (singles hs) g) (whole refl (singles ks) h) (λ x i. f x (singles-in hs x .0 i))
+      (λ x. ((λ i. singles-in ks x .1 (e x .0 (singles-in hs x .0 i))), λ i. singles-in hs x .1 (e x .1 (singles-in ks x .0 i))))
 
   reverses : (a b a′ b′ : ℕ) → Plain run cs ws a → Plain run cs ws b → Gave run cs ws (dual a) a′ → Gave run cs ws (dual b) b′ → Isa run cs ws a b ↔ Isa run cs ws b′ a′
   reverses a b a′ b′ p q g h =
@@ -318,11 +402,12 @@ module _ (cs : List Call) (typed : allTyped cs ≡ true) (ws : List ℕ) (s : St
 
   pub laws : Laws run cs ws
   laws = record {
-    meets-agree = one-handle _⊑_ ⊑-order (λ t. Unit {0}) (λ h f. tt) meet meet-step;
-    meets-above = λ {c} p f x i. isa-of x c (fine (f x i) .type) (meets-whole p f .type) (inr (meets-whole p f .memory)) (bound _⊑_ ⊑-order (λ t. Unit {0}) (λ h f. tt) meet meet-step p f x i);
-    meets-least = λ {c} p f t k. meets-under p f t k;
-    joins-agree = one-handle (λ a b. b ⊑ a) (turn ⊑-order) NoFre (λ h f. f .forward) join join-step;
-    joins-below = λ {c} p f x i. isa-of c x (joins-whole p f .type) (fine (f x i) .type) (inl (joins-whole p f .memory)) (bound (λ a b. b ⊑ a) (turn ⊑-order) NoFre (λ h f. f .forward) join join-step p f x i);
+    meets-agree = one-handle _⊑_ ⊑-order (λ t. Unit {0}) (λ h f. tt) meet meet-step list-step;
+    meets-above = λ {c} p f x i. isa-of x c (fine (f x i) .type) (meets-whole p f .type) (inr (meets-whole p f .memory)) (bound _⊑_ ⊑-order (λ t. Unit {0}) (λ h f. tt) meet meet-step list-step p f x i);
+    meets-least = λ {c} p f t z k. meets-under p f t z k;
+    lists-agree = one-list;
+    joins-agree = one-handle (λ a b. b ⊑ a) (turn ⊑-order) NoFre (λ h f. f .forward) join join-step (λ e. no-list e);
+    joins-below = λ {c} p f x i. isa-of c x (joins-whole p f .type) (fine (f x i) .type) (inl (joins-whole p f .memory)) (bound (λ a b. b ⊑ a) (turn ⊑-order) NoFre (λ h f. f .forward) join join-step (λ e. no-list e) p f x i);
     joins-greatest = λ {c} p f t o k. joins-over p f t o k;
     dual-back = λ a b c p g h.
         let x = walked Dual (dual a) a b (λ vs. refl) g in

@@ -1,5 +1,6 @@
 pub mod Runs
 pub mod Accepted
+pub mod Lists
 pub mod Reaching
 pub mod Demand3
 pub mod Examples

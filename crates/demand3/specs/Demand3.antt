@@ -1,7 +1,7 @@
 -- Demand 3: the laws of every list of calls from a fresh store. The statement is `Demand3`, at the end; proofs/Demand3.antt proves it. `Call` and `run` (every_call/specs/Run.antt) are
 -- those that the contracts of the functions cite: "the makers of `Types`, meet, isa, dual, join, glb, lub, is_final and make_ro .. Each other call that takes a store joins the list when it
 -- lands".
--- The quoted words are document 01's, "Demand 3's list", unless another place is named.
+-- The quoted words are document 01's, "Demand 3's list", unless another place is named. The merge of a whole list is document 02's Slip 1.
 use mathlib.Core.Path.{_≡_}
 use mathlib.Core.Bool.{Bool, true, false, _||_}
 use mathlib.Core.Logic.{_⊎_, _↔_}
@@ -17,7 +17,7 @@ use Rattle.call.specs.Call.{Outcome, handle, flag}
 use Rattle.call.specs.Handles.{typesRows}
 use Rattle.words.specs.Columns.{word, kindOn}
 use Rattle.makers.specs.Makers.{freshCall}
-use Rattle.every_call.specs.Run.{Call, meet, isa, join, dual, glb, lub, make-ro, run, allTyped}
+use Rattle.every_call.specs.Run.{Call, meet, meet-list, isa, join, dual, glb, lub, make-ro, run, allTyped}
 
 -- ---- reaching: "A type reaches its own kind and all that its parts reach". `u` is the used words.
 
@@ -38,6 +38,11 @@ reachesWithin (suc n) u k h = eqb (kindOn u h) k || some (reachesWithin n u k) (
 -- whether the type at h reaches the kind k
 abbrev pub reaches : List ℕ → ℕ → ℕ → Bool
 reaches u k h = reachesWithin (suc h) u k h
+
+-- x is one of these
+abbrev pub In : ℕ → List ℕ → Type 0
+In x [] = ⊥
+In x (h ∷ hs) = (x ≡ h) ⊎ In x hs
 
 -- ---- lists of calls, of which each does what `does` says. The theorem is about `run`.
 
@@ -69,16 +74,29 @@ module _ (does : Call → List ℕ → Outcome) where
 
     -- "A bracketing is a single type, or an accepted meet of the list on the handles of two earlier bracketings .. Any calls may stand between. For joins likewise." The
     -- operation is meet or join, the index is the bracketing's handle. Which of the calls came first is not asked, so that more are bracketings; that a single
-    -- handle is a type is asked by `AllPlain` below.
-    pub data Bracketing (op : ℕ → ℕ → Call) : ℕ → Type 0 where
-      single : (h : ℕ) → Bracketing op h
-      pair : {a b c : ℕ} → Bracketing op a → Bracketing op b → Gave cs ws (op a b) c → Bracketing op c
+    -- handle is a type is asked by `AllPlain` below. An accepted merge of a whole list, of the handles of any number of bracketings, is a bracketing of meets too.
+    mutual
+      pub data Bracketing (op : ℕ → ℕ → Call) : ℕ → Type 0 where
+        single : (h : ℕ) → Bracketing op h
+        pair : {a b c : ℕ} → Bracketing op a → Bracketing op b → Gave cs ws (op a b) c → Bracketing op c
+        whole : {hs : List ℕ} {c : ℕ} → op ≡ meet → Bracketings op hs → Gave cs ws (meet-list hs) c → Bracketing op c
+
+      -- one for each handle of a list
+      pub data Bracketings (op : ℕ → ℕ → Call) : List ℕ → Type 0 where
+        none : Bracketings op []
+        more : {h : ℕ} {hs : List ℕ} → Bracketing op h → Bracketings op hs → Bracketings op (h ∷ hs)
 
     module _ {op : ℕ → ℕ → Call} where
-      -- "the types it is built from are its set": x is in it
-      abbrev pub Member : {c : ℕ} → Bracketing op c → ℕ → Type 0
-      Member (single h) x = x ≡ h
-      Member (pair p q g) x = Member p x ⊎ Member q x
+      -- "the types it is built from are its set": x is in it. That of a list is the sets of its bracketings together, and of the empty list empty.
+      abbrev mutual
+        pub Member : {c : ℕ} → Bracketing op c → ℕ → Type 0
+        Member (single h) x = x ≡ h
+        Member (pair p q g) x = Member p x ⊎ Member q x
+        Member (whole e ps g) x = Members ps x
+
+        pub Members : {hs : List ℕ} → Bracketings op hs → ℕ → Type 0
+        Members none x = ⊥
+        Members (more p ps) x = Member p x ⊎ Members ps x
 
       abbrev pub AllPlain : {c : ℕ} → Bracketing op c → Type 0
       AllPlain p = (x : ℕ) → Member p x → Plain x
@@ -87,13 +105,19 @@ module _ (does : Call → List ℕ → Outcome) where
       abbrev pub SameSet : {c d : ℕ} → Bracketing op c → Bracketing op d → Type 0
       SameSet p q = (x : ℕ) → Member p x ↔ Member q x
 
+      -- of empty lists alone
+      abbrev pub Empty : {c : ℕ} → Bracketing op c → Type 0
+      Empty p = (x : ℕ) → Member p x → ⊥
+
     pub record Laws : Type 0 where
-      -- bracketings of meets over one set have one handle
+      -- bracketings of meets over one set have one handle, single meets and merges of lists together
       pub meets-agree : {c d : ℕ} (p : Bracketing meet c) (q : Bracketing meet d) → AllPlain p → SameSet p q → c ≡ d
       -- each member isa it
       pub meets-above : {c : ℕ} (p : Bracketing meet c) → AllPlain p → (x : ℕ) → Member p x → Isa x c
-      -- and it isa every type, of whatever kinds, that all members are isa
-      pub meets-least : {c : ℕ} (p : Bracketing meet c) → AllPlain p → (t : ℕ) → ((x : ℕ) → Member p x → Isa x t) → Isa c t
+      -- and it isa every type, of whatever kinds, that all members are isa (that t is a type is asked where there is no member: else their isa says so)
+      pub meets-least : {c : ℕ} (p : Bracketing meet c) → AllPlain p → (t : ℕ) → (Empty p → typesRows (t ∷ []) finalWords ≡ 0) → ((x : ℕ) → Member p x → Isa x t) → Isa c t
+      -- document 02, Slip 1: "Accepted list calls on one set of types that reach no memory type and no forward reference, made one after another .. give one handle in any order of the list"
+      pub lists-agree : (hs ks : List ℕ) (c d : ℕ) → Gave cs ws (meet-list hs) c → Gave cs ws (meet-list ks) d → ((x : ℕ) → In x hs → Plain x) → ((x : ℕ) → In x hs ↔ In x ks) → c ≡ d
       -- bracketings of joins over one set have one handle
       pub joins-agree : {c d : ℕ} (p : Bracketing join c) (q : Bracketing join d) → AllPlain p → SameSet p q → c ≡ d
       -- it isa each member

@@ -14,7 +14,7 @@ ghost use lib.ListN.{length};
 ghost use Rattle.wellformed.specs.Form.{wellFormed};
 ghost use Rattle.makers.specs.Makers.{freshCall};
 ghost use Rattle.every_call.specs.Others.{structFieldsOutput, offsetsOutput};
-ghost use Rattle.every_call.specs.Run.{run, kind, get-bool, get-int, make-int, get-float, make-float, get-tuple, get-str, get-struct, make-ary, make-struct-fref, get-mem-ptr, get-mem, meet, isa, dual, join, glb, lub, is-final, make-ro, make-init, make-zero, non-zero, is-high, is-high-or-constant, is-constant, is-fref, log-size, int-min, int-max, int-value, int-mask, float-sz, float-is-f32, float-value, float-reading, struct-name, struct-fields, find, find-alias, is-ary, offset, offsets, ary-base, ary-scale};
+ghost use Rattle.every_call.specs.Run.{run, kind, get-bool, get-int, make-int, get-float, make-float, get-tuple, get-str, get-struct, make-ary, make-struct-fref, get-mem-ptr, get-mem, meet, meet-list, isa, dual, join, glb, lub, is-final, make-ro, make-init, make-zero, non-zero, is-high, is-high-or-constant, is-constant, is-fref, log-size, int-min, int-max, int-value, int-mask, float-sz, float-is-f32, float-value, float-reading, struct-name, struct-fields, find, find-alias, is-ary, offset, offsets, ary-base, ary-scale};
 ghost use Rattle.opened.specs.OpenStore.{OpenStore, openReply};
 ghost use Rattle.codes.specs.Code.{status, CodedDone, Coded, CodedWhich, CodedOpening};
 
@@ -157,6 +157,13 @@ pub extern "C" fn ferigulan_meet(words: &mut [u64], a: u64, b: u64, answer: &mut
     ensures { λ r. ⌜ Coded (run (meet a b) (now (words .entry))) r (now (words .exit)) (now (answer .entry)) (now (answer .exit)) ⌝ }
 {
     coded_calls::make(words, Making::Meet(a, b), answer)
+}
+
+#[no_mangle]
+pub extern "C" fn ferigulan_meet_list(words: &mut [u64], types: &[u64], answer: &mut u64) -> u32
+    ensures { λ r. ⌜ Coded (run (meet-list (now (types .entry))) (now (words .entry))) r (now (words .exit)) (now (answer .entry)) (now (answer .exit)) ⌝ }
+{
+    coded_calls::append(words, Making::MeetList, &*types, b"", answer)
 }
 
 #[no_mangle]
@@ -739,6 +746,21 @@ pub extern "C" fn ferigulan_opened_meet(
     ensures { λ _. ⌜ OpenStore (now (words .exit)) (now (index .exit)) (now (memory .exit)) ⌝ }
 {
     coded_calls::opened_append(words, index, memory, Making::Meet(a, b), &[], b"", answer)
+}
+
+#[no_mangle]
+pub extern "C" fn ferigulan_opened_meet_list(
+    words: &mut [u64],
+    index: &mut [u64],
+    memory: &mut [u64],
+    types: &[u64],
+    answer: &mut u64,
+) -> u32
+    requires { ⌜ OpenStore (now words) (now index) (now memory) ⌝ }
+    ensures { λ r. ⌜ Coded (run (meet-list (now (types .entry))) (now (words .entry))) r (now (words .exit)) (now (answer .entry)) (now (answer .exit)) ⌝ }
+    ensures { λ _. ⌜ OpenStore (now (words .exit)) (now (index .exit)) (now (memory .exit)) ⌝ }
+{
+    coded_calls::opened_meet_list(words, index, memory, &*types, answer)
 }
 
 #[no_mangle]
