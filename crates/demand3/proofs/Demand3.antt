@@ -247,11 +247,11 @@ module _ (cs : List Call) (typed : allTyped cs ≡ true) (ws : List ℕ) (s : St
       fine-of : {c : ℕ} (p : Bracketing run cs ws op c) → AllPlain run cs ws p → Fine c
       fine-of (single h) f = fine (f h refl)
       fine-of (pair {a} {b} {c} p q x) f = step a b c x (fine-of p λ y i. f y (inl i)) (fine-of q λ y i. f y (inr i)) .0
-      fine-of (whole {hs} {c} e ps x) f = lists e hs c x (each-fine ps f) .0
+      fine-of (whole {hs} {c} e ps x) f = lists e hs c x (λ k i. each-fine ps f k i) .0
 
-      each-fine : {hs : List ℕ} (ps : Bracketings run cs ws op hs) → ((x : ℕ) → Members run cs ws ps x → Plain run cs ws x) → (h : ℕ) → In h hs → Fine h
-      each-fine none f h i = absurd i
-      each-fine (more {k} {hs} p ps) f h i = ⊎-elim (λ (e : h ≡ k). rw e (fine-of p λ y j. f y (inl j))) (λ (j : In h hs). each-fine ps (λ y l. f y (inr l)) h j) i
+      each-fine : {hs : List ℕ} (ps : Bracketings run cs ws op hs) → ((x : ℕ) → Members run cs ws ps x → Plain run cs ws x) → (k : ℕ) → In k hs → Fine k
+      each-fine none f k i = absurd i
+      each-fine (more {h} {hs} p ps) f k i = ⊎-elim (λ (e : k ≡ h). rw e (fine-of p λ y j. f y (inl j))) (λ (j : In k hs). each-fine ps (λ y l. f y (inr l)) k j) i
 
     mutual
       bound : {c : ℕ} (p : Bracketing run cs ws op c) → AllPlain run cs ws p → (x : ℕ) → Member run cs ws p x → R (T x) (T c)
@@ -265,7 +265,7 @@ module _ (cs : List Call) (typed : allTyped cs ≡ true) (ws : List ℕ) (s : St
       -- the one of the list whose set x is in
       one-bound : {hs : List ℕ} (ps : Bracketings run cs ws op hs) → ((x : ℕ) → Members run cs ws ps x → Plain run cs ws x) → (x : ℕ) → Members run cs ws ps x → (h : ℕ) × In h hs × R (T x) (T h)
       one-bound none f x i = absurd i
-      one-bound (more {k} p ps) f x (inl i) = (k, inl refl, bound p (λ y j. f y (inl j)) x i)
+      one-bound (more {h} p ps) f x (inl i) = (h, inl refl, bound p (λ y j. f y (inl j)) x i)
       one-bound (more p ps) f x (inr i) = let b = one-bound ps (λ y j. f y (inr j)) x i in (b .0, inr (b .1), b .2)
 
     mutual
@@ -273,11 +273,11 @@ module _ (cs : List Call) (typed : allTyped cs ≡ true) (ws : List ℕ) (s : St
       least (single h) f t o k = k h refl
       least (pair {a} {b} {c} p q d) f t o k =
           step a b c d (fine-of p λ y j. f y (inl j)) (fine-of q λ y j. f y (inr j)) .3 t o (least p (λ y j. f y (inl j)) t o λ x i. k x (inl i)) (least q (λ y j. f y (inr j)) t o λ x i. k x (inr i))
-      least (whole {hs} {c} e ps d) f t o k = lists e hs c d (each-fine ps f) .2 t o (each-least ps f t o k)
+      least (whole {hs} {c} e ps d) f t o k = lists e hs c d (each-fine ps f) .2 t o (λ l i. each-least ps f t o k l i)
 
-      each-least : {hs : List ℕ} (ps : Bracketings run cs ws op hs) → ((x : ℕ) → Members run cs ws ps x → Plain run cs ws x) → (t : Ty) → P t → ((x : ℕ) → Members run cs ws ps x → R (T x) t) → (h : ℕ) → In h hs → R (T h) t
-      each-least none f t o k h i = absurd i
-      each-least (more {l} {hs} p ps) f t o k h i = ⊎-elim (λ (e : h ≡ l). rw e (least p (λ y j. f y (inl j)) t o λ x m. k x (inl m))) (λ (j : In h hs). each-least ps (λ y m. f y (inr m)) t o (λ x m. k x (inr m)) h j) i
+      each-least : {hs : List ℕ} (ps : Bracketings run cs ws op hs) → ((x : ℕ) → Members run cs ws ps x → Plain run cs ws x) → (t : Ty) → P t → ((x : ℕ) → Members run cs ws ps x → R (T x) t) → (l : ℕ) → In l hs → R (T l) t
+      each-least none f t o k l i = absurd i
+      each-least (more {h} {hs} p ps) f t o k l i = ⊎-elim (λ (e : l ≡ h). rw e (least p (λ y j. f y (inl j)) t o λ x m. k x (inl m))) (λ (j : In l hs). each-least ps (λ y m. f y (inr m)) t o (λ x m. k x (inr m)) l j) i
 
     one-handle : {c d : ℕ} (p : Bracketing run cs ws op c) (q : Bracketing run cs ws op d) → AllPlain run cs ws p → SameSet run cs ws p q → c ≡ d
     one-handle {c} {d} p q f e =
@@ -300,13 +300,16 @@ module _ (cs : List Call) (typed : allTyped cs ≡ true) (ws : List ℕ) (s : St
   abbrev Clean : Ty → Type 0
   Clean t = NoMem t × NoFre t
 
+  clean-meet : (a b c : Ty) → Meet a b c → Clean a → Clean b → Clean c
+  clean-meet a b c m p q = (meet-no-mem m (p .0) (q .0), meet-no-fre m (p .1) (q .1))
+
   list-step : _≡_ {A = ℕ → ℕ → Call} meet meet → (hs : List ℕ) (c : ℕ) → Gave run cs ws (meet-list hs) c → ((x : ℕ) → In x hs → Fine x) → Fine c × ((x : ℕ) → In x hs → T x ⊑ T c) × ((t : Ty) → Unit {0} → ((x : ℕ) → In x hs → T x ⊑ t) → T c ⊑ t)
   list-step e hs c g f =
       let r = ran (meet-list hs) (meetListRows hs) (meetListOf hs) c (λ vs. refl) (λ v good q. meet-list-given hs v good q .adds) g in
       let parts = list-parts hs (r .v) (r .store .good) (r .none) in
       let out = gone r (meet-list-given hs (r .v) (r .store .good) (r .none)) in
-      let b = list-bound Clean (λ p. p .0) (λ m p q. (meet-no-mem m (p .0) (q .0), meet-no-fre m (p .1) (q .1))) (lhi, lhi) hs (r .v) (r .store) (among r hs parts f) in
-      let at = λ x i. came r x (part-of hs parts x i) .1 in (
+      let b = list-bound Clean (λ t p. p .0) clean-meet (lhi, lhi) hs (r .v) (r .store) (among r hs parts f) in
+      let at : (x : ℕ) → In x hs → T x ≡ treeOn (r .v) x = λ x i. came r x (part-of hs parts x i) .1 in (
         record { type = out .0; memory = rw (out .1) (b .known .0); forward = rw (out .1) (b .known .1) },
         λ x i. rw (at x i, out .1) (b .each x i),
         λ t o k. rw (out .1) (b .least t (rw (top-tree (r .v) (r .store .good)) (up any)) (λ x i. rw (at x i) at (k x i))),
@@ -316,12 +319,13 @@ module _ (cs : List Call) (typed : allTyped cs ≡ true) (ws : List ℕ) (s : St
       part-of [] ps x i = absurd i
       part-of (k ∷ ks) ps x i = ⊎-elim (λ (e : x ≡ k). rw e (ps .0)) (λ (j : In x ks). part-of ks (ps .1) x j) i
 
-      among : {rows : List ℕ → ℕ} {op : List ℕ → Grown} {c : ℕ} (r : Ran rows op c) (ks : List ℕ) → All (Typed (r .v)) ks → ((x : ℕ) → In x ks → Fine x) → All (Among Clean (λ p. p .0) (λ m p q. (meet-no-mem m (p .0) (q .0), meet-no-fre m (p .1) (q .1))) (r .v)) ks
+      among : {rows : List ℕ → ℕ} {op : List ℕ → Grown} {c : ℕ} (r : Ran rows op c) (ks : List ℕ) → All (Typed (r .v)) ks → ((x : ℕ) → In x ks → Fine x) → All (Among Clean (λ t p. p .0) clean-meet (r .v)) ks
       among r [] ps f = tt
       among r (k ∷ ks) ps f =
           let e = came r k (ps .0) .1 in
           let x = f k (inl refl) in
-          (record { type = ps .0; known = rw e at (x .memory, x .forward) }, among r ks (ps .1) (λ y i. f y (inr i)))
+          let clean : Clean (T k) = (x .memory, x .forward) in
+          (record { type = ps .0; known = rw e at clean }, among r ks (ps .1) (λ y i. f y (inr i)))
 
   -- no list of joins is merged by one call
   no-list : {X : Type 0} → _≡_ {A = ℕ → ℕ → Call} join meet → X
@@ -349,18 +353,14 @@ module _ (cs : List Call) (typed : allTyped cs ≡ true) (ws : List ℕ) (s : St
   mutual
     member : {op : ℕ → ℕ → Call} {c : ℕ} (p : Bracketing run cs ws op c) → ((x : ℕ) × Member run cs ws p x) ⊎ ((op ≡ meet) × Empty run cs ws p)
     member (single h) = inl (h, refl)
-    member (pair p q d) = ⊎-elim
-    (λ i. inl (i .0, inl (i .1)))
-    (λ n. ⊎-elim (λ j. inl (j .0, inr (j .1))) (λ o. inr (n .0, λ x i. ⊎-elim (n .1 x) (o .1 x) i)) (member q))
-    (member p)
+    member (pair p q d) =
+        ⊎-elim (λ i. inl (i .0, inl (i .1))) (λ n. ⊎-elim (λ j. inl (j .0, inr (j .1))) (λ o. inr (n .0, λ x i. ⊎-elim (n .1 x) (o .1 x) i)) (member q)) (member p)
     member (whole e ps d) = ⊎-elim (λ i. inl i) (λ n. inr (e, n)) (members ps)
 
     members : {op : ℕ → ℕ → Call} {hs : List ℕ} (ps : Bracketings run cs ws op hs) → ((x : ℕ) × Members run cs ws ps x) ⊎ ((x : ℕ) → Members run cs ws ps x → ⊥)
     members none = inr (λ x i. i)
-    members (more p ps) = ⊎-elim
-    (λ i. inl (i .0, inl (i .1)))
-    (λ n. ⊎-elim (λ j. inl (j .0, inr (j .1))) (λ o. inr (λ x i. ⊎-elim (n .1 x) (o x) i)) (members ps))
-    (member p)
+    members (more p ps) =
+        ⊎-elim (λ i. inl (i .0, inl (i .1))) (λ n. ⊎-elim (λ j. inl (j .0, inr (j .1))) (λ o. inr (λ x i. ⊎-elim (n .1 x) (o x) i)) (members ps)) (member p)
 
   meets-under : {c : ℕ} (p : Meets c) → AllPlain run cs ws p → (t : ℕ) → (Empty run cs ws p → typesRows (t ∷ []) u ≡ 0) → ((x : ℕ) → Member run cs ws p x → Isa run cs ws x t) → Isa run cs ws c t
   meets-under {c} p f t z k =

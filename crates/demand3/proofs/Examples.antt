@@ -29,7 +29,8 @@ use Rattle.walk.specs.Walk.{walkEach, followForm, walkWithin}
 use Rattle.finals.specs.Final.{allFinal, isFinalWithin}
 use Rattle.make_ro.specs.ReadOnly.{readOnlyEach, makeRoWithin}
 use Rattle.every_call.specs.Ty.{meetCall}
-use Rattle.every_call.specs.Run.{Call, make-int, get-str, get-struct, make-struct-fref, get-mem, meet, join, dual, glb, lub, make-ro, runWith, run, allTyped}
+use Rattle.every_call.specs.Run.{Call, make-int, get-str, get-struct, make-struct-fref, get-mem, meet, meet-list, join, dual, glb, lub, make-ro, runWith, run, allTyped}
+use Rattle.every_call.specs.MeetList.{meetListRows, mergeFrom}
 use Rattle.demand3.specs.Demand3.{some, reachesWithin, leaves, Gave, Isa, Plain, Bracketing, single, pair, Laws}
 use Rattle.demand3.proofs.Demand3.{demand3}
 
@@ -167,6 +168,14 @@ memories = get-mem 1 6 ∷ get-mem 2 6 ∷ meet 94 97 ∷ meet 76 94 ∷ []
 pub memory-outside : Gave run memories start (meet 94 97) 76 × Gave run memories start (meet 76 94) 94
 unfolding call wellFormed okEntries okRows okEntry allZero headsAt nowhere also mostOf every namesIn typesIn all deepest floatOk zeroFilled valuesOk fills eqs rows entries sizeOf wordsAfter freshWords freshCall make findIn firstOf isAt typesRows partRows meetWithin follow ruleFor pairRule
 memory-outside = (inr (inr (inl (refl, refl))), inr (inr (inr (inl (refl, refl)))))
+
+-- the same of lists: that of 94 and 97 is 76, and with 94 once more behind them it is 94
+abbrev memory-lists : List Call
+memory-lists = get-mem 1 6 ∷ get-mem 2 6 ∷ meet-list (94 ∷ 97 ∷ []) ∷ meet-list (94 ∷ 97 ∷ 94 ∷ []) ∷ []
+
+pub memory-lists-outside : Gave run memory-lists start (meet-list (94 ∷ 97 ∷ [])) 76 × Gave run memory-lists start (meet-list (94 ∷ 97 ∷ 94 ∷ [])) 94
+unfolding call wellFormed okEntries okRows okEntry allZero headsAt nowhere also mostOf every namesIn typesIn all deepest floatOk zeroFilled valuesOk fills eqs rows entries sizeOf wordsAfter freshWords freshCall make findIn firstOf isAt typesRows partRows meetListRows mergeFrom meetWithin follow ruleFor pairRule
+memory-lists-outside = (inr (inr (inl (refl, refl))), inr (inr (inr (inl (refl, refl)))))
 
 -- ---- forward references: the name X is 94, its forward reference 96, the struct X without fields 98; each of the two is its own dual, 96 isa 98, and 98 is not isa 96
 

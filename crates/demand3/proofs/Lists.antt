@@ -29,7 +29,7 @@ top-tree u g =
     looks g 6 2 (top-in u g) k
 
 -- P is what is known of every tree of the list: that it has no memory type, at least, and that meets keep it
-module _ (P : Ty → Type 0) (no-mem : {t : Ty} → P t → NoMem t) (closed : {a b c : Ty} → Meet a b c → P a → P b → P c) where
+module _ (P : Ty → Type 0) (no-mem : (t : Ty) → P t → NoMem t) (closed : (a b c : Ty) → Meet a b c → P a → P b → P c) where
   pub record Among (u : List ℕ) (h : ℕ) : Type 0 where
     pub type : Typed u h
     pub known : P (treeOn u h)
@@ -48,12 +48,12 @@ module _ (P : Ty → Type 0) (no-mem : {t : Ty} → P t → NoMem t) (closed : {
       let g = meetOf u t h in
       let n = suc (max t h) in
       let given = met u t h (D .good) (a .type) (bs .0 .type) in
-      let m : Meet (treeOn u t) (treeOn u h) (treeOn (g .words) (g .handle)) = meet-right n u t h D (part-below n (omega arith) (a .type)) (part-below n (omega arith) (bs .0 .type)) (inl (no-mem (a .known))) in
+      let m : Meet (treeOn u t) (treeOn u h) (treeOn (g .words) (g .handle)) = meet-right n u t h D (part-below n (omega arith) (a .type)) (part-below n (omega arith) (bs .0 .type)) (inl (no-mem (treeOn u t) (a .known))) in
       let good = good-adds (D .good) (given .adds) in
       let on = onward-adds (given .adds) in
       let now : (x : ℕ) → Among u x → Among (g .words) x = λ x b. record { type = still (D .good) good on x (b .type); known = rw (kept (D .good) good on x (b .type)) (b .known) } in
-      let b = merge-bound (g .handle) hs (g .words) (grown D (given .adds)) (record { type = given .part; known = closed m (a .known) (bs .0 .known) }) (all-map now hs (bs .1)) in
-      let same = keeps hs (bs .1) (λ x c. kept (D .good) good on x (c .type)) in
+      let b = merge-bound (g .handle) hs (g .words) (grown D (given .adds)) (record { type = given .part; known = closed (treeOn u t) (treeOn u h) (treeOn (g .words) (g .handle)) m (a .known) (bs .0 .known) }) (all-map now hs (bs .1)) in
+      let same = keeps (g .words) hs (bs .1) (λ x c. kept (D .good) good on x (c .type)) in
       record {
         known = b .known;
         first = ⊑-trans (m .left) (b .first);
@@ -61,9 +61,9 @@ module _ (P : Ty → Type 0) (no-mem : {t : Ty} → P t → NoMem t) (closed : {
         least = λ s p q. b .least s (m .least p (q h (inl refl))) (λ x j. rw (same x j) (q x (inr j)));
       }
     where
-      keeps : (ks : List ℕ) → All (Among u) ks → {w : List ℕ} → ((x : ℕ) → Among u x → treeOn w x ≡ treeOn u x) → (x : ℕ) → In x ks → treeOn w x ≡ treeOn u x
-      keeps [] cs f x i = absurd i
-      keeps (k ∷ ks) cs f x i = ⊎-elim (λ (e : x ≡ k). rw e (f k (cs .0))) (λ (j : In x ks). keeps ks (cs .1) f x j) i
+      keeps : (w ks : List ℕ) → All (Among u) ks → ((x : ℕ) → Among u x → treeOn w x ≡ treeOn u x) → (x : ℕ) → In x ks → treeOn w x ≡ treeOn u x
+      keeps w [] cs f x i = absurd i
+      keeps w (k ∷ ks) cs f x i = ⊎-elim (λ (e : x ≡ k). rw e (f k (cs .0))) (λ (j : In x ks). keeps w ks (cs .1) f x j) i
 
   -- of a whole list, from Top on
   pub list-bound : P (hi all) → (hs u : List ℕ) → Distinct u → All (Among u) hs → Bound u 6 hs (meetListOf hs u)

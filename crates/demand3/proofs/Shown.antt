@@ -1,5 +1,5 @@
 -- Every law of demand 3, once and in the order of the record `Laws`, on one list of calls from a fresh store of 200 words. Three Ints are merged by meets and by joins: nested, turned round with
--- one of them repeated, and nested the other way. The list is computed; each lemma whose name ends in "shown" is what the theorem says of it, in numbers. Assumes nothing.
+-- one of them repeated, and nested the other way; and by merges of lists. The list is computed; each lemma whose name ends in "shown" is what the theorem says of it, in numbers. Assumes nothing.
 use mathlib.Core.Path.{_≡_, refl}
 use mathlib.Core.Bool.{true, false}
 use mathlib.Core.Logic.{_⊎_, inl, inr, _↔_}
@@ -27,8 +27,9 @@ use Rattle.walk_rules.specs.Tables.{formFor}
 use Rattle.walk.specs.Walk.{followForm, walkWithin}
 use Rattle.finals.specs.Final.{allFinal, isFinalWithin}
 use Rattle.make_ro.specs.ReadOnly.{readOnlyEach, makeRoWithin}
-use Rattle.every_call.specs.Run.{Call, make-int, get-str, get-struct, meet, isa, join, dual, glb, lub, make-ro, run, allTyped}
-use Rattle.demand3.specs.Demand3.{some, reachesWithin, reaches, leaves, Gave, Isa, Plain, Bracketing, single, pair, AllPlain, SameSet, Laws}
+use Rattle.every_call.specs.Run.{Call, make-int, get-str, get-struct, meet, meet-list, isa, join, dual, glb, lub, make-ro, run, allTyped}
+use Rattle.every_call.specs.MeetList.{meetListRows, mergeFrom}
+use Rattle.demand3.specs.Demand3.{some, reachesWithin, reaches, leaves, Gave, Isa, Plain, Bracketing, single, pair, whole, none, more, AllPlain, SameSet, Laws}
 use Rattle.demand3.proofs.Demand3.{demand3}
 
 abbrev lent : List ℕ
@@ -54,7 +55,9 @@ calls =
     -- the duals of a, of that dual and of 0..20; lub and glb of a
     dual 94 ∷ dual 112 ∷ dual 106 ∷ lub 94 ∷ glb 94 ∷
     -- the name X, the struct X with one field of type a that is not final, and its read-only form
-    get-str (88 ∷ []) ∷ get-struct 142 (142 ∷ 94 ∷ 0 ∷ 0 ∷ []) ∷ make-ro 144 ∷ []
+    get-str (88 ∷ []) ∷ get-struct 142 (142 ∷ 94 ∷ 0 ∷ 0 ∷ []) ∷ make-ro 144 ∷
+    -- merges of lists: c, a, b and a again; a, b and c; a ∧ b and c; and of no type
+    meet-list (100 ∷ 94 ∷ 97 ∷ 94 ∷ []) ∷ meet-list (94 ∷ 97 ∷ 100 ∷ []) ∷ meet-list (103 ∷ 100 ∷ []) ∷ meet-list [] ∷ []
 
 -- call by call
 abbrev given : List Reply
@@ -70,7 +73,9 @@ given =
     handle 136 ∷ handle 130 ∷
     -- 9..0 is 112, 20..0 is 139
     handle 112 ∷ handle 94 ∷ handle 139 ∷ handle 22 ∷ handle 25 ∷
-    handle 142 ∷ handle 144 ∷ handle 149 ∷ []
+    handle 142 ∷ handle 144 ∷ handle 149 ∷
+    -- 0..20 three times, and Top
+    handle 106 ∷ handle 106 ∷ handle 106 ∷ handle 6 ∷ []
 
 -- the Ints from 94 on, the name X at 142, the structs at 144 and 149
 abbrev store : List ℕ
@@ -90,7 +95,7 @@ answers (c ∷ cs) ws = run c ws .reply ∷ answers cs (run c ws .words)
 
 -- the list is computed once, here
 computed : (answers calls start ≡ given) × (leaves run calls start ≡ store)
-unfolding answers leaves call wellFormed okEntries okRows okEntry allZero headsAt also mostOf every namesIn typesIn all deepest floatOk zeroFilled valuesOk fills eqs rows entries sizeOf wordsAfter freshWords freshCall make findIn firstOf isAt typesRows structRows ofBytes packed nameEntry fieldWords meetWithin follow ruleFor pairRule walkWithin followForm formFor remake fieldsWith makeRoWithin readOnlyEach isFinalWithin allFinal
+unfolding answers leaves call wellFormed okEntries okRows okEntry allZero headsAt also mostOf every namesIn typesIn all deepest floatOk zeroFilled valuesOk fills eqs rows entries sizeOf wordsAfter freshWords freshCall make findIn firstOf isAt typesRows structRows ofBytes packed nameEntry fieldWords meetWithin follow ruleFor pairRule walkWithin followForm formFor remake fieldsWith makeRoWithin readOnlyEach isFinalWithin allFinal meetListRows mergeFrom
 computed = (refl, refl)
 
 -- the call behind n others is c, and the answer behind n others is h
@@ -122,6 +127,9 @@ joined = (gave 10 (refl, refl), gave 11 (refl, refl), gave 12 (refl, refl), gave
 pub others : Gave run calls start (dual 94) 112 × Gave run calls start (dual 112) 94 × Gave run calls start (dual 106) 139
     × Gave run calls start (lub 94) 22 × Gave run calls start (glb 94) 25 × Gave run calls start (make-ro 144) 149
 others = (gave 17 (refl, refl), gave 18 (refl, refl), gave 19 (refl, refl), gave 20 (refl, refl), gave 21 (refl, refl), gave 24 (refl, refl))
+
+pub listed : Gave run calls start (meet-list (100 ∷ 94 ∷ 97 ∷ 94 ∷ [])) 106 × Gave run calls start (meet-list (94 ∷ 97 ∷ 100 ∷ [])) 106 × Gave run calls start (meet-list (103 ∷ 100 ∷ [])) 106 × Gave run calls start (meet-list []) 6
+listed = (gave 25 (refl, refl), gave 26 (refl, refl), gave 27 (refl, refl), gave 28 (refl, refl))
 
 plain-in : (h : ℕ) → typesRows (h ∷ []) (usedWords store) ≡ 0 → reaches (usedWords store) Mem h ≡ false → reaches (usedWords store) Fref h ≡ false → Plain run calls start h
 plain-in h type memory forward = record { type = rw (computed .1) type; memory = rw (computed .1) memory; forward = rw (computed .1) forward }
@@ -199,7 +207,47 @@ meets-above-shown = (laws .meets-above meets meets-plain 94 (inl (inl refl)), la
 -- 0..20 isa 0..255, because 0..9, 1..12 and 2..20 do
 pub meets-least-shown : Isa run calls start 106 40
 unfolding meets
-meets-least-shown = laws .meets-least meets meets-plain 40 (each (λ x. Isa run calls start x 40) (bounds .0) (bounds .1) (bounds .2))
+meets-least-shown = laws .meets-least meets meets-plain 40 (λ none-in. absurd (none-in 94 (inl (inl refl)))) (each (λ x. Isa run calls start x 40) (bounds .0) (bounds .1) (bounds .2))
+
+-- ---- merges of lists
+
+-- c, a, b and a again: each is a bracketing by itself
+pub list : Bracketing run calls start meet 106
+list = whole refl (more (single 100) (more (single 94) (more (single 97) (more (single 94) none)))) (listed .0)
+
+-- its members are those of (a b) c
+list-same : (x : ℕ) → (((x ≡ 94) ⊎ (x ≡ 97)) ⊎ (x ≡ 100)) ↔ ((x ≡ 100) ⊎ ((x ≡ 94) ⊎ ((x ≡ 97) ⊎ ((x ≡ 94) ⊎ ⊥))))
+list-same x = (
+  elim [ inl (inl e) ↦ inr (inl e) | inl (inr e) ↦ inr (inr (inl e)) | inr e ↦ inl e ],
+  elim [ inl e ↦ inr e | inr (inl e) ↦ inl (inl e) | inr (inr (inl e)) ↦ inl (inr e) | inr (inr (inr (inl e))) ↦ inl (inl e) | inr (inr (inr (inr z))) ↦ absurd z ],
+)
+
+-- lists and single meets together: both are 0..20
+pub meets-agree-listed : _≡_ {A = ℕ} 106 106
+unfolding meets list
+meets-agree-listed = laws .meets-agree meets list meets-plain list-same
+
+-- a list of which one is a meet: (a ∧ b) and c; so is every handle that this call gave
+pub meets-agree-nested : (h : ℕ) → Gave run calls start (meet-list (103 ∷ 100 ∷ [])) h → 106 ≡ h
+unfolding meets
+meets-agree-nested h g = laws .meets-agree meets (whole refl (more (pair (single 94) (single 97) (met .0)) (more (single 100) none)) g) meets-plain (λ x. (
+  elim [ inl e ↦ inl e | inr e ↦ inr (inl e) ],
+  elim [ inl e ↦ inl e | inr (inl e) ↦ inr e | inr (inr z) ↦ absurd z ],
+))
+
+-- of no type: Top, which isa every type
+pub meets-least-empty : Isa run calls start 6 40
+unfolding typesRows rows entries sizeOf wordsAfter freshWords nameEntry packed isAt every all
+meets-least-empty = laws .meets-least (whole refl none (listed .3)) (λ x i. absurd i) 40 (λ z. rw (computed .1) refl) (λ x i. absurd i)
+
+-- two lists of one set: every handle that the second gave is 0..20
+pub lists-agree-shown : (h : ℕ) → Gave run calls start (meet-list (94 ∷ 97 ∷ 100 ∷ [])) h → 106 ≡ h
+lists-agree-shown h g = laws .lists-agree (100 ∷ 94 ∷ 97 ∷ 94 ∷ []) (94 ∷ 97 ∷ 100 ∷ []) 106 h (listed .0) g
+    (λ x i. each (Plain run calls start) (plain .0) (plain .1) (plain .2) x (list-same x .1 i))
+    (λ x. (
+      elim [ inl e ↦ inr (inr (inl e)) | inr (inl e) ↦ inl e | inr (inr (inl e)) ↦ inr (inl e) | inr (inr (inr (inl e))) ↦ inl e | inr (inr (inr (inr z))) ↦ absurd z ],
+      elim [ inl e ↦ inr (inl e) | inr (inl e) ↦ inr (inr (inl e)) | inr (inr (inl e)) ↦ inl e | inr (inr (inr z)) ↦ absurd z ],
+    ))
 
 -- ---- joins
 

@@ -53,7 +53,7 @@ pub fn mark_new(words: &[u64], from: usize, index: &mut [u64])
     requires { ⌜ Unmarked (now words) from (now index) ⌝ }
     ensures { λ _. ⌜ IndexOf (now (words .entry)) (now (index .exit)) ⌝ }
 {
-    let used = words[0] as usize;
+    let end = words[0] as usize;
     let k = marks_size(words.len());
-    mark_from(&*words, from, used, &mut index[..k]);
+    mark_from(&*words, from, end, &mut index[..k]);
 }

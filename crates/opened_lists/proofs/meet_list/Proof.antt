@@ -37,7 +37,7 @@ same-length-2 c = search needs
 returns : tie.Need-returns
 returns c =
     let s = c .before .before .before .before .before .before .before .before .before .before in
-    (turned (meetListRows (s .args .types .now)) (meetListOf (s .args .types .now)) _ _ (used-is _ (s .pre .well)) (used-some _ (s .pre .well)) _ (c .before .list-rows .ensures) (c .if1 .taken), s .pre)
+    (turned (meetListRows (s .args .types .now)) (meetListOf (s .args .types .now)) _ _ (used-is _ (s .pre .well)) (used-some _ (s .pre .well)) _ (c .before .list-rows .ensures) (λ z. omega (arith, z, c .if1 .taken)), s .pre)
 
 mul-merge : tie.Need-mul-merge
 mul-merge c = search needs

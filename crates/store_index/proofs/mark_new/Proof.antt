@@ -5,8 +5,8 @@ use borrow.Author.Needs.{needs}
 use Rattle.store_index.proofs.mark_new.Statement.{statement}
 use Rattle.store_index.proofs.mark_new.Tie as tie
 
-shared-slice-read-used : tie.Need-shared-slice-read-used
-shared-slice-read-used c = first-word _ (c .before .before .before .pre .0)
+shared-slice-read-end : tie.Need-shared-slice-read-end
+shared-slice-read-end c = first-word _ (c .before .before .before .pre .0)
 
 marks-size-requires : tie.Need-marks-size-requires
 marks-size-requires c κs = few-words _ (c .before .before .before .pre .0)
@@ -33,7 +33,7 @@ pub mark-new-spec : {M : Type 1} → statement M
 mark-new-spec =
     tie.close
     (tie.spec
-    shared-slice-read-used
+    shared-slice-read-end
     marks-size-requires
     slice-relend-prefix-mark-from
     slice-aggregate-mark-from
