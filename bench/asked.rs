@@ -73,7 +73,7 @@ fn maker(of: &'static Function, built: &Built, h: u64) -> Call {
     }
 }
 
-// Every call of document 01 but fresh, and kind.
+// Every call of document 01 but fresh, kind, and the merge of a list.
 pub static GROUPS: [(&str, &[&Function]); 5] = [
     (
         "makers",
@@ -92,7 +92,7 @@ pub static GROUPS: [(&str, &[&Function]); 5] = [
             &of::get_mem,
         ],
     ),
-    ("operations", &[&of::meet, &of::isa, &of::join, &of::dual, &of::glb, &of::lub, &of::is_final, &of::make_ro]),
+    ("operations", &[&of::meet, &of::meet_list, &of::isa, &of::join, &of::dual, &of::glb, &of::lub, &of::is_final, &of::make_ro]),
     (
         "told of types",
         &[
@@ -144,6 +144,11 @@ fn on_couples(of: &'static Function, couples: &[(u64, u64)]) -> Vec<Call> {
     couples.iter().map(|(a, b)| Call::new(of, &[*a, *b])).collect()
 }
 
+// Lists of six, as of a block that is entered from six places, of which three agree.
+fn on_lists(of: &'static Function, couples: &[(u64, u64)]) -> Vec<Call> {
+    couples.iter().map(|(a, b)| Call::with_list(of, &[], &[*a, *b, *a, *b, *a, *b])).collect()
+}
+
 fn on_structs(of: &'static Function, f: &Family, structs: &[(u64, u64)]) -> Vec<Call> {
     structs.iter().map(|(s, n)| about(of, &f.p.built, *s, *n)).collect()
 }
@@ -155,6 +160,7 @@ fn there(group: &str, of: &'static Function, f: &Family) -> Vec<Call> {
         "get_bool" => on_types(of, &[0, 1]),
         "isa" => on_couples(of, &f.assigned()),
         "meet" | "join" => on_couples(of, &f.couples()),
+        "meet_list" => on_lists(of, &f.couples()),
         "make_zero" => numbers(|_, x| vec![x.int, x.float, x.pointer]),
         "log_size" => numbers(|_, x| vec![x.constant, x.float, x.pointer]),
         "is_fref" => {

@@ -129,6 +129,7 @@ mod first {
 }
 
 #[cfg(told)]
+#[cfg_attr(not(lists), allow(dead_code))]
 mod others {
     use super::*;
     functions! {
@@ -163,8 +164,19 @@ mod others {
     }
 }
 
+#[cfg(lists)]
+mod lists {
+    use super::*;
+    functions! {
+        no (a b c d list text lent)
+        meet_list "meet_list" 0 Number *mut u64: (types: *const u64 = list.as_ptr(), len: usize = list.len());
+    }
+}
+
 pub mod of {
     pub use super::first::*;
+    #[cfg(lists)]
+    pub use super::lists::*;
     #[cfg(told)]
     pub use super::others::*;
 }

@@ -1,7 +1,7 @@
 // What the calls cost: see README.md. [--rust ORACLE] [PART..] runs all parts but growth, or the named ones.
-#[cfg(all(opened, told))]
+#[cfg(all(opened, told, lists))]
 mod agree;
-#[cfg(all(opened, told))]
+#[cfg(all(opened, told, lists))]
 mod asked;
 mod beside;
 #[cfg(opened)]
@@ -9,8 +9,10 @@ mod built;
 mod calls;
 mod clock;
 mod functions;
-#[cfg(all(opened, told))]
+#[cfg(all(opened, told, lists))]
 mod growth;
+#[cfg(all(opened, lists))]
+mod lists;
 #[cfg(opened)]
 mod measure;
 #[cfg(opened)]
@@ -20,22 +22,22 @@ mod opened;
 #[cfg(opened)]
 mod operands;
 mod plain;
-#[cfg(all(opened, told))]
+#[cfg(all(opened, told, lists))]
 mod program;
-#[cfg(all(opened, told))]
+#[cfg(all(opened, told, lists))]
 mod row1;
 #[cfg(opened)]
 mod script;
 #[cfg(search)]
 mod search;
-#[cfg(all(opened, told))]
+#[cfg(all(opened, told, lists))]
 mod sets;
 mod stores;
 #[cfg(all(opened, told))]
 mod told;
 mod towers;
 
-const PARTS: [&str; 8] = ["makers", "operations", "opened", "told", "beside", "towers", "search", "growth"];
+const PARTS: [&str; 9] = ["makers", "operations", "opened", "told", "lists", "beside", "towers", "search", "growth"];
 
 fn run(part: &str, oracle: Option<&str>) {
     match part {
@@ -49,6 +51,10 @@ fn run(part: &str, oracle: Option<&str>) {
         "told" => told::tables(oracle),
         #[cfg(not(all(opened, told)))]
         "told" => eprintln!("what is told of types: left out, the library has no such calls"),
+        #[cfg(all(opened, lists))]
+        "lists" => lists::table(oracle),
+        #[cfg(not(all(opened, lists)))]
+        "lists" => eprintln!("lists: left out, the library merges none"),
         "beside" => match calls::OLD {
             Some(old) => beside::table(old),
             None => eprintln!("old beside new: left out, no old library was linked"),
@@ -58,9 +64,9 @@ fn run(part: &str, oracle: Option<&str>) {
         "search" => search::table(),
         #[cfg(not(search))]
         "search" => eprintln!("the search: left out, its library was not built"),
-        #[cfg(all(opened, told))]
+        #[cfg(all(opened, told, lists))]
         "growth" => growth::measure(oracle),
-        #[cfg(not(all(opened, told)))]
+        #[cfg(not(all(opened, told, lists)))]
         "growth" => {
             eprintln!("growth: the library has not all calls");
             std::process::exit(1)

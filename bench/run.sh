@@ -1,5 +1,5 @@
 #!/bin/sh
-# run.sh [PART..]: builds the static libraries, the benchmark and the oracle, and runs the named parts, or all but the last: makers, operations, opened, told,
+# run.sh [PART..]: builds the static libraries, the benchmark and the oracle, and runs the named parts, or all but the last: makers, operations, opened, told, lists,
 # beside, towers, search, growth. It needs rustc beside the Rattle kit, cargo for the oracle, and nm and objcopy for an old library.
 #   OLD=ARCHIVE   an older liblattice_c.a, measured beside the new one
 #   ONE_WORD=1    the old library's functions return one word, the answer or 2 to the 63 and the refusal's number, and are lent none
@@ -42,6 +42,13 @@ if ! command -v nm >/dev/null || defined "$libs/libnew.a" | grep -qx ferigulan_o
     flags="$flags --cfg told"
 else
     echo "run.sh: the library has no ferigulan_opened_offsets, the tables of what is told of types are left out" >&2
+fi
+
+# and whether it merges whole lists
+if ! command -v nm >/dev/null || defined "$libs/libnew.a" | grep -qx ferigulan_opened_meet_list; then
+    flags="$flags --cfg lists"
+else
+    echo "run.sh: the library has no ferigulan_opened_meet_list, the table of lists is left out" >&2
 fi
 
 # whether a part is to be run: all but growth are where none is named

@@ -61,6 +61,17 @@ static uint64_t merge(uint64_t a, uint64_t b)
     return merged;
 }
 
+/* A block that is entered from k places: the counter at each of them, merged by one call. Where it is refused, nothing
+   of it is left in the store. */
+static void merge_all(const uint64_t *types, size_t k)
+{
+    uint64_t merged = 0;
+    must(ferigulan_meet_list(words, WORDS, types, k, &merged), "meet_list");
+    printf("%d places merged at once: ", (int)k);
+    print_int(merged);
+    printf(", handle %" PRIu64 "\n", merged);
+}
+
 static void ask(uint64_t a, uint64_t b)
 {
     uint64_t yes = 0;
@@ -128,12 +139,19 @@ static void merge_opened(uint64_t a, uint64_t b)
 
 int main(void)
 {
-    uint64_t counter, eight, merged;
+    uint64_t counter, eight, merged, places[6];
     must(ferigulan_fresh(words, WORDS), "fresh");
     counter = range(0, 7);
     eight = range(8, 8);
     merged = merge(counter, eight);
     merge(eight, counter);
+    places[0] = eight;
+    places[1] = FERIGULAN_INT_TWO;
+    places[2] = FERIGULAN_INT_BOOL;
+    places[3] = counter;
+    places[4] = FERIGULAN_INT_ONE;
+    places[5] = counter;
+    merge_all(places, sizeof places / sizeof places[0]);
     ask(counter, merged);
     ask(merged, counter);
     print_offsets(ride());

@@ -7,12 +7,13 @@
  *
  * A program's types stand in a store, a list of 94 to 1,048,576 words that the caller lends. Functions make types in it
  * and hand back handles, or tell something of the types that are there. A handle is the position of an entry's first
- * word; an entry is a type or a name. "Document 01" is the contract that the functions are proved against.
+ * word; an entry is a type or a name. "Document 01" is the contract that the functions are proved against, and document
+ * 02 has the requests that came after it.
  *
  * WHAT A FUNCTION RETURNS AND WRITES
  *
- * - It returns 0 (FERIGULAN_ACCEPTED), or the number of the refusal that applies, the lowest if there are several.
- *   Behind "Refused:" each function below has the numbers that it can return.
+ * - It returns 0 (FERIGULAN_ACCEPTED), or the number of the refusal that applies; if there are several, the first in
+ *   the order 1, 13, 2, 3 and so on to 12. Behind "Refused:" each function below has the numbers that it can return.
  * - Its answer goes to *answer: a handle, a number, or 1 for yes and 0 for no. A signed number (the ends, value and
  *   mask of an Int, the size of a Float) is its two's complement word, a Float's constant its bits.
  * - A function that answers in one of two ways tells the way in *which.
@@ -56,6 +57,9 @@ extern "C" {
 #define FERIGULAN_FEWEST_WORDS 94
 #define FERIGULAN_MOST_WORDS 1048576
 
+/* How many handles a list that ferigulan_meet_list merges has at most. */
+#define FERIGULAN_MOST_HANDLES 4096
+
 /* How many words a field is lent as: name, type, alias, final. */
 #define FERIGULAN_FIELD_WORDS 4
 
@@ -63,7 +67,8 @@ extern "C" {
 #define FERIGULAN_INDEX_LENGTH(n) (2 * (size_t)(n) + (size_t)(n) / 64 + 1)
 #define FERIGULAN_MEMORY_LENGTH(n) (6 * (size_t)(n))
 
-/* What a function returns: 0, or the row of document 01's table "Calls turned back" that applies. */
+/* What a function returns: 0, or the row of document 01's table "Calls turned back" that applies. Row 13 is document
+   02's. */
 enum ferigulan_refusals {
     FERIGULAN_ACCEPTED = 0,
     FERIGULAN_NOT_WELL_FORMED = 1, /* store length out of limits, or not well formed */
@@ -77,7 +82,8 @@ enum ferigulan_refusals {
     FERIGULAN_NO_LOG_SIZE = 9, /* no log size */
     FERIGULAN_BODY_WITHOUT_NIL = 10, /* array body a pointer without nil */
     FERIGULAN_OUTPUT_TOO_SHORT = 11, /* output shorter than the answer; of ferigulan_open, index too short */
-    FERIGULAN_NO_ROOM = 12 /* the entries to append do not fit */
+    FERIGULAN_NO_ROOM = 12, /* the entries to append do not fit */
+    FERIGULAN_LIST_TOO_LONG = 13 /* over 4,096 handles to merge */
 };
 
 /* The kinds of entries: what ferigulan_kind answers, but for NAME, which is no type. */
@@ -200,6 +206,12 @@ uint32_t ferigulan_get_mem(uint64_t *words, size_t n, uint64_t alias, uint64_t t
 
 /* The merge of two types: what is known of a value that is of the one or of the other. Refused: 2, 3, 12. */
 uint32_t ferigulan_meet(uint64_t *words, size_t n, uint64_t a, uint64_t b, uint64_t *answer);
+
+/* The merge of k types from left to right, starting at TOP: each as ferigulan_meet makes it, and of no types TOP. What
+   is made on the way is appended too. All handles are tested first, and a refusal leaves the store as it was before the
+   first merge. Where calls alone have made the store, lists of the same types give one handle in any order, if these
+   reach no memory type and no forward reference. Refused: 13, 2, 3, 12. */
+uint32_t ferigulan_meet_list(uint64_t *words, size_t n, const uint64_t *types, size_t k, uint64_t *answer);
 
 /* The merge from the other side: the dual of the meet of the duals, all of which are made. Refused: 2, 3, 12. */
 uint32_t ferigulan_join(uint64_t *words, size_t n, uint64_t a, uint64_t b, uint64_t *answer);
@@ -391,6 +403,9 @@ uint32_t ferigulan_opened_get_mem(uint64_t *words, size_t n, uint64_t *index, si
 /* As ferigulan_meet. */
 uint32_t ferigulan_opened_meet(uint64_t *words, size_t n, uint64_t *index, size_t i, uint64_t *memory, size_t m,
     uint64_t a, uint64_t b, uint64_t *answer);
+/* As ferigulan_meet_list. */
+uint32_t ferigulan_opened_meet_list(uint64_t *words, size_t n, uint64_t *index, size_t i, uint64_t *memory, size_t m,
+    const uint64_t *types, size_t k, uint64_t *answer);
 /* As ferigulan_join. */
 uint32_t ferigulan_opened_join(uint64_t *words, size_t n, uint64_t *index, size_t i, uint64_t *memory, size_t m,
     uint64_t a, uint64_t b, uint64_t *answer);

@@ -3,6 +3,7 @@
 # for C), on the reading of document 01 in oracle/reading and, as far as it can hold the types, on the original Rust. After each call the replies, every
 # word of list and output, and guard words around them are compared. On a difference it prints a short script that shows it, and exits with 1.
 # linked.sh --planted [SEED]: plants mistakes between the library and the comparison, one after the other, and shows that each is found.
+# linked.sh --lists N [SEED] [--plant NAME]: what lists.sh runs.
 # FERIGULAN_LIB names another folder with liblattice_c.a than target/staticlib; ORIGINAL another folder of the original than ../shared/docs/src.
 here=$(cd "$(dirname "$0")" && pwd) || exit 2
 top=$(dirname "$here")
@@ -10,8 +11,11 @@ FERIGULAN_LIB=${FERIGULAN_LIB:-$top/target/staticlib}
 export FERIGULAN_LIB
 mode=linked
 case "${1-}" in
---planted) mode=planted && shift ;;
-'' | *[!0-9]*) sed -n '2,6s/^# //p' "$0" >&2 && exit 2 ;;
+--planted | --lists) mode=${1#--} && shift ;;
+esac
+case "$mode ${1-}" in
+planted*) ;;
+*' ' | *' '*[!0-9]*) sed -n '2,7s/^# //p' "$0" >&2 && exit 2 ;;
 esac
 [ -r "$FERIGULAN_LIB/liblattice_c.a" ] || {
     echo "oracle/linked.sh: $FERIGULAN_LIB/liblattice_c.a: no archive there. 'rt staticlib lattice_c' makes it; FERIGULAN_LIB names another folder" >&2

@@ -1,4 +1,4 @@
-"""Document 01, where it is at hand: whether every sentence of it stands in docs/TRACE.md. The document is no part of the repository."""
+"""Documents 01 and 02, where they are at hand: whether every sentence of them stands in docs/TRACE.md, of document 02 those of the slips that have landed. The documents are no part of the repository."""
 import os
 import re
 from pathlib import Path
@@ -6,18 +6,36 @@ from pathlib import Path
 import repo
 from trace_md import fragments, plain
 
-USUAL = repo.TOP.parent / "shared" / "docs" / "01-scope.md"
+FOLDER = repo.TOP.parent / "shared" / "docs"
 JOINING = {"and", "or", "in", "of"}
+SLIP = re.compile(r"\*\*Slip (\d+)\.")
+SECOND = "Document 02"
 
 
-def path():
-    """The file that DOCUMENT names, or the one beside the repository, or None."""
-    named = os.environ.get("DOCUMENT")
+def path(variable, usual):
+    """The file that the variable names, or the one in the folder beside the repository, or None."""
+    named = os.environ.get(variable)
     if named and not Path(named).is_file():
-        raise SystemExit(f"reader: DOCUMENT={named}: no such file")
+        raise SystemExit(f"reader: {variable}={named}: no such file")
     if named:
         return Path(named)
-    return USUAL if USUAL.exists() else None
+    return FOLDER / usual if (FOLDER / usual).exists() else None
+
+
+def landed(text, headings):
+    """Document 02 without the slips that no heading of docs/TRACE.md names; its lines keep their numbers."""
+    numbers = {number for heading in headings if heading.startswith(SECOND) for number in re.findall(r"Slip (\d+)", heading)}
+    slips = [(SLIP.match(line), line) for line in text.split("\n")]
+    return "\n".join("" if slip and slip[1] not in numbers else line for slip, line in slips)
+
+
+def at_hand(headings):
+    """(name, text, whether a row belongs to it) of each document that is at hand."""
+    first, second = path("DOCUMENT", "01-scope.md"), path("DOCUMENT_02", "02-change-requests.md")
+    if first:
+        yield "document 01", first.read_text(encoding="utf-8"), lambda row: not row.heading.text.startswith(SECOND)
+    if second:
+        yield "document 02", landed(second.read_text(encoding="utf-8"), headings), lambda row: row.heading.text.startswith(SECOND)
 
 
 def passages(text, heads=False):

@@ -1,6 +1,6 @@
 """reader.sh [--check]: writes target/reader/index.html, and with --check tests it, and docs/TRACE.md, which it is made of.
 
-What is read: repo (the files, the reading order), rt (the code), trace_md and references (docs/TRACE.md), document (document 01), tools (toolchain.txt).
+What is read: repo (the files, the reading order), rt (the code), trace_md and references (docs/TRACE.md), document (documents 01 and 02), tools (toolchain.txt).
 How names are looked up: lex, blocks (tokens, declarations), names, world (what is defined where), kinds, terms, patterns, resolve; contracts for the code's.
 What ties them: quotations (comments to rows), cases (the twelve), model (all of it).
 How it is shown: markup, listing, top, definitions, sentences, lists, page, with style.css and script.js. How it is tested: reading, test."""
@@ -12,7 +12,7 @@ from model import Model
 from page import page
 
 TARGET = repo.TOP / "target" / "reader" / "index.html"
-USAGE = "usage: sh docs/reader.sh [--check]   (DOCUMENT=FILE names document 01, whose sentences --check looks for)"
+USAGE = "usage: sh docs/reader.sh [--check]   (DOCUMENT=FILE names document 01 and DOCUMENT_02=FILE document 02, whose sentences --check looks for)"
 
 
 def write(text):
@@ -28,7 +28,10 @@ def told(model, found, at_hand):
     yield f"{len(found.listings)} files of definitions with {linked} names linked; {len(found.links)} links in all, to {len(set(found.links))} places"
     yield f"{len(model.rows)} rows of the table of sentences, {model.quotations.count} quotations in comments that lead there"
     yield f"{len(model.functions)} contracts, {theorems} theorems, {len(model.references.tests)} lines of tests"
-    yield "every sentence of document 01 was looked for" if at_hand else "document 01 is not at hand (DOCUMENT=FILE): its sentences were not looked for"
+    for name in at_hand:
+        yield f"every sentence of {name} was looked for"
+    if not at_hand:
+        yield "no document is at hand (DOCUMENT=FILE, DOCUMENT_02=FILE): their sentences were not looked for"
 
 
 def check(model, text):

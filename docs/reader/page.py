@@ -12,7 +12,7 @@ from sentences import Sentences
 from trace_md import Heading
 
 HERE = Path(__file__).parent
-TITLE = "Ferigulan: the definitions, with document 01 in hand"
+TITLE = "Ferigulan: the definitions, with documents 01 and 02 in hand"
 
 
 def contents(model):
@@ -26,7 +26,7 @@ def contents(model):
     further = "".join(f"<li>{link(slug(file.id), f'{file.crate}/{file.name}')}</li>" for file in model.further)
     parts = [
         ("demand3", "Demand 3", ""), ("twelve", "The twelve cases", ""), ("notation", "How a definition is read", ""),
-        ("definitions", "The definitions, in reading order", files), ("sentences", "The sentences of document 01", headings),
+        ("definitions", "The definitions, in reading order", files), ("sentences", "The sentences of the documents", headings),
         ("contracts", "Functions and contracts", ""), ("theorems", "Theorems", ""), ("tests", "Lines of the tests", ""),
         ("toolchain", "Names of the toolchain", ""), ("index", "Index of names", ""), ("further", "Further files of specs/", further),
     ]  # fmt: skip

@@ -1,4 +1,4 @@
-"""The words of document 01 that comments quote: each is marked, and leads to the row of docs/TRACE.md that has it, and the row back to it."""
+"""The words of documents 01 and 02 that comments quote: each is marked, and leads to the row of docs/TRACE.md that has it, and the row back to it."""
 import re
 
 from trace_md import Heading, fragments, plain, quoted, quotes

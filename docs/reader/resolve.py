@@ -24,7 +24,7 @@ class Resolver(Patterns):
                 current = self.signature(file, item, scope)
             elif item.kind in ("record", "data"):
                 self.type_block(file, item, dict(scope))
-            elif item.kind == "module":
+            elif item.kind in ("module", "mutual"):
                 inner = dict(scope)
                 self.walk(file, grouped(item.tokens), inner)
                 self.block(file, item.body, inner)

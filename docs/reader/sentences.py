@@ -103,4 +103,4 @@ class Sentences:
 
     def section(self):
         blocks = [self.block(block) for block in self.model.blocks if not (isinstance(block, Heading) and block.level == 1)]
-        return section("sentences", 2, "The sentences of document 01", *blocks, find="rows with these words")
+        return section("sentences", 2, "The sentences of the documents", *blocks, find="rows with these words")

@@ -11,7 +11,7 @@ from listing import target_id
 from names import File
 from reading import Reading
 from tools import LANGUAGE
-from trace_md import fragments, quoted
+from trace_md import Heading, fragments, quoted
 
 SIGNS = set("→ λ = : _ | ∣ [ ] ⌜ ⌝".split())
 SMALL = """-- a small file
@@ -185,20 +185,20 @@ def tools(model, page, failures):
 
 
 def sentences(model, failures):
-    """Where document 01 is at hand: every sentence of it is quoted in docs/TRACE.md, word by word. Whether it was."""
-    file = document.path()
-    if file is None:
-        return False
-    text = file.read_text(encoding="utf-8")
-    firsts = [quotation for row in model.rows for quotation in quoted(row.cells[0])]
+    """Every sentence of a document that is at hand is quoted in docs/TRACE.md, word by word. The names of those documents."""
     others = [quotation for block in model.blocks if hasattr(block, "text") for quotation in quoted(block.text)]
-    failures.none([f'document 01, line {line}: "{words}" stands in no row of docs/TRACE.md' for line, words in document.missing(text, firsts + others)])
-    failures.none([f'docs/TRACE.md: "{words}" is not in document 01' for words in document.strange(text, firsts)])
-    return True
+    headings = [block.text for block in model.blocks if isinstance(block, Heading)]
+    found = []
+    for name, text, belongs in document.at_hand(headings):
+        firsts = [quotation for row in model.rows if belongs(row) for quotation in quoted(row.cells[0])]
+        failures.none([f'{name}, line {line}: "{words}" stands in no row of docs/TRACE.md' for line, words in document.missing(text, firsts + others)])
+        failures.none([f'docs/TRACE.md: "{words}" is not in {name}' for words in document.strange(text, firsts)])
+        found.append(name)
+    return found
 
 
 def run(model, text):
-    """All tests: the failures, the page as it was read, and whether document 01 was at hand."""
+    """All tests: the failures, the page as it was read, and the documents that were at hand."""
     failures = Failures()
     page = Reading(text)
     pieces(model, failures)

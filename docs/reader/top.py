@@ -8,10 +8,10 @@ from listing import split_lines, target_id
 from markup import link, marked, section, slug, table
 
 INTRO = [
-    "Here is all that a reader of document 01 has to believe: the definitions, as they stand in the repository, in reading order.",
-    "Each name leads to where it is defined. Words in quotation marks in a comment are document 01's, and lead to their row in the table of sentences.",
-    "That table goes from each sentence of document 01 to its definition, to the function and its contract, to the proof and to the test.",
-    "Proved is that the functions do just what the definitions say, on any words whatever. That the definitions say what document 01 says is for you to read.",
+    "Here is all that a reader of document 01, and of document 02 as far as it has landed, has to believe: the definitions, as they stand in the repository, in reading order.",
+    "Each name leads to where it is defined. Words in quotation marks in a comment are the documents', and lead to their row in the table of sentences.",
+    "That table goes from each sentence of the documents to its definition, to the function and its contract, to the proof and to the test.",
+    "Proved is that the functions do just what the definitions say, on any words whatever. That the definitions say what the documents say is for you to read.",
     "On top stand demand 3's theorem and the table of twelve cases, which say the most in the fewest lines.",
 ]
 

@@ -55,6 +55,8 @@ pub enum Ready<'t> {
     Mem(u32, Ty<'t>),
     Ary(TyInt<'t>, u32, Ty<'t>, u32),
     Meet(Ty<'t>, Ty<'t>),
+    /// The Rust has no such call: its meets one after the other, from Top.
+    MeetList(Vec<Ty<'t>>),
     Isa(Ty<'t>, Ty<'t>),
     Join(Ty<'t>, Ty<'t>),
     Dual(Ty<'t>),
@@ -110,6 +112,7 @@ impl<'t> Ready<'t> {
             Ready::Mem(alias, t) => *types.get_mem(*alias, *t),
             Ready::Ary(length, length_alias, body, body_alias) => *types.make_ary(*length, *length_alias, *body, *body_alias),
             Ready::Meet(a, b) => a.meet(*b, types),
+            Ready::MeetList(list) => list.iter().fold(types.top, |merged, t| merged.meet(*t, types)),
             Ready::Isa(a, b) => return Answered::Flag(a.isa(*b, types)),
             Ready::Join(a, b) => a.join(*b, types),
             Ready::Dual(a) => a.dual(types),
@@ -155,6 +158,7 @@ pub fn ready<'t>(store: &Store<'_, 't>, call: &Call) -> Result<Ready<'t>, &'stat
 
         // The lattice.
         ("meet", [a, b]) => Ready::Meet(ty(*a), ty(*b)),
+        ("meet_list", handles) => Ready::MeetList(handles.iter().map(|h| ty(*h)).collect()),
         ("isa", [a, b]) => Ready::Isa(ty(*a), ty(*b)),
         ("join", [a, b]) => Ready::Join(ty(*a), ty(*b)),
         ("dual", [a]) => Ready::Dual(ty(*a)),
@@ -239,6 +243,7 @@ pub fn ask<'t>(store: &Store<'_, 't>, call: &Call, clock: &mut Clock) -> Told<'t
     match (answered, ready) {
         (Answered::Name(name), _) => Told::Made(vec![Held::Name(name)]),
         (Answered::Type(answer), Ready::Join(a, b)) => Told::Made(joined(store, a, b, answer)),
+        (Answered::Type(_), Ready::MeetList(list)) => Told::Made(merged(store, &list)),
         (Answered::Type(answer), _) if call.name == "ary" => {
             let name = array_name(store, std::str::from_utf8(&call.text).unwrap());
             Told::Made(vec![Held::Name(name), Held::Name("#"), Held::Name("[]"), Held::Type(answer)])
@@ -285,4 +290,15 @@ fn joined<'t>(store: &Store<'_, 't>, a: Ty<'t>, b: Ty<'t>, answer: Ty<'t>) -> Ve
     }
     let (dual_a, dual_b) = (a.dual(types), b.dual(types));
     [dual_a, dual_b, dual_a.meet(dual_b, types), answer].map(Held::Type).to_vec()
+}
+
+/// A list's merges make types on the way that need not be parts of the answer: all of them, from Top on, each of which gets its handle in
+/// turn.
+fn merged<'t>(store: &Store<'_, 't>, list: &[Ty<'t>]) -> Vec<Held<'t>> {
+    let types = store.types;
+    let meets = list.iter().scan(types.top, |merged, t| {
+        *merged = merged.meet(*t, types);
+        Some(*merged)
+    });
+    std::iter::once(types.top).chain(meets).map(Held::Type).collect()
 }

@@ -2,6 +2,7 @@
 //! script are then plain numbers.
 
 mod choosing;
+mod lists;
 mod making;
 mod opening;
 mod others;
@@ -31,6 +32,9 @@ pub const MAKERS: &[(usize, &str)] = &[
 /// The calls of the lattice, and how often each is made where it is switched on.
 pub const LATTICE: &[(usize, &str)] =
     &[(3, "kind"), (25, "meet"), (15, "isa"), (8, "dual"), (10, "join"), (5, "glb"), (5, "lub"), (5, "is_final"), (8, "make_ro")];
+
+/// The merges of whole lists, likewise: document 02, Slip 1.
+pub const LISTS: &[(usize, &str)] = &[(14, "meet_list"), (2, "meet_rep")];
 
 /// Document 01's other calls, likewise.
 pub const OTHERS: &[(usize, &str)] = &[
@@ -81,14 +85,16 @@ pub struct Lists {
     /// Whether makers by chance fill the list before its calls, so that these have late handles.
     pub are_filled: bool,
     pub most_calls: usize,
+    /// How many in a hundred merges of lists are of the types of an earlier one, in another order.
+    pub merged_again: usize,
 }
 
 /// Lists that the program `calls` has room for.
-pub const SHORT: Lists = Lists { room: ROOM_OF_CALLS, length: values::length, are_filled: false, most_calls: 400 };
+pub const SHORT: Lists = Lists { room: ROOM_OF_CALLS, length: values::length, are_filled: false, most_calls: 400, merged_again: 30 };
 
 impl Menu {
     /// Reads names separated by commas; `makers` stands for all makers, `lattice` for its calls, `others` for document 01's other calls,
-    /// `all` for everything.
+    /// `lists` for the merges of lists, `all` for everything.
     pub fn read(names: &str) -> Result<Menu, String> {
         let mut menu = Menu { asks: vec![], dump: false, opened: false, lists: SHORT };
         for name in names.split(',') {
@@ -97,19 +103,30 @@ impl Menu {
                 "dump" => menu.dump = true,
                 "lattice" => menu.asks.extend(LATTICE),
                 "others" => menu.asks.extend(OTHERS),
+                "lists" => menu.asks.extend(LISTS),
                 "all" => {
                     menu.dump = true;
-                    menu.asks.extend(LATTICE.iter().chain(OTHERS));
+                    menu.asks.extend(all_asks());
                 }
-                _ => menu.asks.extend(LATTICE.iter().chain(OTHERS).filter(|ask| ask.1 == name)),
+                _ => menu.asks.extend(all_asks().filter(|ask| ask.1 == name)),
             }
-            let is_word = ["makers", "lattice", "others", "all"].contains(&name);
+            let is_word = ["makers", "lattice", "others", "lists", "all"].contains(&name);
             if !is_word && known_name(name).is_none() {
                 return Err(format!("{name}: no call of the oracle"));
             }
         }
         Ok(menu)
     }
+
+    /// Puts so much more weight on a call.
+    pub fn weigh(&mut self, name: &'static str, weight: usize) {
+        self.asks.push((weight, name));
+    }
+}
+
+/// What can be asked about types.
+pub fn all_asks() -> impl Iterator<Item = &'static (usize, &'static str)> {
+    LATTICE.iter().chain(OTHERS).chain(LISTS)
 }
 
 /// A list of calls with the Rust's answers.
@@ -122,9 +139,17 @@ pub struct List {
 /// that walks is asked about those above this.
 pub const MOST_VISITS: u64 = 2000;
 
+/// All types of a list together may take its merges so many visits.
+const MOST_VISITS_OF_A_LIST: u64 = 100_000;
+
 /// Whether a call walks through a type.
 pub fn walks(name: &str) -> bool {
-    name == "non_zero" || LATTICE.iter().any(|call| call.1 == name)
+    name == "non_zero" || LATTICE.iter().chain(LISTS).any(|call| call.1 == name)
+}
+
+/// Whether a call with types of so many visits each comes to its end soon, where a walk may take `most`.
+pub fn ends_soon(name: &str, most: u64, visits: impl Iterator<Item = u64> + Clone) -> bool {
+    !walks(name) || (visits.clone().all(|visits| visits <= most) && visits.sum::<u64>() <= MOST_VISITS_OF_A_LIST)
 }
 
 struct Generator<'a, 't, 'm> {
@@ -198,7 +223,9 @@ impl Generator<'_, '_, '_> {
         }
         let of_one = ["get_bool", "kind", "fref", "int", "float", "tuple", "dual", "non_zero", "log_size", "mask", "sz", "name", "is_ary"];
         let of_two = ["fields", "find", "find_alias", "offset", "offsets"];
-        for (name, count) in of_one.map(|name| (name, 1)).into_iter().chain(of_two.map(|name| (name, 2))) {
+        let of_some = [("meet_list", 0), ("meet_list", 3), ("meet_rep", 2)];
+        let all = of_one.map(|name| (name, 1)).into_iter().chain(of_two.map(|name| (name, 2))).chain(of_some);
+        for (name, count) in all {
             if MAKERS.iter().chain(&self.menu.asks).any(|call| call.1 == name) {
                 let numbers = (0..count).map(|_| Arg::Number(values::trouble(&mut self.random))).collect();
                 self.run(name, numbers, vec![]);
@@ -232,6 +259,7 @@ impl Generator<'_, '_, '_> {
     fn ask_about(&mut self) {
         match self.random.weighted(&self.menu.asks) {
             name @ ("meet" | "isa" | "join") => self.ask_about_two(name),
+            name if LISTS.iter().any(|list| list.1 == name) => self.merge_list(name),
             name if OTHERS.iter().any(|other| other.1 == name) => self.ask_other(name),
             name => {
                 let a = self.walked();
@@ -265,8 +293,8 @@ impl Generator<'_, '_, '_> {
 
     /// Whether a call comes to its end soon: a number by chance may be the handle of a type that takes a walk too many visits.
     fn ends(&self, name: &str, args: &[Arg]) -> bool {
-        let is_long = |arg: &Arg| self.store().entry(self.runner.number(*arg)).is_some_and(|entry| entry.visits > MOST_VISITS);
-        !(walks(name) && args.iter().any(is_long))
+        let visits = |arg: &Arg| self.store().entry(self.runner.number(*arg)).map_or(0, |entry| entry.visits);
+        ends_soon(name, MOST_VISITS, args.iter().map(visits))
     }
 
     fn spoilt(&mut self, mut args: Vec<Arg>) -> Vec<Arg> {

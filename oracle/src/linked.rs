@@ -9,6 +9,7 @@ mod door;
 mod entries;
 mod filled;
 mod grouped;
+mod law;
 mod lists;
 mod model;
 mod planted;
@@ -63,40 +64,81 @@ struct Found {
     way: Way,
 }
 
-/// Runs lists until n calls are made, or one shows a difference.
-fn search(n: u64, seed: u64, menus: &mut Menus, plant: Option<Plant>, tally: &mut Tally, progress: bool) -> Option<Found> {
+/// How far a run goes.
+#[derive(Clone, Copy)]
+struct Goal {
+    n: u64,
+    /// The calls that are counted, and their name.
+    counted: fn(&Tally) -> u64,
+    name: &'static str,
+}
+
+impl Goal {
+    fn calls(n: u64) -> Goal {
+        Goal { n, counted: |tally| tally.calls, name: "calls" }
+    }
+
+    fn merges(n: u64) -> Goal {
+        Goal { n, counted: |tally| tally.merges.calls(), name: "merges of lists" }
+    }
+
+    fn tell(&self, tally: &Tally, start: Instant) {
+        let done = (self.counted)(tally);
+        let rate = done as f64 / start.elapsed().as_secs_f64();
+        let (share, done, n) = (tally.share(tally.damaged), grouped(done), grouped(self.n));
+        eprintln!("{done} {} of {n} compared, {rate:.0} a second, {share:.1} % of all calls on damaged words: no difference", self.name);
+    }
+}
+
+/// Runs lists up to the goal, or to one that shows a difference.
+fn search(goal: Goal, seed: u64, menus: &mut Menus, plant: Option<Plant>, tally: &mut Tally, progress: bool) -> Option<Found> {
     let mut seeds = Random::new(seed);
     let (start, mut told) = (Instant::now(), Instant::now());
-    while tally.calls < n {
+    while (goal.counted)(tally) < goal.n {
         let made = menus.made(seeds.word(), plant);
         tally.lists += 1;
         if difference(made.way, &made.steps, tally, false).is_some() {
             return Some(Found { steps: made.steps, way: made.way });
         }
         if progress && told.elapsed() > Duration::from_secs(3) {
-            let rate = tally.calls as f64 / start.elapsed().as_secs_f64();
-            let (done, share) = (grouped(tally.calls), tally.share(tally.damaged));
-            eprintln!("{done} calls of {} compared, {rate:.0} a second, {share:.1} % on damaged words: no difference", grouped(n));
+            goal.tell(tally, start);
             told = Instant::now();
         }
     }
     None
 }
 
+/// What a run has besides its calls.
+pub struct Settings<'o> {
+    pub seed: u64,
+    /// A mistake to be found, by its name.
+    pub plant: Option<&'o str>,
+    /// Where the script of a difference is put.
+    pub folder: Option<&'o str>,
+}
+
 /// `oracle linked`: at least n calls. Says whether all sides agree; the first difference is printed with the shortest script found.
-pub fn compare(n: u64, seed: u64, calls: &str, plant: Option<&str>, folder: Option<&str>) -> io::Result<bool> {
-    let mut menus = Menus::read(calls).map_err(io::Error::other)?;
-    let plant = plant.map(named).transpose()?;
+pub fn compare(n: u64, calls: &str, settings: &Settings) -> io::Result<bool> {
+    run(Goal::calls(n), Menus::read(calls).map_err(io::Error::other)?, settings)
+}
+
+/// `oracle lists`: at least n merges of lists, and the same types again in other orders: likewise.
+pub fn merge(n: u64, settings: &Settings) -> io::Result<bool> {
+    run(Goal::merges(n), Menus::of_merges().map_err(io::Error::other)?, settings)
+}
+
+fn run(goal: Goal, mut menus: Menus, settings: &Settings) -> io::Result<bool> {
+    let (seed, plant) = (settings.seed, settings.plant.map(named).transpose()?);
     let mut tally = Tally::default();
     let start = Instant::now();
-    if let Some(found) = search(n, seed, &mut menus, plant, &mut tally, true) {
+    if let Some(found) = search(goal, seed, &mut menus, plant, &mut tally, true) {
         println!("a difference, in list {} (seed {seed}, after {} calls without)", tally.lists, grouped(tally.calls));
-        print_script(&shortest(&mut AllSides(found.way), &found.steps)?, folder)?;
+        print_script(&shortest(&mut AllSides(found.way), &found.steps)?, settings.folder)?;
         return Ok(false);
     }
     tally.print();
-    let seconds = start.elapsed().as_secs_f64();
-    println!("{} calls, {seconds:.0} seconds, seed {seed}: 0 differences", grouped(tally.calls));
+    let (done, seconds) = (grouped((goal.counted)(&tally)), start.elapsed().as_secs_f64());
+    println!("{done} {}, {seconds:.0} seconds, seed {seed}: 0 differences", goal.name);
     Ok(true)
 }
 
@@ -134,7 +176,7 @@ pub fn planted(seed: u64, calls: &str) -> io::Result<bool> {
     for plant in PLANTS {
         println!("; {}: {}", plant.name, plant.what);
         let mut tally = Tally::default();
-        let found = search(MOST_CALLS, seed, &mut menus, Some(*plant), &mut tally, false);
+        let found = search(Goal::calls(MOST_CALLS), seed, &mut menus, Some(*plant), &mut tally, false);
         let shown = match &found {
             Some(found) => shrink(&mut AllSides(found.way), &found.steps)?,
             None => None,

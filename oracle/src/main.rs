@@ -38,13 +38,16 @@ oracle both-ways N [SEED] [--calls NAMES] --program FILE [--other FILE] --folder
                                             runs N lists with poked words on a program, and opened on the same or another one
 oracle linked N [SEED] [--calls NAMES] [--plant NAME] [--folder FOLDER]
                                             runs N calls or more on the linked library, on the reading and on the Rust
+oracle lists N [SEED] [--plant NAME] [--folder FOLDER]
+                                            runs N merges of lists or more likewise, of the same types in one order and another
 oracle planted [SEED] [--calls NAMES]       shows that planted mistakes are found
 NAMES: names of calls separated by commas, 'lattice' for kind, meet and the other calls of the lattice, 'others' for the calls from
-make_init to ary_scale, 'dump' for the store's words at the end of each list, 'all'. The makers are always used. --opened opens the stores.";
+make_init to ary_scale, 'lists' for the merges of lists, 'dump' for the store's words at the end of each list, 'all'. The makers are always
+used. --opened opens the stores.";
 
 /// What is compared where no calls are named, and what a sample has: dumps make long lines.
 const COMPARED: &str = "all";
-const SAMPLED: &str = "makers,lattice,others";
+const SAMPLED: &str = "makers,lattice,others,lists";
 
 fn main() -> ExitCode {
     let words: Vec<String> = std::env::args().skip(1).collect();
@@ -89,7 +92,7 @@ fn run(words: &[String]) -> Result<bool, Box<dyn Error>> {
             let opened = options.program(options.other.as_ref().map_or(&options.program, |_| &options.other))?;
             Ok(both_ways::compare(&plain, &opened, n.parse()?, number(seed, 1)?, &options.menu(COMPARED)?)?)
         }
-        ("linked" | "planted", _) => linked(mode, &plain, &options),
+        ("linked" | "lists" | "planted", _) => linked(mode, &plain, &options),
         _ => Err(USAGE.into()),
     }
 }
@@ -97,11 +100,12 @@ fn run(words: &[String]) -> Result<bool, Box<dyn Error>> {
 #[cfg(feature = "linked")]
 fn linked(mode: &str, plain: &[String], options: &Options) -> Result<bool, Box<dyn Error>> {
     let calls = options.calls.as_deref().unwrap_or(COMPARED);
+    let settings = |seed: &[String]| -> Result<linked::Settings, Box<dyn Error>> {
+        Ok(linked::Settings { seed: number(seed, 1)?, plant: options.plant.as_deref(), folder: options.folder.as_deref() })
+    };
     match (mode, plain) {
-        ("linked", [n, seed @ ..]) => {
-            let (plant, folder) = (options.plant.as_deref(), options.folder.as_deref());
-            Ok(linked::compare(n.parse()?, number(seed, 1)?, calls, plant, folder)?)
-        }
+        ("linked", [n, seed @ ..]) => Ok(linked::compare(n.parse()?, calls, &settings(seed)?)?),
+        ("lists", [n, seed @ ..]) => Ok(linked::merge(n.parse()?, &settings(seed)?)?),
         ("planted", seed) => Ok(linked::planted(number(seed, 1)?, calls)?),
         _ => Err(USAGE.into()),
     }

@@ -79,7 +79,7 @@ fn run(script: &str, clock: f64, rounds: usize) -> (Vec<String>, Vec<Figures>) {
 /// The calls of a block that the Rust would be asked, in its own types.
 fn make_ready<'t>(session: &Session<'_, 't>, block: &[&str]) -> Vec<Ready<'t>> {
     let call = |line: &&str| match read_line(line) {
-        Line::Call(call) => Some(call),
+        Line::Call(call) => call.written_out(),
         _ => None,
     };
     let make = |call: Call| {

@@ -1,6 +1,6 @@
-//! Refusals 2 to 11. The Rust panics or has no limit there, so they are decided here, from document 01's table and before the Rust is
-//! asked. The lowest number that applies to the call as a whole is given: each row is tested over all arguments before the next one.
-//! (Row 1 is session.rs's, row 12 `Store::append`'s.)
+//! Refusals 2 to 11, and document 02's 13 before them. The Rust panics or has no limit there, so they are decided here, from document 01's
+//! table and before the Rust is asked. The first that applies to the call as a whole is given: each row is tested over all arguments before
+//! the next one. (Row 1 is session.rs's, row 12 `Store::append`'s.)
 
 use crate::script::Call;
 use crate::store::{Entry, Store};
@@ -9,6 +9,9 @@ use original::sea_of_nodes::types::{Ty, Type, Types};
 const LARGEST_ALIAS: u64 = 4_294_967_295;
 const MOST_PARTS: usize = 255;
 const DEEPEST: u64 = 32;
+
+/// How many handles a list to be merged has at most: document 02, Slip 1.
+pub const LONGEST_LIST: usize = 4096;
 
 /// A handle that a call was given, and the kinds that the call takes there.
 struct Wanted {
@@ -88,7 +91,16 @@ struct Output {
 
 /// The number of the refusal, if there is one.
 pub fn refusal(store: &Store, call: &Call) -> Option<u8> {
+    // "13, list over 4,096, tested after 1 and before 2"
+    if call.name == "meet_list" && call.numbers.len() > LONGEST_LIST {
+        return Some(13);
+    }
     let rows = rows_of(call);
+    row_of_arguments(store, &rows).or_else(|| row_of_fields(store, &rows))
+}
+
+/// Rows 2 to 6: handles, values, counts and depths.
+fn row_of_arguments(store: &Store, rows: &Rows) -> Option<u8> {
     let entries: Vec<Option<&Entry>> = rows.handles.iter().map(|wanted| store.entry(wanted.handle)).collect();
     if entries.iter().any(Option::is_none) {
         return Some(2);
@@ -109,6 +121,11 @@ pub fn refusal(store: &Store, call: &Call) -> Option<u8> {
     if rows.within.iter().any(|handle| store.entry(*handle).unwrap().depth + 1 > DEEPEST) {
         return Some(6);
     }
+    None
+}
+
+/// Rows 7 to 11: what is wanted of fields and of a body.
+fn row_of_fields(store: &Store, rows: &Rows) -> Option<u8> {
     let fields = rows.fields_of.map(|handle| type_at(store, handle).as_struct().data().fields);
     if fields == Some(None) {
         return Some(7);
@@ -129,7 +146,7 @@ pub fn refusal(store: &Store, call: &Call) -> Option<u8> {
     if rows.body.is_some_and(|body| is_pointer_without_nil(store, body)) {
         return Some(10);
     }
-    if rows.output.is_some_and(|output| output.length < (output.each * fields.len() + output.besides) as u64) {
+    if rows.output.as_ref().is_some_and(|output| output.length < (output.each * fields.len() + output.besides) as u64) {
         return Some(11);
     }
     None
@@ -188,7 +205,7 @@ fn rows_of(call: &Call) -> Rows {
         ("fields" | "find" | "find_alias" | "is_ary" | "offset" | "offsets", [s, more @ ..]) => field_rows(call.name, *s, more),
         ("ary_base", [s]) => Rows { measured: Measured::AllFields, ..array_rows(*s) },
         ("ary_scale", [s]) => Rows { measured: Measured::SecondField, ..array_rows(*s) },
-        // kind, the lattice and the other calls: on one or two types
+        // kind, the lattice and the other calls: on one or two types, or on a list of them
         (_, types) => Rows { handles: types.iter().map(|t| a_type(*t)).collect(), ..none },
     }
 }

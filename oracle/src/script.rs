@@ -30,6 +30,8 @@ const SHAPES: &[Shape] = &[
     Shape("dump", 0, 0, false),
     Shape("dumpall", 0, 0, false),
     Shape("check", 0, 0, false),
+    Shape("keep", 0, 0, false),
+    Shape("kept", 0, 0, false),
     Shape("open", 0, 0, false),
     Shape("close", 0, 0, false),
     // The makers.
@@ -53,6 +55,9 @@ const SHAPES: &[Shape] = &[
     Shape("lub", 1, 1, false),
     Shape("is_final", 1, 1, false),
     Shape("make_ro", 1, 1, false),
+    // The merge of a list: its handles, or how often one handle stands in it.
+    Shape("meet_list", 0, ANY, false),
+    Shape("meet_rep", 2, 2, false),
     // The other calls: of types,
     Shape("make_init", 1, 1, false),
     Shape("make_zero", 1, 1, false),
@@ -147,6 +152,20 @@ fn read_text(word: &str) -> Option<Vec<u8>> {
     let digits = word.chars().map(|c| c.to_digit(16)).collect::<Option<Vec<_>>>()?;
     let pairs = !digits.is_empty() && digits.len() % 2 == 0;
     pairs.then(|| digits.chunks(2).map(|pair| (16 * pair[0] + pair[1]) as u8).collect())
+}
+
+/// How often a handle stands in a list at most: the program `calls` has room for as many numbers.
+const MOST_REPEATED: u64 = 131_072;
+
+impl Call {
+    /// The same call with its list written out, where the line says how often one handle stands in it. Nothing where that is too often.
+    pub fn written_out(&self) -> Option<Call> {
+        match (self.name, &self.numbers[..]) {
+            ("meet_rep", [count, _]) if *count > MOST_REPEATED => None,
+            ("meet_rep", [count, handle]) => Some(Call { name: "meet_list", numbers: vec![*handle; *count as usize], text: vec![] }),
+            _ => Some(self.clone()),
+        }
+    }
 }
 
 impl std::fmt::Display for Call {

@@ -86,6 +86,8 @@ enum Lent<'a, 't> {
 pub struct Session<'a, 't> {
     types: &'a Types<'t>,
     lent: Lent<'a, 't>,
+    /// The list as `keep` found it, if its words were known: the empty one before.
+    kept: Option<Vec<u64>>,
     room: Room,
     pub clock: Clock,
 }
@@ -96,7 +98,7 @@ impl<'a, 't> Session<'a, 't> {
     }
 
     pub fn with_room(types: &'a Types<'t>, room: Room) -> Self {
-        Session { types, lent: Lent::Plain(vec![]), room, clock: Clock::default() }
+        Session { types, lent: Lent::Plain(vec![]), kept: Some(vec![]), room, clock: Clock::default() }
     }
 
     /// One that takes lists as long as a store may be, as the library does.
@@ -149,8 +151,16 @@ impl<'a, 't> Session<'a, 't> {
                 Lent::Lost(..) => lost(),
             },
             ("close", []) => Answer::Accepted,
+            ("keep", []) => self.keep(),
+            ("kept", []) => self.all_words().zip(self.kept.as_ref()).map_or_else(lost, |(now, kept)| Answer::Flag(now == *kept)),
+            ("meet_rep", _) => call.written_out().map_or(Answer::Malformed, |list| self.call(&list)),
             _ => self.call(call),
         }
+    }
+
+    fn keep(&mut self) -> Answer {
+        self.kept = self.all_words();
+        self.kept.as_ref().map_or_else(lost, |_| Answer::Accepted)
     }
 
     fn lend(&mut self, n: u64, value: u64) -> Answer {
@@ -219,7 +229,7 @@ impl<'a, 't> Session<'a, 't> {
         Answer::Accepted
     }
 
-    /// A call of document 01: refused by its own rows, or answered by the Rust.
+    /// A call of the documents: refused by its own rows, or answered by the Rust.
     fn call(&mut self, call: &Call) -> Answer {
         let store = match &mut self.lent {
             Lent::Plain(_) => return Answer::Refused(1),

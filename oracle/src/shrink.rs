@@ -171,12 +171,12 @@ impl<S: Sides> Shrinker<'_, S> {
         Ok(())
     }
 
-    /// Takes fields or elements out of a struct or tuple, many at once, then fewer: of all that have as many, which may have to stay alike, and
-    /// else of this one.
+    /// Takes fields, elements or handles out of a struct, a tuple or a list, many at once, then fewer: of all that have as many, which may have
+    /// to stay alike, and else of this one.
     fn shorten(&mut self, i: usize) -> io::Result<()> {
         let (first, width) = match self.steps.get(i).map(|step| step.name) {
             Some("struct") => (1, 4),
-            Some("tuple") => (0, 1),
+            Some("tuple" | "meet_list") => (0, 1),
             _ => return Ok(()),
         };
         let mut many = self.steps[i].args.len() / width;

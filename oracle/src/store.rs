@@ -20,6 +20,8 @@ pub struct Entry<'t> {
     pub held: Held<'t>,
     /// How many types a walk over the whole entry meets if it visits shared parts again and again, as the Rust's walks do.
     pub visits: u64,
+    /// Whether it is a memory type or a forward reference, or has one among its parts, or theirs.
+    pub reaches_mem_or_fref: bool,
 }
 
 impl<'t> Entry<'t> {
@@ -141,7 +143,7 @@ impl<'a, 't> Store<'a, 't> {
             bytes[..chunk.len()].copy_from_slice(chunk);
             u64::from_le_bytes(bytes)
         });
-        let handle = self.push(0, 0, name.len(), words.collect(), Held::Name(name), 0);
+        let handle = self.push(0, name.len(), words.collect(), Held::Name(name), &[]);
         self.handle_of_name.insert(name, handle);
         handle
     }
@@ -152,11 +154,8 @@ impl<'a, 't> Store<'a, 't> {
         }
         let parts = parts_of(ty);
         let handles: Vec<u64> = parts.iter().map(|part| self.register_type(*part)).collect();
-        let inner = handles.iter().map(|handle| self.entry(*handle).unwrap());
-        let depth = 1 + inner.clone().map(|entry| entry.depth).max().unwrap_or(0);
-        let visits = inner.fold(1, |sum: u64, entry| sum.saturating_add(entry.visits));
         let (kind, n, words) = self.words_of(ty, &handles);
-        let handle = self.push(kind, depth, n, words, Held::Type(ty), visits);
+        let handle = self.push(kind, n, words, Held::Type(ty), &handles);
         self.handle_of_type.insert(ty, handle);
         handle
     }
@@ -187,12 +186,18 @@ impl<'a, 't> Store<'a, 't> {
         words
     }
 
-    fn push(&mut self, kind: u8, depth: u64, n: usize, words: Vec<u64>, held: Held<'t>, visits: u64) -> u64 {
+    /// Appends an entry around these types. A name has depth 0 and is visited by no walk.
+    fn push(&mut self, kind: u8, n: usize, words: Vec<u64>, held: Held<'t>, types: &[u64]) -> u64 {
         let handle = self.words.len() as u64;
+        let own = u64::from(kind > 0);
+        let inner = types.iter().map(|part| self.entry(*part).unwrap());
+        let depth = own + inner.clone().map(|entry| entry.depth).max().unwrap_or(0);
+        let visits = inner.clone().fold(own, |sum, entry| sum.saturating_add(entry.visits));
+        let reaches_mem_or_fref = [9, 11].contains(&kind) || inner.clone().any(|entry| entry.reaches_mem_or_fref);
         self.words.push(u64::from(kind) + 256 * depth + 65_536 * n as u64);
         self.words.extend(words);
         self.place.insert(handle, self.entries.len());
-        self.entries.push(Entry { handle, kind, depth, held, visits });
+        self.entries.push(Entry { handle, kind, depth, held, visits, reaches_mem_or_fref });
         handle
     }
 }

@@ -1,5 +1,5 @@
-//! A counter that is 0..7 on one way through a program and 8 on the other is 0..8 where the ways meet, in whatever order they are merged.
-//! Then calls that are refused, each for another reason, and the store is unharmed.
+//! A counter that is 0..7 on one way through a program and 8 on the other is 0..8 where the ways meet, in whatever order they are merged;
+//! where six ways meet, one call merges them all. Then calls that are refused, each for another reason, and the store is unharmed.
 use ferigulan::{fresh, Handle, Refusal, Store};
 
 /// An Int in a readable form.
@@ -13,6 +13,18 @@ fn merge(store: &mut Store<'_>) -> Result<(), Refusal> {
     for (a, b) in [(counter, eight), (eight, counter)] {
         let merged = store.meet(a, b)?;
         println!("{} meet {} = {}, handle {merged}", range(store, a)?, range(store, b)?, range(store, merged)?);
+    }
+    Ok(())
+}
+
+/// A block that is entered from six places: the counter at each of them, merged by one call. The other way round more is made on the way,
+/// and the answer is the same.
+fn merge_all(store: &mut Store<'_>) -> Result<(), Refusal> {
+    let mut places = [store.make_int(0, 7)?, store.get_int(8)?, fresh::INT_BOOL, fresh::INT_TWO, fresh::INT_ONE, fresh::INT_ZERO];
+    for order in ["six places", "the same from the last to the first"] {
+        let merged = store.meet_list(&places)?;
+        println!("{order}: {}, handle {merged}, {} words are used", range(store, merged)?, store.used());
+        places.reverse();
     }
     Ok(())
 }
@@ -47,13 +59,15 @@ fn refused(store: &mut Store<'_>, counter: Handle, forward: Handle, deepest: Han
     told("an array of pointers without nil", store.make_ary(fresh::INT_U32, 1_u32, fresh::PTR_VOID, 2_u32, b"*void"));
     told("0 words for the offsets of $TOP", store.offsets(fresh::STRUCT_TOP, &mut []));
     told("one more Int", store.get_int(9));
+    told("4,097 places", store.meet_list(&[counter; 4_097]));
 }
 
 fn main() -> Result<(), Refusal> {
     // just as many words as the types below need
-    let mut words = [0; 167];
+    let mut words = [0; 170];
     let mut store = Store::fresh(&mut words)?;
     merge(&mut store)?;
+    merge_all(&mut store)?;
 
     let counter = store.make_int(0, 7)?;
     let forward = store.make_struct_fref(fresh::NAME_TOP)?;

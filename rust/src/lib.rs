@@ -2,7 +2,7 @@
 //!
 //! The work is done by an archive of proved functions, `liblattice_c.a`, which `rt staticlib lattice_c` builds and proves in the
 //! repository; this crate links it and gives its functions Rust's types. It allocates nothing and needs no `std`. "Document 01" is the
-//! contract that the archive is proved against.
+//! contract that the archive is proved against, and document 02 has the requests that came after it.
 //!
 //! A program's types stand in a store, a list of 94 to 1,048,576 words. Calls make types in it and hand back [handles](Handle), or tell
 //! something of the types that are there. A call that makes a type hands back the lowest handle of an equal one, and appends it, its parts

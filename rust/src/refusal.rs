@@ -3,10 +3,10 @@ use core::fmt;
 
 macro_rules! refusals {
     ($($name:ident = $number:literal, $condition:literal;)*) => {
-        /// Why a call is turned back: the rows of document 01's table "Calls turned back".
+        /// Why a call is turned back: the rows of document 01's table "Calls turned back", and row 13, which document 02 adds.
         ///
-        /// The lowest number that applies is given, and only then. A refused call has changed no word of the store, nor of an output.
-        /// Displayed, a refusal is that row's condition in the document's words.
+        /// The first that applies is given, and only then; they are tested in the order 1, 13, 2, 3 and so on up to 12. A refused call has
+        /// changed no word of the store, nor of an output. Displayed, a refusal is that row's condition in the documents' words.
         ///
         /// ```
         /// use ferigulan::{Refusal, Store};
@@ -23,7 +23,7 @@ macro_rules! refusals {
         }
 
         impl Refusal {
-            /// The refusal with this row's number, if it is one of 1 to 12.
+            /// The refusal with this row's number, if it is one of 1 to 13.
             pub const fn from_number(number: u32) -> Option<Refusal> {
                 match number {
                     $($number => Some(Refusal::$name),)*
@@ -53,10 +53,11 @@ refusals! {
     BodyWithoutNil = 10, "array body a pointer without nil";
     OutputTooShort = 11, "output shorter than the answer";
     NoRoom = 12, "the entries to append do not fit";
+    ListTooLong = 13, "list over 4,096 handles";
 }
 
 impl Refusal {
-    /// The row's number, from 1 to 12.
+    /// The row's number, from 1 to 13.
     pub const fn number(self) -> u8 {
         self as u8
     }

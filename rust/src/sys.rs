@@ -33,6 +33,7 @@ extern "C" {
     fn ferigulan_get_mem_ptr(words: *mut u64, n: usize, to: u64, nil: u64, answer: *mut u64) -> u32;
     fn ferigulan_get_mem(words: *mut u64, n: usize, alias: u64, t: u64, answer: *mut u64) -> u32;
     fn ferigulan_meet(words: *mut u64, n: usize, a: u64, b: u64, answer: *mut u64) -> u32;
+    fn ferigulan_meet_list(words: *mut u64, n: usize, types: *const u64, k: usize, answer: *mut u64) -> u32;
     fn ferigulan_isa(words: *const u64, n: usize, a: u64, b: u64, answer: *mut u64) -> u32;
     fn ferigulan_dual(words: *mut u64, n: usize, a: u64, answer: *mut u64) -> u32;
     fn ferigulan_join(words: *mut u64, n: usize, a: u64, b: u64, answer: *mut u64) -> u32;
@@ -84,6 +85,7 @@ extern "C" {
     fn ferigulan_opened_get_mem_ptr(words: *mut u64, n: usize, index: *mut u64, i: usize, memory: *mut u64, m: usize, to: u64, nil: u64, answer: *mut u64) -> u32;
     fn ferigulan_opened_get_mem(words: *mut u64, n: usize, index: *mut u64, i: usize, memory: *mut u64, m: usize, alias: u64, t: u64, answer: *mut u64) -> u32;
     fn ferigulan_opened_meet(words: *mut u64, n: usize, index: *mut u64, i: usize, memory: *mut u64, m: usize, a: u64, b: u64, answer: *mut u64) -> u32;
+    fn ferigulan_opened_meet_list(words: *mut u64, n: usize, index: *mut u64, i: usize, memory: *mut u64, m: usize, types: *const u64, k: usize, answer: *mut u64) -> u32;
     fn ferigulan_opened_isa(words: *const u64, n: usize, index: *const u64, i: usize, memory: *mut u64, m: usize, a: u64, b: u64, answer: *mut u64) -> u32;
     fn ferigulan_opened_dual(words: *mut u64, n: usize, index: *mut u64, i: usize, memory: *mut u64, m: usize, a: u64, answer: *mut u64) -> u32;
     fn ferigulan_opened_join(words: *mut u64, n: usize, index: *mut u64, i: usize, memory: *mut u64, m: usize, a: u64, b: u64, answer: *mut u64) -> u32;
@@ -127,10 +129,10 @@ fn accepted<T>(status: u32, told: T) -> Result<T, Refusal> {
     }
 }
 
-// The archive is proved to return 0 to 12: only one that is not this crate's can do otherwise.
+// The archive is proved to return 0 to 13: only one that is not this crate's can do otherwise.
 #[cold]
 fn unknown(status: u32) -> ! {
-    panic!("the archive returned {status}, which is no refusal of document 01: it is not the one that this crate was made for")
+    panic!("the archive returned {status}, which is no refusal: it is not the one that this crate was made for")
 }
 
 // ---- slices as they are lent

@@ -176,6 +176,21 @@ macro_rules! for_every_call {
                 /// assert_eq!(store.meet(counter, fresh::CTRL)?, fresh::BOT);
             }
 
+            /// The merge of these types, at most 4,096, from left to right, starting at [`TOP`](crate::fresh::TOP), by its handle: each as
+            /// [`meet`](crate::Store::meet) makes it, and of no types `TOP`. What is made on the way is appended too.
+            ///
+            /// All handles are tested first, and a refusal leaves the store as it was before the first merge. Where calls alone have made the
+            /// store, lists of the same types give one handle in any order, if these reach no memory type and no forward reference.
+            make meet_list() with types: [Handle] -> Handle
+            = ferigulan_meet_list, ferigulan_opened_meet_list refuses [ListTooLong NoEntry WrongKind NoRoom] {
+                /// let (counter, eight) = (store.make_int(0, 7)?, store.get_int(8)?);
+                /// let merged = store.meet_list(&[counter, fresh::INT_TWO, eight])?;
+                /// assert_eq!(merged, store.make_int(0, 8)?);
+                /// assert_eq!(store.meet_list(&[eight, fresh::INT_TWO, counter, eight])?, merged);
+                /// assert_eq!(store.meet_list(&[])?, fresh::TOP);
+                /// assert_eq!(store.meet_list(&[counter; 4_097]), Err(Refusal::ListTooLong));
+            }
+
             /// Whether `a` is `b` or above it: whether their merge would be `b`. It makes no entry, and asks for no room.
             ask isa(a: Handle, b: Handle) -> bool
             = ferigulan_isa, ferigulan_opened_isa refuses [NoEntry WrongKind] {

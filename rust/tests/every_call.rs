@@ -1,4 +1,4 @@
-//! Every call with a known answer, and each of the twelve refusals, as a function over words, on a store and on an opened store.
+//! Every call with a known answer, and each of the thirteen refusals, as a function over words, on a store and on an opened store.
 use std::collections::BTreeSet;
 
 use ferigulan::{calls, fresh, index_len, memory_len, Handle, Refusal, Store};
@@ -71,6 +71,7 @@ fn lattice() -> Vec<Known> {
         told(Call::Meet(h(100), h(103)), 145),
         told(Call::Meet(h(103), h(100)), 145),
         told(Call::Meet(h(106), h(109)), 58),
+        told(Call::MeetList(vec![h(103), h(100), fresh::INT_TWO]), 145),
         told(Call::Isa(h(100), h(145)), 1),
         told(Call::Isa(h(145), h(100)), 0),
         told(Call::Dual(h(100)), 148),
@@ -131,7 +132,7 @@ fn told_of_structs() -> Vec<Known> {
     ]
 }
 
-/// Rows 2 to 11 but for 6, most with document 01's own example; 1, 6 and 12 are below.
+/// Rows 2 to 11 but for 6, most with document 01's own example; 1, 6, 12 and 13 are below.
 fn refusals() -> Vec<Known> {
     vec![
         refused(Call::Kind(h(2)), Refusal::NoEntry),
@@ -216,6 +217,41 @@ fn no_room() {
     assert_eq!(words[0], 94);
 }
 
+/// What is made on the way is appended too: 0..2 at 94, and 1..2 at 97 where the list begins at the other end.
+#[test]
+fn lists_are_merged_from_left_to_right() {
+    let known = [
+        told(Call::MeetList(vec![]), 6),
+        told(Call::MeetList(vec![fresh::INT_TWO]), 28),
+        told(Call::MeetList(vec![fresh::TOP, fresh::INT_TWO, fresh::TOP, fresh::INT_TWO]), 28),
+        told(Call::MeetList(vec![fresh::INT_ZERO, fresh::INT_ONE, fresh::INT_TWO]), 94),
+        told(Call::MeetList(vec![fresh::INT_TWO, fresh::INT_ONE, fresh::INT_ZERO, fresh::INT_ONE]), 94),
+        told(Call::MeetList(vec![fresh::INT_ZERO; 4_096]), 9),
+    ];
+    let words = in_three_forms(200, &known);
+    assert_eq!(words[94..101], [261, 0, 2, 261, 1, 2, 0]);
+    assert_eq!(words[0], 100);
+}
+
+/// Row 13 comes before row 2, and after row 1 (`not_well_formed` below). Handles are tested on the store as it comes: 94 is one only once 0..2
+/// is there.
+#[test]
+fn lists_that_are_refused() {
+    let known = [
+        refused(Call::MeetList(vec![h(2); 4_097]), Refusal::ListTooLong),
+        refused(Call::MeetList(vec![fresh::INT_ZERO; 4_097]), Refusal::ListTooLong),
+        refused(Call::MeetList(vec![h(2); 4_096]), Refusal::NoEntry),
+        refused(Call::MeetList(vec![fresh::NAME_TOP, fresh::INT_ZERO, h(2)]), Refusal::NoEntry),
+        refused(Call::MeetList(vec![fresh::INT_ZERO, fresh::NAME_TOP]), Refusal::WrongKind),
+        refused(Call::MeetList(vec![fresh::INT_ZERO, fresh::INT_TWO, h(94)]), Refusal::NoEntry),
+        refused(Call::MeetList(vec![fresh::INT_TWO, fresh::INT_ONE, fresh::INT_ZERO]), Refusal::NoRoom),
+    ];
+    let words = in_three_forms(97, &known);
+    assert_eq!((words[0], &words[94..]), (94, &[0; 3][..]));
+    let fits = [told(Call::MeetList(vec![fresh::INT_ZERO, fresh::INT_ONE, fresh::INT_TWO]), 94)];
+    assert_eq!(in_three_forms(97, &[&known[..], &fits].concat())[0], 97);
+}
+
 #[test]
 fn not_well_formed() {
     let mut words = vec![0; 200];
@@ -224,7 +260,8 @@ fn not_well_formed() {
     assert_eq!(Store::fresh(&mut words[..93]).unwrap_err(), Refusal::NotWellFormed);
     assert_eq!(Store::from_words(&mut words).unwrap_err(), Refusal::NotWellFormed);
     assert_eq!(words, [0; 200]);
-    for (call, ..) in all_known() {
+    let too_long = refused(Call::MeetList(vec![fresh::INT_ZERO; 4_097]), Refusal::ListTooLong);
+    for (call, ..) in all_known().into_iter().chain([too_long]) {
         let mut output = call.output();
         assert_eq!(call.on_words(&mut words, &mut output), Err(Refusal::NotWellFormed), "{call:?}");
         assert_eq!(output, call.output(), "{call:?}");

@@ -2,7 +2,7 @@
 //! calls, with lists and memories of several lengths.
 use std::collections::BTreeSet;
 
-use ferigulan::{calls, index_len, memory_len, Refusal, Store};
+use ferigulan::{calls, fresh, index_len, memory_len, Refusal, Store};
 
 mod common;
 use common::call::{Call, Told};
@@ -63,6 +63,25 @@ fn opened_calls_answer_as_plain_ones() {
             seed += 1;
         }
     }
-    assert_eq!(seen.answered.len(), 46, "{:?}", seen.answered);
-    assert_eq!(seen.refused.len(), 11, "{:?}", seen.refused);
+    assert_eq!(seen.answered.len(), 47, "{:?}", seen.answered);
+    assert_eq!(seen.refused.len(), 12, "{:?}", seen.refused);
+}
+
+/// There is room for 1..2, which is made on the way, and none for 0..2: what was made is taken back, out of the index and the memory too.
+#[test]
+fn a_list_without_room_leaves_the_store_open() {
+    for memory in memory_lengths(97) {
+        let (mut words, mut index, mut memory) = ([0; 97], [0; index_len(97)], vec![0; memory]);
+        let mut store = Store::fresh(&mut words).expect("a length that is allowed");
+        let before = store.words().to_vec();
+        let mut opened = store.open(&mut index, &mut memory).expect("an index that is long enough");
+        for _ in 0..2 {
+            assert_eq!(opened.meet_list(&[fresh::INT_TWO, fresh::INT_ONE, fresh::INT_ZERO]), Err(Refusal::NoRoom));
+            assert_eq!(opened.words(), before);
+        }
+        // what stands at 94 now is not what stood there on the way
+        assert_eq!(opened.meet_list(&[fresh::INT_ZERO, fresh::INT_ONE, fresh::INT_TWO]).map(|merged| merged.word()), Ok(94));
+        assert_eq!(opened.meet(fresh::INT_TWO, fresh::INT_ONE), Err(Refusal::NoRoom));
+        assert_eq!(opened.meet(fresh::INT_TWO, fresh::INT_ZERO).map(|merged| merged.word()), Ok(94));
+    }
 }

@@ -11,7 +11,7 @@ type Refusals = BTreeMap<String, BTreeSet<Refusal>>;
 
 /// A refusal by the name of its case.
 fn named(name: &str) -> Refusal {
-    let all = (1..=12).filter_map(Refusal::from_number);
+    let all = (1..=13).filter_map(Refusal::from_number);
     all.into_iter().find(|refusal| format!("{refusal:?}") == name).unwrap_or_else(|| panic!("{name} is no refusal"))
 }
 
@@ -59,7 +59,7 @@ fn that_are_given() -> Refusals {
 }
 
 fn compare(documented: &Refusals, given: &Refusals) {
-    assert_eq!(documented.len(), 46);
+    assert_eq!(documented.len(), 47);
     for (name, refusals) in documented {
         assert_eq!(Some(refusals), given.get(name), "{name}");
     }

@@ -82,13 +82,13 @@ fn kinds_have_numbers() {
 
 #[test]
 fn refusals_have_numbers_and_words() {
-    for number in 1..=12 {
-        let refusal = Refusal::from_number(number).expect("there are twelve");
+    for number in 1..=13 {
+        let refusal = Refusal::from_number(number).expect("there are thirteen");
         assert_eq!(u32::from(refusal.number()), number);
         assert!(!refusal.to_string().is_empty());
     }
     assert_eq!(Refusal::from_number(0), None);
-    assert_eq!(Refusal::from_number(13), None);
+    assert_eq!(Refusal::from_number(14), None);
     let error: Box<dyn Error> = Refusal::NoRoom.into();
     assert_eq!(format!("{error:>33}"), " the entries to append do not fit");
 }

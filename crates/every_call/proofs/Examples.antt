@@ -50,7 +50,12 @@ pub merge-between : meetListOf (28 ∷ 12 ∷ 9 ∷ []) fresh ≡ record { words
 unfolding mergeFrom meetWithin follow ruleFor pairRule make findIn entries rows firstOf eqs sizeOf wordsAfter freshWords
 merge-between = refl
 
--- 13 before 2, 2 before 3, and a handle that a merge before it would make is no handle yet
-pub merge-rows : (meetListRows (replicate 4097 2) fresh ≡ 13) × (meetListRows (replicate 4096 2) fresh ≡ 2) × (meetListRows (replicate 4096 9) fresh ≡ 0) × (meetListRows (9 ∷ 1 ∷ 2 ∷ []) fresh ≡ 2) × (meetListRows (9 ∷ 1 ∷ []) fresh ≡ 3) × (meetListRows (9 ∷ 28 ∷ 94 ∷ []) fresh ≡ 2)
+-- a handle that a meet of the same list would make is none yet: 0..2 would be at 94
+pub merge-tested : (meetListRows (9 ∷ 28 ∷ 94 ∷ []) fresh ≡ 2) × (meetListOf (9 ∷ 28 ∷ []) fresh .handle ≡ 94)
+unfolding meetListRows typesRows all isAt mergeFrom meetWithin follow ruleFor pairRule make findIn entries rows firstOf eqs sizeOf wordsAfter freshWords
+merge-tested = (refl, refl)
+
+-- 13 before 2, and 2 before 3
+pub merge-rows : (meetListRows (replicate 4097 2) fresh ≡ 13) × (meetListRows (replicate 4096 2) fresh ≡ 2) × (meetListRows (replicate 4096 9) fresh ≡ 0) × (meetListRows (9 ∷ 1 ∷ 2 ∷ []) fresh ≡ 2) × (meetListRows (9 ∷ 1 ∷ []) fresh ≡ 3)
 unfolding meetListRows typesRows all isAt entries rows sizeOf wordsAfter freshWords
-merge-rows = (refl, refl, refl, refl, refl, refl)
+merge-rows = (refl, refl, refl, refl, refl)

@@ -1,4 +1,4 @@
--- Document 02, Slip 1, "Merge a whole list": "Take a lent list of up to 4,096 handles and merge it left to right, starting at Top." `u` is the used words, `types` the list.
+-- Document 02, Slip 1, the merge of a whole list: "Take a lent list of up to 4,096 handles and merge it left to right, starting at Top." `u` is the used words, `types` the list.
 use mathlib.Core.List.{List, [], _∷_}
 use Prim.Native.Nat.{ℕ}
 use lib.Dec.{ltb}

@@ -1,4 +1,4 @@
-//! The calls of document 01 and their replies, and which function reads which call.
+//! The calls of document 01, and those that document 02 adds, with their replies, and which function reads which call.
 
 use crate::float::Reading;
 use crate::refusals::Refusal;
@@ -33,6 +33,8 @@ pub enum Call<'a> {
     /// Alias, type.
     GetMem(u64, u64),
     Meet(u64, u64),
+    /// Document 02, Slip 1: types.
+    MeetList(&'a [u64]),
     Isa(u64, u64),
     Dual(u64),
     Join(u64, u64),
@@ -123,6 +125,7 @@ fn made(store: &mut Store, call: &Call, output: &mut [u64]) -> Answered {
         Call::GetMemPtr(to, nil) => makers::get_mem_ptr(store, to, nil)?,
         Call::GetMem(alias, t) => makers::get_mem(store, alias, t)?,
         Call::Meet(a, b) => meet::meet(store, a, b)?,
+        Call::MeetList(types) => meet::meet_list(store, types)?,
         Call::Dual(a) => dual::dual(store, a)?,
         Call::Join(a, b) => dual::join(store, a, b)?,
         Call::Glb(a) => glb_lub::glb(store, a)?,

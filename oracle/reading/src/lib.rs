@@ -1,9 +1,9 @@
-//! A second reading of document 01: each call on whatever words, written from the document, the readings of its open points and the
-//! original Rust alone. It shares nothing with the library beside which it is run: where the two differ, one of them reads the document
-//! wrongly.
+//! A second reading of document 01, and of document 02's requests that have landed: each call on whatever words, written from the
+//! documents, the readings of their open points and the original Rust alone. It shares nothing with the library beside which it is run:
+//! where the two differ, one of them reads a document wrongly.
 //!
-//! The modules go in the document's order: the store (`entry`, `fresh`, `row_one`, `store`, `making`, `types`), the calls turned back
-//! (`refusals`), and then the calls. Sentences in quotes are the document's.
+//! The modules go in document 01's order: the store (`entry`, `fresh`, `row_one`, `store`, `making`, `types`), the calls turned back
+//! (`refusals`), and then the calls. Sentences in quotes are a document's, 01's where no slip is named.
 
 mod call;
 mod dual;

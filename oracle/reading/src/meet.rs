@@ -1,12 +1,12 @@
-//! meet and isa. "The first rule that fits decides; $BOT and $TOP are handles 20 and 18."
+//! meet and isa, and the merge of a whole list. "The first rule that fits decides; $BOT and $TOP are handles 20 and 18."
 
 use std::collections::HashMap;
 
 use crate::entry::Handle;
 use crate::float;
-use crate::fresh::{BOT, LARGEST_ALIAS, MEM_BOT, MEM_TOP, STRUCT_BOT, STRUCT_TOP};
+use crate::fresh::{BOT, LARGEST_ALIAS, MEM_BOT, MEM_TOP, STRUCT_BOT, STRUCT_TOP, TOP};
 use crate::kind::Kinds;
-use crate::refusals::{take, Made, Refusal};
+use crate::refusals::{refuse_if, take, Made, Refusal};
 use crate::store::Store;
 use crate::types::{Field, Type};
 
@@ -25,6 +25,19 @@ pub fn isa(store: &mut Store, a: Handle, b: Handle) -> Result<bool, Refusal> {
     take(store, [(a, Kinds::TYPES), (b, Kinds::TYPES)])?;
     store.append_nothing();
     Ok(met(store, &mut Pairs::new(), a, b) == Ok(b))
+}
+
+/// Document 02, Slip 1: "a lent list of up to 4,096 handles".
+const LONGEST_LIST: usize = 4096;
+
+/// The call of Slip 1: "merge it left to right, starting at Top". "An empty list gives Top."
+pub fn meet_list(store: &mut Store, types: &[Handle]) -> Made {
+    // "13, list over 4,096, tested after 1 and before 2"
+    refuse_if(types.len() > LONGEST_LIST, 13)?;
+    // "All its handles are tested first, on the store as it comes."
+    take(store, types.iter().map(|&t| (t, Kinds::TYPES)))?;
+    let pairs = &mut Pairs::new();
+    types.iter().try_fold(TOP, |merged, &t| met(store, pairs, merged, t))
 }
 
 /// A type's meet.

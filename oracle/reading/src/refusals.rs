@@ -1,5 +1,5 @@
 //! "Calls turned back": the numbers of the table. "The lowest number that applies is given, and only then": each call tests its rows in
-//! rising order, each row over all arguments, and answers the first that applies.
+//! rising order, each row over all arguments, and answers the first that applies. A number of document 02 is "tested where its slip says".
 
 use crate::entry::Handle;
 use crate::fresh::LARGEST_ALIAS;

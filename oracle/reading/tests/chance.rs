@@ -54,6 +54,16 @@ impl Chance {
         (0..finished + left).map(word).collect()
     }
 
+    /// Handles mostly of one kind, since others meet at Bot; now and then about as many as are allowed.
+    fn list_to_merge(&mut self, list: &List, first: u64) -> Vec<u64> {
+        let kind = list.words[first as usize % list.words.len()] % 256;
+        let some: Vec<u64> = (0..self.below(5)).map(|_| self.of_kinds(list, &[kind, 2])).collect();
+        match self.below(20) {
+            0 => some.into_iter().chain([first]).cycle().take(self.one_of(&[4096, 4097])).collect(),
+            _ => some,
+        }
+    }
+
     fn alias(&mut self) -> u64 {
         self.one_of(&[0, 1, 1, 2, 4_294_967_295, 4_294_967_296])
     }
@@ -82,13 +92,14 @@ fn run_one(chance: &mut Chance, list: &mut List) -> Reply {
 /// A call by chance; its list and text are lent to `with`.
 fn by_chance(chance: &mut Chance, list: &List, with: &mut dyn FnMut(&Call)) {
     let (a, b) = (chance.handle(list), chance.handle(list));
-    match chance.below(16) {
+    match chance.below(17) {
         0..=8 => maker(chance, list, with),
         9..=12 => {
             let same = chance.of_kinds(list, &[list.words[a as usize % list.words.len()] % 256]);
             with(&chance.one_of(&[Call::Meet(a, same), Call::Join(a, same), Call::Isa(a, same), Call::Meet(same, a), Call::Isa(a, b)]));
         }
         13 => with(&chance.one_of(&of_one(a))),
+        14 => with(&Call::MeetList(&chance.list_to_merge(list, a))),
         _ => of_struct(chance, list, with),
     }
 }
@@ -167,7 +178,7 @@ fn a_held_store_through_many_calls() {
 #[test]
 fn calls_keep_the_store() {
     let mut chance = Chance(0x5eed_1234_5678_9abc);
-    let (mut accepted, mut refused) = (0, [0; 13]);
+    let (mut accepted, mut refused) = (0, [0; 14]);
     for run in 0..400 {
         let mut list = List::fresh(94 + chance.below(400) as usize);
         for _ in 0..150 {
@@ -189,7 +200,7 @@ fn calls_keep_the_store() {
     }
     // the calls are of all sorts
     assert!(accepted > 30_000, "{accepted} accepted");
-    for row in [2, 3, 4, 7, 8, 9, 10, 11, 12] {
+    for row in [2, 3, 4, 7, 8, 9, 10, 11, 12, 13] {
         assert!(refused[row] > 20, "row {row}: {refused:?}");
     }
 }

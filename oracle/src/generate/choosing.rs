@@ -68,10 +68,13 @@ impl<'a, 't> Generator<'a, 't, '_> {
 
     /// Another type that a meet with this one would go into, if there is one; else one of the same sort; else any.
     pub(super) fn alike(&mut self, place: usize) -> usize {
-        let Some(this) = self.store().entries[place].ty() else {
-            return self.walked();
-        };
-        let other = |entry: &Entry<'t>| entry.ty().filter(|ty| *ty != this && entry.visits <= MOST_VISITS);
+        self.alike_among(place, |_| true).unwrap_or_else(|| self.walked())
+    }
+
+    /// The same among those that are wanted, if there is one of the same sort.
+    pub(super) fn alike_among(&mut self, place: usize, wanted: impl Fn(&Entry<'t>) -> bool) -> Option<usize> {
+        let this = self.store().entries[place].ty()?;
+        let other = |entry: &Entry<'t>| entry.ty().filter(|ty| *ty != this && entry.visits <= MOST_VISITS && wanted(entry));
         let mut found = None;
         if self.random.percent(85) {
             found = self.find(|entry| other(entry).is_some_and(|ty| have_one_shape(this, ty)));
@@ -79,7 +82,7 @@ impl<'a, 't> Generator<'a, 't, '_> {
         if found.is_none() {
             found = self.find(|entry| other(entry).is_some_and(|ty| are_one_sort(this, ty)));
         }
-        found.unwrap_or_else(|| self.walked())
+        found
     }
 
     /// The type of a handle, or one that is alike.

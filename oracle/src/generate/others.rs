@@ -44,7 +44,7 @@ impl<'t> Generator<'_, 't, '_> {
     }
 
     /// Makes something and hands it on, unless that was refused.
-    fn made(&mut self, name: &'static str, args: Vec<Arg>, text: &str) -> Option<Arg> {
+    pub(super) fn made(&mut self, name: &'static str, args: Vec<Arg>, text: &str) -> Option<Arg> {
         let id = self.run(name, args, text.into());
         matches!(self.list.asked[id].answer, Answer::Number(_)).then_some(Arg::Answer(id))
     }

@@ -62,6 +62,7 @@ functions! {
     Call::GetMemPtr(to, nil) => ferigulan_get_mem_ptr ferigulan_opened_get_mem_ptr (to: u64 = to, nil: u64 = nil) One(Handle);
     Call::GetMem(alias, t) => ferigulan_get_mem ferigulan_opened_get_mem (alias: u64 = alias, t: u64 = t) One(Handle);
     Call::Meet(a, b) => ferigulan_meet ferigulan_opened_meet (a: u64 = a, b: u64 = b) One(Handle);
+    Call::MeetList(types) => ferigulan_meet_list ferigulan_opened_meet_list (types: *const u64 = types.as_ptr(), k: usize = types.len()) One(Handle);
     Call::Isa(a, b) => ferigulan_isa ferigulan_opened_isa (a: u64 = a, b: u64 = b) One(flag);
     Call::Dual(a) => ferigulan_dual ferigulan_opened_dual (a: u64 = a) One(Handle);
     Call::Join(a, b) => ferigulan_join ferigulan_opened_join (a: u64 = a, b: u64 = b) One(Handle);

@@ -16,7 +16,7 @@ macro_rules! asked {
             Call::MakeInt(min, max) => handle($call!(make_int(min as i64, max as i64))),
             Call::GetFloat(bits) => handle($call!(get_float(f64::from_bits(bits)))),
             Call::MakeFloat(size, bits) => handle($call!(make_float(size as i64, f64::from_bits(bits)))),
-            Call::GetTuple(types) => handle($call!(get_tuple(&types.iter().map(|h| at(*h)).collect::<Vec<_>>()))),
+            Call::GetTuple(types) => handle($call!(get_tuple(&all_at(types)))),
             Call::GetStr(name) => handle($call!(get_str(name))),
             Call::GetStruct(name, fields) => handle($call!(get_struct(at(name), fields))),
             Call::MakeAry(length, length_alias, body, body_alias, text) => {
@@ -27,6 +27,7 @@ macro_rules! asked {
             Call::GetMem(alias, t) => handle($call!(get_mem(alias, at(t)))),
 
             Call::Meet(a, b) => handle($call!(meet(at(a), at(b)))),
+            Call::MeetList(types) => handle($call!(meet_list(&all_at(types)))),
             Call::Isa(a, b) => flag($call!(isa(at(a), at(b)))),
             Call::Dual(a) => handle($call!(dual(at(a)))),
             Call::Join(a, b) => handle($call!(join(at(a), at(b)))),
@@ -113,6 +114,10 @@ impl Door for OpenedStore<'_> {
 
 fn at(word: u64) -> Handle {
     Handle::new(word)
+}
+
+fn all_at(words: &[u64]) -> Vec<Handle> {
+    words.iter().map(|word| at(*word)).collect()
 }
 
 fn told<T>(answer: Result<T, Refusal>, reply: impl FnOnce(T) -> Reply) -> Reply {

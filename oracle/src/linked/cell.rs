@@ -46,8 +46,8 @@ impl Cell {
         }
         let (which, answer) = (cell.which, cell.answer);
         match (status, shape) {
-            (1..=12, _) if (which, answer) == (BEFORE, BEFORE) => Ok(Reply::Refused(status as u8)),
-            (1..=12, _) => Err(format!("it refused the call with {status}, and wrote the words for the answer: {which}, {answer}")),
+            (1..=13, _) if (which, answer) == (BEFORE, BEFORE) => Ok(Reply::Refused(status as u8)),
+            (1..=13, _) => Err(format!("it refused the call with {status}, and wrote the words for the answer: {which}, {answer}")),
             (0, Shape::One(reply)) if which == BEFORE => Ok(reply(answer)),
             (0, Shape::Perhaps(_)) if (which, answer) == (0, BEFORE) => Ok(Reply::Absent),
             (0, Shape::Perhaps(reply) | Shape::Either(reply, _)) if which == 1 => Ok(reply(answer)),

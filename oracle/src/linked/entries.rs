@@ -11,6 +11,8 @@ pub struct Entry {
     pub size: usize,
     /// How many types a walk over it meets if it visits shared parts again and again.
     pub visits: u64,
+    /// Whether it is a memory type or a forward reference, or has one among its parts, or theirs.
+    pub reaches_mem_or_fref: bool,
 }
 
 /// The entries in the order of their handles, up to the first word that is not read yet.
@@ -36,9 +38,10 @@ impl Entries {
                 return;
             };
             let entry = &words[self.end..self.end + size];
-            let parts = types_within(entry).map(|k| self.at(entry[k]).map_or(0, |part| part.visits));
-            let visits = parts.fold(1, u64::saturating_add);
-            self.list.push(Entry { handle: self.end as u64, kind, depth, size, visits });
+            let parts = || types_within(entry).filter_map(|k| self.at(entry[k]));
+            let visits = parts().map(|part| part.visits).fold(1, u64::saturating_add);
+            let reaches_mem_or_fref = [9, 11].contains(&kind) || parts().any(|part| part.reaches_mem_or_fref);
+            self.list.push(Entry { handle: self.end as u64, kind, depth, size, visits, reaches_mem_or_fref });
             self.end += size;
         }
     }

@@ -14,6 +14,8 @@ use crate::values;
 pub struct Menus {
     short: Menu,
     long: Menu,
+    /// How many lists in a hundred are damaged.
+    damaged: usize,
 }
 
 /// A list to be run.
@@ -32,15 +34,26 @@ impl Menus {
             Ok(menu)
         };
         let short = Lists { room: ROOM, length: short_length, ..SHORT };
-        let long = Lists { room: ROOM, length: long_length, are_filled: true, most_calls: 1500 };
-        Ok(Menus { short: menu(short)?, long: menu(long)? })
+        let long = Lists { length: long_length, are_filled: true, most_calls: 1500, ..short };
+        Ok(Menus { short: menu(short)?, long: menu(long)?, damaged: 35 })
+    }
+
+    /// Lists of calls most of which merge the same types again and again, in stores that calls alone have made.
+    pub fn of_merges() -> Result<Menus, String> {
+        let mut menus = Menus::read("all")?;
+        menus.damaged = 0;
+        for menu in [&mut menus.short, &mut menus.long] {
+            menu.weigh("meet_list", 400);
+            menu.lists.merged_again = 75;
+        }
+        Ok(menus)
     }
 
     /// The list of this seed.
     pub fn made(&mut self, seed: u64, plant: Option<Plant>) -> Made {
         let mut random = Random::new(seed ^ 0x6c69_6e6b_6564);
         let by = random.of(&[By::Crate, By::C]);
-        let (is_long, is_damaged, is_opened) = (random.below(LISTS_A_LONG_ONE) == 0, random.percent(35), random.percent(50));
+        let (is_long, is_damaged, is_opened) = (random.below(LISTS_A_LONG_ONE) == 0, random.percent(self.damaged), random.percent(50));
         let holds = is_long || random.percent(40);
         let menu = if is_long { &mut self.long } else { &mut self.short };
         menu.opened = is_opened && !is_damaged;

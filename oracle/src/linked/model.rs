@@ -2,7 +2,7 @@
 
 use super::entries::Entries;
 use super::typed::{answer, output, typed};
-use crate::generate::{walks, MOST_VISITS};
+use crate::generate::{ends_soon, MOST_VISITS};
 use crate::script::Call;
 use crate::session::Answer;
 use crate::steps::{Arg, Outcomes, Step};
@@ -146,8 +146,8 @@ impl Model {
     /// reading, which takes longer ones.
     pub fn is_long_walk(&self, call: &Call) -> bool {
         let most = if self.is_damaged { MOST_VISITS_ALONE } else { MOST_VISITS };
-        let is_long = |handle: &u64| self.entries.at(*handle).is_some_and(|entry| entry.visits > most);
-        walks(call.name) && call.numbers.iter().any(is_long)
+        let visits = |handle: &u64| self.entries.at(*handle).map_or(0, |entry| entry.visits);
+        !ends_soon(call.name, most, call.numbers.iter().map(visits))
     }
 }
 

@@ -35,6 +35,8 @@ pub const PLANTS: &[Plant] = &[
         ..plant("old-memory", "opening a list again does not blank the memory of answers", |door, call, output| door.answer(call, output))
     },
     plant("shared-final", "an opened is_final is yes of structs of more than 3 fields", shared_final),
+    plant("half-a-list", "a list that is refused with 12 leaves what its first merges have made", half_a_list),
+    plant("handles-first", "the handles of a list that is too long are tested before its length", handles_first),
 ];
 
 impl Plant {
@@ -48,6 +50,9 @@ impl Plant {
 }
 
 type Answered = Result<Reply, String>;
+
+/// Where a list's merges start.
+const TOP: u64 = 6;
 
 fn used(door: &dyn Door) -> usize {
     door.words().first().map_or(0, |used| *used as usize)
@@ -202,4 +207,27 @@ fn shared_final(door: &mut dyn Door, call: &Call, output: &mut [u64]) -> Answere
         Call::IsFinal(a) if door.words_mut().is_none() && fields(door, a).is_some_and(|fields| fields.len() > 3) => Ok(Reply::Yes),
         _ => Ok(reply),
     }
+}
+
+fn half_a_list(door: &mut dyn Door, call: &Call, output: &mut [u64]) -> Answered {
+    let reply = door.answer(call, output)?;
+    if let (Call::MeetList(types), Reply::Refused(12)) = (call, reply) {
+        let mut merged = TOP;
+        for t in types.iter() {
+            match door.answer(&Call::Meet(merged, *t), output)? {
+                Reply::Handle(handle) => merged = handle,
+                _ => break,
+            }
+        }
+    }
+    Ok(reply)
+}
+
+fn handles_first(door: &mut dyn Door, call: &Call, output: &mut [u64]) -> Answered {
+    let reply = door.answer(call, output)?;
+    if let (Call::MeetList(types), Reply::Refused(13)) = (call, reply) {
+        let starts_none = |t: &u64| door.answer(&Call::Kind(*t), &mut []) == Ok(Reply::Refused(2));
+        return Ok(if types.iter().any(starts_none) { Reply::Refused(2) } else { reply });
+    }
+    Ok(reply)
 }

@@ -1,6 +1,7 @@
 //! The figures of a run: everything that is to be written down about it.
 
 use super::grouped::grouped;
+use super::law::Merges;
 use super::trial::By;
 use crate::script::Call;
 use crate::session::Answer;
@@ -17,6 +18,9 @@ pub struct Circumstances {
     pub has_original: bool,
 }
 
+/// The refusals are 1 to 13; 0 stands for an accepted call.
+const ROWS: usize = 14;
+
 /// The last lengths of the classes that lists are counted in.
 const CLASSES: &[usize] = &[93, 94, 400, 4_096, 65_535, 262_143, 524_288, 1_048_576, usize::MAX];
 
@@ -31,7 +35,7 @@ struct Class {
 #[derive(Default)]
 pub struct Tally {
     /// How many calls of a name, by the reply: 0 for accepted ones, else the refusal.
-    counts: BTreeMap<&'static str, [u64; 13]>,
+    counts: BTreeMap<&'static str, [u64; ROWS]>,
     classes: [Class; CLASSES.len()],
     pub calls: u64,
     /// Calls that filled long lists: not among the others.
@@ -46,6 +50,8 @@ pub struct Tally {
     with_original: u64,
     /// Of the damaged ones, those that are well formed and on an opened store.
     damaged_opened: u64,
+    /// The merges of lists on stores that calls alone have made.
+    pub merges: Merges,
 }
 
 impl Tally {
@@ -96,16 +102,17 @@ impl Tally {
             grouped(self.checks),
             grouped(self.filling)
         );
+        self.merges.print();
     }
 
     fn print_calls(&self) {
         println!("{:<20} {:>12} {:>12}  refused", "call", "calls", "accepted");
         for (name, rows) in &self.counts {
-            let refused: Vec<String> = (1..13).filter(|row| rows[*row] > 0).map(|row| format!("{row}: {}", grouped(rows[row]))).collect();
+            let refused: Vec<String> = (1..ROWS).filter(|row| rows[*row] > 0).map(|row| format!("{row}: {}", grouped(rows[row]))).collect();
             println!("{name:<20} {:>12} {:>12}  {}", grouped(rows.iter().sum()), grouped(rows[0]), refused.join("  "));
         }
         let of_row = |row: usize| self.counts.values().map(|rows| rows[row]).sum::<u64>();
-        let refused: Vec<String> = (1..13).map(|row| format!("{row}: {}", grouped(of_row(row)))).collect();
+        let refused: Vec<String> = (1..ROWS).map(|row| format!("{row}: {}", grouped(of_row(row)))).collect();
         println!("{:<20} {:>12} {:>12}  {}", "all", grouped(self.calls), grouped(of_row(0)), refused.join("  "));
     }
 

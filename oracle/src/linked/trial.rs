@@ -6,6 +6,7 @@ mod opening;
 use super::by_c::ByC;
 use super::by_crate::Plain;
 use super::door::{are_kept, Door, Guarded};
+use super::law::Law;
 use super::model::Model;
 use super::planted::Plant;
 use super::tally::{Circumstances, Tally};
@@ -45,6 +46,7 @@ pub struct Trial<'s, 'a, 't> {
     model: Model,
     original: Session<'a, 't>,
     calls: u64,
+    law: Law,
     /// What the last opening was lent, and the lengths of list and memory.
     index: Guarded,
     memory: Guarded,
@@ -73,6 +75,7 @@ impl<'s, 'a, 't> Trial<'s, 'a, 't> {
             model: Model::new(way.holds),
             original,
             calls: 0,
+            law: Law::default(),
             index: Guarded::filled(0, 0),
             memory: Guarded::filled(0, 0),
             last_lengths: [0; 2],
@@ -210,7 +213,24 @@ impl<'s, 'a, 't> Trial<'s, 'a, 't> {
         if is_filling && self.calls % FILLING_CALLS != 0 {
             return Ok(());
         }
-        self.compare_words(door.words(), output.words())
+        self.compare_words(door.words(), output.words())?;
+        self.compare_with_the_law(call, is_open)
+    }
+
+    /// Lists of the same types have to give one handle, in a store that calls alone have made.
+    fn compare_with_the_law(&mut self, call: &Call, is_open: bool) -> Result<(), Difference> {
+        match (call.name, &self.last) {
+            ("fresh", _) => self.law = Law::default(),
+            ("meet_list", Answer::Number(handle)) if !self.model.is_damaged => {
+                let earlier = self.law.note(&call.numbers, *handle, &self.model.entries, &mut self.tally.merges);
+                self.tally.merges.opened += u64::from(is_open);
+                if let Some(earlier) = earlier {
+                    return Err(Difference::new(format!("; the same types gave {earlier} before")));
+                }
+            }
+            _ => {}
+        }
+        Ok(())
     }
 
     fn ask(&self, call: &Call, door: &mut dyn Door, output: &mut [u64]) -> Result<Answer, String> {

@@ -25,6 +25,7 @@ pub fn typed(call: &script::Call) -> Option<Call<'_>> {
         ("mem", &[alias, t]) => Call::GetMem(alias, t),
 
         ("meet", &[a, b]) => Call::Meet(a, b),
+        ("meet_list", types) => Call::MeetList(types),
         ("isa", &[a, b]) => Call::Isa(a, b),
         ("dual", &[a]) => Call::Dual(a),
         ("join", &[a, b]) => Call::Join(a, b),

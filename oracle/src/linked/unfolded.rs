@@ -1,5 +1,6 @@
 //! The calls that a step is. Most steps are one; `put W..` is the pokes that put an entry of these words behind the used ones, `fill SEED WORDS`
-//! many makers, and `raise WORDS` the pokes that fill a list at once: with empty names, which are zero words, and an Int behind them.
+//! many makers, and `raise WORDS` the pokes that fill a list at once: with empty names, which are zero words, and an Int behind them. `meet_rep`
+//! is one with its list written out.
 
 use super::model::Model;
 use super::typed::{output_length, typed};
@@ -33,7 +34,7 @@ impl Unfolded {
         let call = Call { name: step.name, numbers, text: step.text.clone() };
         match Filler::of(&call) {
             Some(filler) => Unfolded::Filling(filler),
-            None => Unfolded::Calls([call].into()),
+            None => Unfolded::Calls(call.written_out().into_iter().collect()),
         }
     }
 

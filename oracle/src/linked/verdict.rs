@@ -42,9 +42,15 @@ fn sides(original: Option<String>, reading: String, library: String) -> String {
     said.iter().map(|(what, who)| format!("{what} ({})", who.join(", "))).collect::<Vec<_>>().join(", ")
 }
 
+/// A list of more handles than this, all of them the same, is shown by their count.
+const FEW_HANDLES: usize = 8;
+
 /// A call as a script has it, and a comment. `open` has no numbers in a script: they stand in the comment.
 fn line(call: &Call) -> (String, String) {
     match (call.name, &call.numbers[..]) {
+        ("meet_list", handles @ [first, ..]) if handles.len() > FEW_HANDLES && handles.iter().all(|handle| handle == first) => {
+            (format!("meet_rep {} {first}", handles.len()), String::new())
+        }
         ("open", [memory, more]) => {
             ("open".to_string(), format!(" (a memory of {memory} words, an index of {} more than needed)", *more as i64))
         }

@@ -18,6 +18,7 @@ pub enum Call {
     GetMemPtr(Handle, u64),
     GetMem(u64, Handle),
     Meet(Handle, Handle),
+    MeetList(Vec<Handle>),
     Isa(Handle, Handle),
     Dual(Handle),
     Join(Handle, Handle),
@@ -119,6 +120,7 @@ macro_rules! make {
             Call::GetMemPtr(to, nil) => $form!($on get_mem_ptr(*to, *nil)),
             Call::GetMem(alias, t) => $form!($on get_mem(*alias, *t)),
             Call::Meet(a, b) => $form!($on meet(*a, *b)),
+            Call::MeetList(types) => $form!($on meet_list(types)),
             Call::Isa(a, b) => $form!($on isa(*a, *b)),
             Call::Dual(a) => $form!($on dual(*a)),
             Call::Join(a, b) => $form!($on join(*a, *b)),
@@ -183,7 +185,7 @@ impl Call {
     pub fn appends(&self) -> bool {
         let makes =
             ["get_int", "make_int", "get_float", "make_float", "get_tuple", "get_str", "get_struct", "make_ary", "make_struct_fref"];
-        let others = ["get_mem_ptr", "get_mem", "meet", "join", "dual", "glb", "lub", "make_ro", "non_zero"];
+        let others = ["get_mem_ptr", "get_mem", "meet", "meet_list", "join", "dual", "glb", "lub", "make_ro", "non_zero"];
         makes.contains(&self.name()) || others.contains(&self.name())
     }
 

@@ -15,7 +15,7 @@ const NUMBERS: [i64; 12] = [0, 1, 2, 7, 8, -1, -4, 300, 1 << 40, i64::MAX, i64::
 const FLOATS: [f64; 9] = [0.0, -0.0, 0.5, 0.25, 0.1, f64::INFINITY, f64::NAN, 1e300, 3.0];
 const SIZES: [i64; 7] = [0, 32, 64, -32, -64, 16, 200];
 const TEXTS: [&[u8]; 6] = [b"", b"S", b"T", b"field", b"\xff no UTF-8", b"[]"];
-const CHOICES: usize = 50;
+const CHOICES: usize = 51;
 
 impl Play {
     pub fn new(seed: u64) -> Play {
@@ -120,6 +120,14 @@ impl Play {
         }
     }
 
+    /// Now and then one type as often as is allowed, or once more.
+    fn merged(&mut self) -> Vec<Handle> {
+        match self.random.below(30) {
+            0 => vec![self.a_type(); 4_096 + self.random.below(2)],
+            _ => (0..self.random.below(7)).map(|_| self.a_type()).collect(),
+        }
+    }
+
     fn number(&mut self) -> i64 {
         self.random.of(&NUMBERS)
     }
@@ -158,6 +166,7 @@ impl Play {
             20 => Call::Join(self.a_type(), self.a_type()),
             21 | 22 => self.storey(),
             23 => Call::MakeAry(fresh::INT_U32, 1, self.a_type(), 2, self.text()),
+            24 => Call::MeetList(self.merged()),
             _ => {
                 let a = self.a_type();
                 self.of_one(a)

@@ -145,6 +145,7 @@ impl Deep {
     pub fn calls(&self) -> Vec<Call> {
         let (a, b) = (self.a, self.b);
         let mut all = vec![Call::Meet(a, b), Call::Meet(b, a), Call::Isa(a, b), Call::Isa(b, a), Call::Join(a, b), Call::Join(b, a)];
+        all.extend([vec![a, b], vec![b, a, b], vec![fresh::INT_U8; 4_096]].map(Call::MeetList));
         for t in [a, b] {
             all.extend([Call::Dual, Call::Glb, Call::Lub, Call::IsFinal, Call::MakeRo, Call::NonZero].map(|call| call(t)));
         }

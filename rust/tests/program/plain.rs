@@ -49,12 +49,12 @@ const NAMES: &str =
     "list fresh poke peek dump dumpall check open close kind get_bool int float tuple str struct fref ptr mem ary meet isa \
     dual join glb lub is_final make_ro make_init make_zero non_zero is_high is_high_or_constant is_constant is_fref \
     log_size min max value mask sz is_f32 float_value reading name fields find find_alias is_ary offset offsets ary_base \
-    ary_scale get_int foo";
+    ary_scale meet_list meet_rep keep kept get_int foo";
 
 fn random_number(random: &mut Random) -> String {
     const HANDLES: [u64; 24] = [1, 3, 5, 6, 7, 8, 9, 12, 15, 18, 20, 22, 25, 40, 55, 58, 61, 64, 76, 85, 88, 94, 97, 100];
-    const ODD: [&str; 12] =
-        ["", "x", "-", "0x", "4096", "4097", "65536", "65537", "18446744073709551616", "+1", "0xfG", "-9223372036854775809"];
+    const ODD: [&str; 13] =
+        ["", "x", "-", "0x", "4096", "4097", "65536", "65537", "131073", "18446744073709551616", "+1", "0xfG", "-9223372036854775809"];
     match random.below(10) {
         0..=4 => random.of(&HANDLES).to_string(),
         5..=6 => random.below(130).to_string(),
@@ -71,7 +71,8 @@ fn random_line(random: &mut Random) -> String {
         "str" => 0,
         "ary" => 4,
         "dual" | "kind" | "glb" => 1,
-        "meet" | "isa" | "join" | "ptr" => 2,
+        "meet" | "isa" | "join" | "ptr" | "meet_rep" => 2,
+        "keep" | "kept" => 0,
         "struct" => 5,
         _ => random.below(4),
     };

@@ -131,6 +131,39 @@ fn answers_that_are_no_handles_are_readable() {
 }
 
 #[test]
+fn lists_are_merged_and_lists_are_remembered() {
+    let lines = [
+        ("fresh 97", "ok"),
+        ("kept", "0 no"),
+        ("keep", "ok"),
+        ("meet_list", "6 Top"),
+        ("meet_rep 0 9", "6 Top"),
+        ("meet_list 7 8", "7 Ctrl"),
+        ("meet_rep 4096 15", "15 bool"),
+        ("meet_rep 4097 2", "-13 list over 4,096 handles"),
+        ("meet_rep 4096 2", "-2 handle starts no entry"),
+        ("meet_list 9 1", "-3 entry of a kind the call does not take"),
+        ("meet_list 28 12 9", "-12 the entries to append do not fit"),
+        ("kept", "1 yes"),
+        ("meet_list 9 12 28", "94 0..2"),
+        ("kept", "0 no"),
+    ];
+    expect(&lines);
+    let opened: Vec<_> = lines[..1].iter().chain(&[("open", "ok")]).chain(&lines[1..]).copied().collect();
+    expect(&opened);
+    expect(&[
+        ("kept", "1 yes"),
+        ("list 2", "ok"),
+        ("kept", "0 no"),
+        ("keep", "ok"),
+        ("list 3", "ok"),
+        ("kept", "0 no"),
+        ("list 2", "ok"),
+        ("kept", "1 yes"),
+    ]);
+}
+
+#[test]
 fn each_line_of_a_script_is_a_line_of_the_output() {
     for script in scripts() {
         let plain = ferigulan(&["run", "--plain", "--long", &script], "").out;

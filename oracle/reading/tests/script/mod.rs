@@ -6,6 +6,8 @@ use reading::{well_formed, Call, Reply};
 #[derive(Default)]
 pub struct Script {
     words: Vec<u64>,
+    /// The list as `keep` found it; the empty one before.
+    kept: Vec<u64>,
 }
 
 /// "Numbers are decimal (a negative one stands for its two's complement word) or 0x hex".
@@ -52,6 +54,8 @@ impl Script {
             // The held way is run beside each call anyway.
             ("open", &[]) => return Some(if well_formed(&self.words) { "ok" } else { "-1" }.to_string()),
             ("close", &[]) => {}
+            ("keep", &[]) => self.kept = self.words.clone(),
+            ("kept", &[]) => return Some(u64::from(self.kept == self.words).to_string()),
             _ => return None,
         }
         Some("ok".to_string())
@@ -78,6 +82,8 @@ impl Script {
         match (call, numbers) {
             ("tuple", types) => self.reply(&Call::GetTuple(types), 0),
             ("struct", [name, fields @ ..]) => self.reply(&Call::GetStruct(*name, fields), 0),
+            ("meet_list", types) => self.reply(&Call::MeetList(types), 0),
+            ("meet_rep", &[count, t]) => self.reply(&Call::MeetList(&vec![t; count as usize]), 0),
             ("fields", &[s, length]) => self.reply(&Call::StructFields(s), length),
             ("offsets", &[s, length]) => self.reply(&Call::Offsets(s), length),
             (_, &[a]) => self.reply(&of_one(call, a)?, 0),

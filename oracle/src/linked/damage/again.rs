@@ -30,9 +30,15 @@ impl Damaging {
     }
 
     fn ask_about_one(&mut self, types: &[Arg]) -> (&'static str, Vec<Arg>) {
-        let name = self.random.of(&["meet", "meet", "isa", "isa", "join", "dual", "glb", "lub", "is_final", "make_ro", "non_zero"]);
+        let of_types = ["meet", "meet", "meet_list", "isa", "isa", "join", "dual", "glb", "lub", "is_final", "make_ro", "non_zero"];
+        let name = self.random.of(&of_types);
         let a = self.random.of(types);
         let args = match name {
+            "meet_list" => {
+                let mut list = self.two();
+                list.extend((0..self.random.below(6)).map(|_| self.random.of(types)));
+                list
+            }
             "meet" | "isa" | "join" => {
                 let b = self.two()[1];
                 self.random.of(&[[a, b], [b, a], [a, self.last_type()]]).to_vec()

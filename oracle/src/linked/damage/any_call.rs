@@ -1,8 +1,9 @@
 //! Calls of all kinds on whatever words there are, also such as the original cannot be asked.
 
 use super::Damaging;
-use crate::generate::{LATTICE, MAKERS, OTHERS};
+use crate::generate::{all_asks, MAKERS};
 use crate::linked::entries::Entry;
+use crate::rows::LONGEST_LIST;
 use crate::steps::Arg;
 use crate::values;
 
@@ -17,7 +18,7 @@ const MANY: &[usize] = &[100, 125, 126, 200, 254, 255, 256, 257, 300];
 
 impl Damaging {
     pub(super) fn some_call(&mut self) {
-        let all: Vec<(usize, &'static str)> = MAKERS.iter().chain(LATTICE).chain(OTHERS).copied().collect();
+        let all: Vec<(usize, &'static str)> = MAKERS.iter().chain(all_asks()).copied().collect();
         let name = self.random.weighted(&all);
         let (args, text) = self.given(name);
         let args = self.spoilt(name, args);
@@ -39,6 +40,8 @@ impl Damaging {
             "mem" => vec![self.alias(), self.one(TYPES)],
             "ary" => return (vec![self.one(INTS), self.alias(), self.one(TYPES), self.alias()], self.text()),
             "meet" | "isa" | "join" => self.two(),
+            "meet_list" => self.merged(),
+            "meet_rep" => vec![number(self.list_length() as u64), self.one(TYPES)],
             "min" | "max" | "value" | "mask" => vec![self.one(INTS)],
             "sz" | "is_f32" | "float_value" | "reading" => vec![self.one(FLOATS)],
             "name" | "is_ary" | "ary_base" | "ary_scale" => vec![self.one(STRUCTS)],
@@ -87,6 +90,22 @@ impl Damaging {
             _ => self.one(TYPES),
         };
         self.random.of(&[[a, b], [b, a]]).to_vec()
+    }
+
+    /// Handles of two types that may be copies, and of a third: few, or now and then so many that the list is about too long.
+    fn merged(&mut self) -> Vec<Arg> {
+        let mut types = self.two();
+        types.push(self.one(TYPES));
+        let count = match self.random.below(30) {
+            0 => self.list_length(),
+            _ => self.random.below(8),
+        };
+        (0..count).map(|_| self.random.of(&types)).collect()
+    }
+
+    /// How many handles a list has: one or none, about as many as are allowed, or far more.
+    fn list_length(&mut self) -> usize {
+        self.random.of(&[0, 1, LONGEST_LIST, LONGEST_LIST, LONGEST_LIST + 1, LONGEST_LIST + 1, 20_000])
     }
 
     pub(super) fn flag(&mut self) -> Arg {
@@ -192,7 +211,7 @@ impl Damaging {
             3 => Arg::Behind(self.random.below(3) as u64),
             _ => Arg::Number(self.random.word()),
         };
-        if ["struct", "tuple"].contains(&name) && self.random.percent(40) {
+        if ["struct", "tuple", "meet_list"].contains(&name) && self.random.percent(40) {
             args.truncate(args.len() - self.random.below(args.len().min(4)));
         }
         args

@@ -30,8 +30,8 @@ impl Damaging {
     /// A call on an entry and a copy of it, or on a copy and another one.
     fn ask_about_copy(&mut self, of: Arg, copy: Arg) {
         let other = self.two()[0];
-        let of_two = ["meet", "meet", "isa", "isa", "join"];
-        let of_one = ["dual", "glb", "lub", "make_ro", "is_final", "log_size", "is_high", "is_constant", "make_init"];
+        let of_two = ["meet", "meet", "isa", "isa", "join", "meet_list"];
+        let of_one = ["dual", "glb", "lub", "make_ro", "is_final", "log_size", "is_high", "is_constant", "make_init", "meet_list"];
         let (name, args) = match self.random.percent(50) {
             true => (self.random.of(&of_two), self.random.of(&[[of, copy], [copy, of], [copy, other], [other, copy]]).to_vec()),
             false => (self.random.of(&of_one), vec![copy]),

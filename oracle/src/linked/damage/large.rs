@@ -8,6 +8,13 @@ use crate::values;
 /// The types of the fresh store that have log sizes: some of each.
 const SIZED: &[u64] = &[9, 12, 15, 22, 25, 28, 31, 34, 37, 40, 43, 46, 49, 52, 55, 58, 61, 82, 85, 88, 91];
 
+/// What is asked of a large struct, those calls more often that read or fill all its fields.
+#[rustfmt::skip]
+const ASKED: &[&str] = &[
+    "fields", "fields", "offsets", "offsets", "offset", "offset", "find", "find_alias", "is_ary", "name", "meet", "meet", "meet_list", "isa",
+    "join", "dual", "glb", "lub", "make_ro", "is_final", "ptr", "non_zero", "ary_base", "log_size", "kind",
+];
+
 impl Damaging {
     pub(super) fn large_struct(&mut self) {
         if self.random.percent(10) {
@@ -51,32 +58,7 @@ impl Damaging {
 
     fn ask_about(&mut self, a: Arg, b: Arg, fields: &[Arg]) {
         let count = fields.len() / 4;
-        let name = self.random.of(&[
-            "fields",
-            "fields",
-            "offsets",
-            "offsets",
-            "offset",
-            "offset",
-            "find",
-            "find_alias",
-            "is_ary",
-            "name",
-            "meet",
-            "meet",
-            "isa",
-            "join",
-            "dual",
-            "glb",
-            "lub",
-            "make_ro",
-            "is_final",
-            "ptr",
-            "non_zero",
-            "ary_base",
-            "log_size",
-            "kind",
-        ]);
+        let name = self.random.of(ASKED);
         let some_field = &fields[1 + 4 * self.random.below(count)..];
         let args = match name {
             "fields" => vec![a, Arg::Number(self.length_for(4 * count))],
@@ -85,19 +67,21 @@ impl Damaging {
             "find" => vec![a, some_field[0]],
             "find_alias" => vec![a, some_field[2]],
             "meet" | "isa" | "join" => self.random.of(&[[a, b], [b, a]]).to_vec(),
+            "meet_list" => self.random.of(&[[a, b, a], [b, a, b]]).to_vec(),
             "ptr" => vec![a, self.flag()],
             _ => vec![a],
         };
         self.run(name, args, vec![]);
     }
 
-    /// Texts and lists of thousands of bytes, elements or fields.
+    /// Texts and lists of thousands of bytes, elements, handles or fields.
     fn far_too_many(&mut self) {
         let count = self.random.of(&[256, 512, 1000, 65_535, 65_536, 65_537, 65_791, 100_000]);
-        match self.random.below(4) {
+        match self.random.below(5) {
             0 => drop(self.run("str", vec![], vec![b'a'; count])),
             1 => drop(self.run("tuple", vec![Arg::Number(25); count], vec![])),
             2 => drop(self.run("ary", [9, 0, 25, 0].map(Arg::Number).to_vec(), vec![b'a'; count])),
+            3 => drop(self.run("meet_list", vec![Arg::Number(25); count], vec![])),
             _ => {
                 let fields = [1, 25, 0, 0].map(Arg::Number).into_iter().cycle().take(4 * count);
                 let args = [Arg::Number(1)].into_iter().chain(fields).collect();

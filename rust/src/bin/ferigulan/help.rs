@@ -31,7 +31,7 @@ than 120 characters is cut, and ends in '..'.
   94      a handle, and the type that it stands for
   =-4     a signed number
   1, 0    yes, no
-  -12     a refusal, and its condition in document 01's words
+  -12     a refusal, and its condition in the documents' words
   ?       the line is no call; standard error says why, after SCRIPT:LINE:,
           and the run goes on
 

@@ -32,6 +32,8 @@ pub const LINES: &[Usage] = &[
     Usage { name: "dump", arguments: "", call: "", does: "the used words, or the entries that they are" },
     Usage { name: "dumpall", arguments: "", call: "", does: "all words" },
     Usage { name: "check", arguments: "", call: "well_formed", does: "whether the words are well formed" },
+    Usage { name: "keep", arguments: "", call: "", does: "remembers the list, all its words" },
+    Usage { name: "kept", arguments: "", call: "", does: "whether the list is as it was then" },
     Usage { name: "open", arguments: "", call: "open", does: "opens the store: the same answers, sooner" },
     Usage { name: "close", arguments: "", call: "", does: "closes it; so do poke, list and fresh" },
 ];
@@ -51,11 +53,13 @@ pub struct Session {
     memory: Vec<u64>,
     /// Lent to a call that fills one.
     output: Vec<u64>,
+    /// The list as it is remembered: the empty one, with which a script begins, until it says otherwise.
+    kept: Vec<u64>,
 }
 
 impl Session {
     pub fn new(limits: Limits) -> Session {
-        Session { limits, words: Vec::new(), index: Vec::new(), memory: Vec::new(), output: Vec::new() }
+        Session { limits, words: Vec::new(), index: Vec::new(), memory: Vec::new(), output: Vec::new(), kept: Vec::new() }
     }
 
     /// Runs a script to its end.
@@ -94,7 +98,7 @@ impl Session {
                 return Ok(true);
             }
             let mut lent = Lent { text: &script.line.text, output: &mut self.output, most_output: self.limits.output };
-            let reply = reply(&script.line, |said| answer_opened(&mut opened, said, &mut lent));
+            let reply = reply(&script.line, |said| answer_opened(&mut opened, said, &mut lent, &mut self.kept));
             page.put(&script.line, &reply, opened.words(), &self.output)?;
         }
         Ok(false)
@@ -105,7 +109,7 @@ impl Session {
         if let Some(answer) = self.change(said)? {
             return Ok(Some(answer));
         }
-        if let Some(answer) = look(&self.words, said)? {
+        if let Some(answer) = look(&self.words, said, &mut self.kept)? {
             return Ok(Some(answer));
         }
         let mut lent = Lent { text, output: &mut self.output, most_output: self.limits.output };
@@ -175,20 +179,25 @@ fn ends_opened(line: &Line) -> bool {
 }
 
 /// Answers a line on an opened store.
-fn answer_opened(store: &mut OpenedStore, said: Said, lent: &mut Lent) -> Result<Option<Answer>, String> {
-    if let Some(answer) = look(store.words(), said)? {
+fn answer_opened(store: &mut OpenedStore, said: Said, lent: &mut Lent, kept: &mut Vec<u64>) -> Result<Option<Answer>, String> {
+    if let Some(answer) = look(store.words(), said, kept)? {
         return Ok(Some(answer));
     }
     table::opened(store, said.0, said.1, lent)
 }
 
 /// The lines that read the list.
-fn look(words: &[u64], said: Said) -> Result<Option<Answer>, String> {
+fn look(words: &[u64], said: Said, kept: &mut Vec<u64>) -> Result<Option<Answer>, String> {
     Ok(Some(match said {
         ("peek", &[i]) => Answer::Number(words[place(words, i)?]),
         ("dump", []) => Answer::Used,
         ("dumpall", []) => Answer::All,
         ("check", []) => Answer::Flag(calls::well_formed(words)),
+        ("keep", []) => {
+            words.clone_into(kept);
+            Answer::Accepted
+        }
+        ("kept", []) => Answer::Flag(words == kept),
         _ => return Ok(None),
     }))
 }

@@ -1,4 +1,5 @@
 //! The lines that are calls: each with its numbers, the call of the library, and how it answers.
+use crate::script::LONGEST;
 use crate::spell::{self, grouped, Answer};
 use ferigulan::{calls, Handle, OpenedStore};
 
@@ -41,6 +42,17 @@ fn handles(words: &[u64]) -> Vec<Handle> {
     words.iter().copied().map(Handle::new).collect()
 }
 
+/// How many handles a list may be said to have: as many as a line has room for numbers.
+const MOST_HANDLES: u64 = LONGEST as u64 / 2;
+
+/// One handle n times.
+fn repeated(n: u64, handle: u64) -> Result<Vec<Handle>, String> {
+    if n > MOST_HANDLES {
+        return Err(format!("a handle is repeated at most {} times", grouped(MOST_HANDLES)));
+    }
+    Ok(vec![h(handle); n as usize])
+}
+
 /// The table, and its two readings: the call on lent words, which tests row 1 first, and the same call on an opened store. A line that is
 /// none of these answers nothing.
 macro_rules! table {
@@ -81,6 +93,8 @@ table! { lent:
     "ary" "LEN LALIAS BODY BALIAS HEX" "an array" &[len, len_alias, body, body_alias]
         => make_ary(h(len), len_alias, h(body), body_alias, lent.text) answers Answer::Handle;
     "meet" "A B" "the merge of two types" &[a, b] => meet(h(a), h(b)) answers Answer::Handle;
+    "meet_list" "H.." "the merge of a list of types, from Top on" types => meet_list(&handles(types)) answers Answer::Handle;
+    "meet_rep" "N H" "the merge of a list of N times one type" &[n, a] => meet_list(&repeated(n, a)?) answers Answer::Handle;
     "isa" "A B" "whether it would be the second" &[a, b] => isa(h(a), h(b)) answers Answer::Flag;
     "dual" "A" "the type turned over" &[a] => dual(h(a)) answers Answer::Handle;
     "join" "A B" "the merge from the other side" &[a, b] => join(h(a), h(b)) answers Answer::Handle;
