@@ -1,5 +1,5 @@
 // Lists: the merge of a whole list beside its meets one by one, plain, opened, and in the original Rust, which has no lists. The first time, when each meet makes its answer, and once the
-// answers are there; and a list that does not fit, after which the store is opened again.
+// answers are there; and a list that does not fit, after which the index is made anew.
 use crate::calls::{make, Call, Lent, NEW, REFUSED};
 use crate::clock::{human, rounds, time_one};
 use crate::functions::of;

@@ -19,7 +19,7 @@ use Rattle.store_index.specs.StoreIndex.{marksSize, indexSize, IndexOf}
 use Rattle.store_index.specs.Steps.{Stale}
 use Rattle.store_index.proofs.Index.{three-blank}
 use Rattle.store_index.proofs.Store.{used-within}
-use Rattle.opened.specs.OpenStore.{openReply, Opening}
+use Rattle.opened.specs.OpenStore.{OpenStore, openReply, Opening}
 use Rattle.opened.proofs.Store.{no-starts}
 
 no-accept : (n : ℕ) → Refused n ≡ Accepted → ⊥
@@ -40,20 +40,19 @@ module _ (ws index : List ℕ) (ok : wellFormed ws ≡ true) (k : ℕ) (is : k �
       let e = lt-ltb (length index) (indexSize (length ws)) (omega (arith, is, short)) in
       (rw (ok, e), record { opens = λ q. absurd (no-accept 11 q); kept = λ _. (refl, refl) })
 
-  module _ (long : k + 2 * length ws ≤ length index) where
-    pub enough : indexSize (length ws) ≤ length index
-    enough = omega (arith, is, long)
+  pub enough : k + 2 * length ws ≤ length index → indexSize (length ws) ≤ length index
+  enough long = omega (arith, is, long)
 
+  module _ (room : indexSize (length ws) ≤ length index) where
     -- the bits were cleared, and the chains are blank
     pub begin-index : (bits : List ℕ) (same : length bits ≡ length (take k index)) → bitAt bits ≡ nowhere
         → (chains : List ℕ) → length chains ≡ length (take (length (bits ++ drop k index) - k) (drop k (bits ++ drop k index))) → Blank chains → Stale ws (putMid k (length (bits ++ drop k index) - k) (bits ++ drop k index) chains)
-    begin-index bits same none chains long₁ blank =
+    begin-index bits same none chains long blank =
         let n = length-take-le (getD ws 0 0) ws (used-within ws ok) in
-        three-blank ws index k is enough bits same chains long₁ (omega (arith, n, tests ws ok .enough)) (none ∙ no-starts ws) blank
+        three-blank ws index k is room bits same chains long (omega (arith, n, tests ws ok .enough)) (none ∙ no-starts ws) blank
 
-    pub opened-store : (index′ memory memory′ : List ℕ) → IndexOf ws index′ → memory′ ≡ replicate (length memory) 0 → (done Accepted ≡ openReply ws (length index)) × Opening ws index memory index′ memory′ Accepted
-    opened-store index′ memory memory′ whole blank =
-        let e = le-ltb (length index) (indexSize (length ws)) enough in (
-          rw (ok, e),
-          record { opens = λ _. record { well = ok; whole = whole; right = rw blank (right-blank (usedWords ws) (length memory)) }; kept = λ ne. absurd (ne refl) },
-        )
+    pub opened-store : (index′ memory memory′ : List ℕ) → OpenStore ws index′ memory′ → (done Accepted ≡ openReply ws (length index)) × Opening ws index memory index′ memory′ Accepted
+    opened-store index′ memory memory′ o = let e = le-ltb (length index) (indexSize (length ws)) room in (rw (ok, e), record { opens = λ _. o; kept = λ ne. absurd (ne refl) })
+
+pub built-store : (ws index memory memory′ : List ℕ) → wellFormed ws ≡ true → IndexOf ws index → memory′ ≡ replicate (length memory) 0 → OpenStore ws index memory′
+built-store ws index memory memory′ ok whole blank = record { well = ok; whole = whole; right = rw blank (right-blank (usedWords ws) (length memory)) }

@@ -9,8 +9,12 @@ use making::Making;
 use struct_calls::Filling;
 use struct_calls::OfStruct;
 ghost use mathlib.Core.Path.{_≡_};
+ghost use mathlib.Core.Bool.{true};
 ghost use mathlib.Core.List.{[]};
+ghost use Prim.Native.Nat.{_≤_};
 ghost use lib.ListN.{length};
+ghost use Rattle.wellformed.specs.Form.{wellFormed};
+ghost use Rattle.store_index.specs.StoreIndex.{indexSize};
 ghost use Rattle.call.specs.Call.{left, made, told, done};
 ghost use Rattle.every_call.specs.Run.{run};
 ghost use Rattle.making.specs.Making.{appended};
@@ -18,6 +22,18 @@ ghost use Rattle.asking.specs.Asking.{askedFilling, asked, outputOf};
 ghost use Rattle.opened.specs.OpenStore.{OpenStore, openReply, Opening};
 
 // ---- opening
+
+// Makes the index, and a blank memory, of a store that row 1 has passed.
+pub fn build(words: &[u64], index: &mut [u64], memory: &mut [u64])
+    requires { ⌜ (wellFormed (now words) ≡ true) × (indexSize (length (now words)) ≤ length (now index)) ⌝ }
+    ensures { λ _. ⌜ OpenStore (now (words .entry)) (now (index .exit)) (now (memory .exit)) ⌝ }
+{
+    let k = store_index::marks_size(words.len());
+    bitset::clear(&mut index[..k]);
+    index::blank(&mut index[k..]);
+    store_index::extend(&*words, index);
+    words::clear(memory);
+}
 
 // Tests row 1, and makes the index and a blank memory.
 pub fn open(words: &[u64], index: &mut [u64], memory: &mut [u64]) -> Done
@@ -28,15 +44,11 @@ pub fn open(words: &[u64], index: &mut [u64], memory: &mut [u64]) -> Done
         return Done::Refused(1);
     }
     let n = words.len();
-    let k = store_index::marks_size(n);
     // behind the bits the two halves of the chains, a word for each word of the list
-    if index.len() < k + 2 * n {
+    if index.len() < store_index::marks_size(n) + 2 * n {
         return Done::Refused(11);
     }
-    bitset::clear(&mut index[..k]);
-    index::blank(&mut index[k..]);
-    store_index::extend(&*words, index);
-    words::clear(memory);
+    build(&*words, index, memory);
     Done::Accepted
 }
 

@@ -4,7 +4,6 @@ use mathlib.Core.Bool.{true}
 use mathlib.Core.List.{List, [], _++_, append-nil}
 use Prim.Native.Nat.{ℕ, _-_, _≤_, _<_}
 use native.Mathlib.Omega.{arith}
-use borrow.Author.Tests.{le-ltb}
 use lib.ListN.{length, take, drop, getD, set, length-drop, length-set, drop-of-length-le}
 use lib.Seq.{length-take-le, take-at, drop-at, getD-set-same, take-set-lt, take-take}
 use borrow.Rule.Slice.PartMut.{putMid, same-len-mid}
@@ -17,11 +16,9 @@ use Rattle.words.proofs.Room.{fitted}
 use Rattle.wellformed.specs.Form.{wellFormed, usedWords}
 use Rattle.wellformed.proofs.Before.{tests}
 use Rattle.index.specs.Covers.{indexedTo, Opened}
-use Rattle.call.specs.declared.Done.{Done}
-use Rattle.call.specs.declared.Done.the-variants.{Accepted, Refused}
 use Rattle.call.specs.declared.Made.{Made}
 use Rattle.call.specs.declared.Made.the-variants as Made-variants
-use Rattle.call.specs.Call.{Outcome, accepted, handle, refused, done, left, made}
+use Rattle.call.specs.Call.{Outcome, handle, refused, left, made}
 use Rattle.call.specs.Steps.{finishIn}
 use Rattle.call.proofs.Ways.{begun, ended}
 use Rattle.later.proofs.Keeps.{later-set}
@@ -36,22 +33,10 @@ use Rattle.store_index.specs.StoreIndex.{marksSize, indexSize, chainsOf, IndexO
 use Rattle.store_index.specs.Steps.{Stale, Unmarked}
 use Rattle.store_index.proofs.Index.{used-long, tail-all}
 use Rattle.store_index.proofs.Store.{used-is, used-some, used-low}
-use Rattle.opened.specs.OpenStore.{OpenStore, openReply, Opening}
+use Rattle.opened.specs.OpenStore.{OpenStore}
 use Rattle.opened.proofs.Index.{all-in, covers-later}
 use Rattle.opened.proofs.Store.{after-well, after-stale}
 use Rattle.opened_lists.specs.Then.{OpenedThen}
-
--- ---- opening again
-
-accepts : (r : Done) → done r ≡ accepted → r ≡ Accepted
-accepts Accepted e = refl
-accepts (Refused n) e = let z : _≡_ {A = ℕ} 0 1 = cc in absurd (omega arith)
-
-pub reopened : (ws index memory index′ memory′ : List ℕ) (r : Done) → wellFormed ws ≡ true → indexSize (length ws) ≤ length index → done r ≡ openReply ws (length index) → Opening ws index memory index′ memory′ r → OpenStore ws index′ memory′
-reopened ws index memory index′ memory′ r ok room e o =
-    let f = le-ltb (length index) (indexSize (length ws)) room in
-    let a : openReply ws (length index) ≡ accepted = rw (ok, f) in
-    o .opens (accepts r (e ∙ a))
 
 -- ---- the chains came back in their place
 

@@ -1,22 +1,18 @@
 // The merge of a whole list on an opened store. The index takes in what each meet appends before the next, so that a long list costs what its meets cost one by one; so where
-// an answer does not fit, the store is opened again, as it was.
+// an answer does not fit, the index is made anew.
 use call::Made;
 use words::Interned;
 use words::fresh;
 ghost use mathlib.Core.Path.{_≡_};
-ghost use mathlib.Core.Bool.{true};
 ghost use mathlib.Core.List.{[]};
-ghost use Prim.Native.Nat.{_≤_};
-ghost use lib.ListN.{length, take};
+ghost use lib.ListN.{take};
 ghost use Rattle.words.specs.Ran.{Runs};
-ghost use Rattle.wellformed.specs.Form.{wellFormed};
 ghost use Rattle.index.specs.Covers.{Opened};
 ghost use Rattle.call.specs.Call.{left, made};
 ghost use Rattle.lent_memory.specs.Memory.{Right, RightThen};
 ghost use Rattle.every_call.specs.Cleared.{Cleared};
 ghost use Rattle.every_call.specs.MeetList.{meetListRows, meetListOf};
 ghost use Rattle.every_call.specs.Run.{run, meet-list};
-ghost use Rattle.store_index.specs.StoreIndex.{indexSize};
 ghost use Rattle.opened.specs.OpenStore.{OpenStore};
 ghost use Rattle.opened_lists.specs.Then.{OpenedThen};
 
@@ -56,14 +52,6 @@ fn merge(
     Interned::At(t, v)
 }
 
-// Opens a store again: the index and the memory may speak of entries that are gone.
-fn reopen(words: &[u64], index: &mut [u64], memory: &mut [u64])
-    requires { ⌜ (wellFormed (now words) ≡ true) × (indexSize (length (now words)) ≤ length (now index)) ⌝ }
-    ensures { λ _. ⌜ OpenStore (now (words .entry)) (now (index .exit)) (now (memory .exit)) ⌝ }
-{
-    opened::open(&*words, index, memory);
-}
-
 pub fn meet_list(words: &mut [u64], index: &mut [u64], memory: &mut [u64], types: &[u64]) -> Made
     requires { ⌜ OpenStore (now words) (now index) (now memory) ⌝ }
     ensures { λ r. ⌜ left (made r) (now (words .exit)) ≡ run (meet-list (now (types .entry))) (now (words .entry)) ⌝ }
@@ -83,7 +71,8 @@ pub fn meet_list(words: &mut [u64], index: &mut [u64], memory: &mut [u64], types
             Made::Handle(h)
         }
         Made::Refused(n) => {
-            reopen(words, index, memory);
+            // the index and the memory may speak of entries that are gone
+            opened::build(words, index, memory);
             Made::Refused(n)
         }
     }

@@ -79,8 +79,8 @@ mark-new-requires c κs =
 enum-known-m-2 : tie.Need-enum-known-m-2
 enum-known-m-2 c = search needs
 
-reopen-requires : tie.Need-reopen-requires
-reopen-requires c κs =
+build-requires : tie.Need-build-requires
+build-requires c κs =
     let s = c .before .before .before .before .before .before .before .before .before .before .before .before .before .before .before .before .before .before .before .before .before .before .before .before .before .before .before .before .before .before in
     let q = sym (c .before .before .before .before .before .before .before .before .before .before .before .before .before .before .before .before .before .before .before .before .before .list-rows .ensures) ∙ c .before .before .before .before .before .before .before .before .before .before .before .before .before .before .before .before .before .before .before .before .if1 .left in
     let g = c .before .before .before .before .before .before .before .before .before .before .before .before .before .before .before .before .merge in
@@ -123,7 +123,7 @@ returns-3 c =
     let g = c .before .before .before .before .before .before .before .before .before .before .before .before .before .before .before .before .before .before .before .before .before .merge in
     let f = c .before .before .before .before .before .before .before .before .before .before .before .before .before .finish in
     let e = list-end _ _ _ _ (s .pre) q _ (c .before .before .before .before .before .before .before .before .before .before .before .before .before .before .before .before .before .before .before .before .before .before .before .before .before .before .before .before .before .marks-size .ensures .0) _ _ (g .ensures .0) (g .kept .0) (f .result) _ (f .ensures) (f .kept .0) (g .last .1 .1 .1 .0) (g .kept .1 .1 .1 .0) in
-    (ap (λ (x : Made). left (made x) (f .last .0)) (sym (c .before .before .before .before .before .before .before .before .before .m2 .given .1)) ∙ e .reply, c .before .before .before .before .reopen .ensures)
+    (ap (λ (x : Made). left (made x) (f .last .0)) (sym (c .before .before .before .before .before .before .before .before .before .m2 .given .1)) ∙ e .reply, c .before .before .before .before .build .ensures)
 
 pub meet-list-spec : {M : Type 1} → statement M
 meet-list-spec =
@@ -146,7 +146,7 @@ meet-list-spec =
     enum-known-m
     mark-new-requires
     enum-known-m-2
-    reopen-requires
+    build-requires
     same-length-3
     same-length-4
     same-length-5
