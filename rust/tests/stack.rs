@@ -4,7 +4,7 @@ use std::env;
 use std::process::Command;
 use std::thread;
 
-use ferigulan::index_len;
+use ferigulan::{fresh, index_len, Refusal, Store};
 
 mod common;
 use common::towers::{deep, memory_lengths, Tower, TOWERS};
@@ -33,6 +33,26 @@ fn enough(length: usize, bytes: usize) {
     let all = move || TOWERS.into_iter().for_each(|shape| run(length, shape));
     let thread = thread::Builder::new().stack_size(bytes).spawn(all).expect("a thread");
     thread.join().expect("the thread's calls end");
+}
+
+// A list that does not fit on an opened store: its index is made anew, without the bits of row 1, which alone take 128 KiB in so long a list.
+#[test]
+fn a_refused_list_needs_little() {
+    const LENGTH: usize = 1_048_576;
+    let mut words = vec![0; LENGTH];
+    Store::fresh(&mut words).expect("the length is right");
+    // all words but one are in use: a word of 0 is the empty name
+    words[0] = LENGTH as u64 - 1;
+    let before = words.clone();
+    let (mut index, mut memory) = (vec![0; index_len(LENGTH)], vec![0; 6_000]);
+    let mut store = Store::from_words(&mut words).expect("a store");
+    let mut opened = store.open(&mut index, &mut memory).expect("room for the index");
+    let merged = thread::scope(|scope| {
+        let merge = || opened.meet_list(&[fresh::INT_ZERO, fresh::INT_ONE, fresh::INT_TWO]);
+        thread::Builder::new().stack_size(32 * KIB).spawn_scoped(scope, merge).expect("a thread").join()
+    });
+    assert_eq!(merged.expect("the call ends"), Err(Refusal::NoRoom));
+    assert!(words == before, "a refusal changes no word");
 }
 
 /// Set for the process that is to end.
