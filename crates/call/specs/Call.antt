@@ -55,7 +55,7 @@ abbrev pub done : Done → Reply
 done Done-variants.Accepted = accepted
 done (Done-variants.Refused n) = refused n
 
--- ---- rows of refusals: "The lowest number that applies is given, and only then." 0 is no refusal.
+-- ---- rows of refusals: "The lowest number that applies is given, and only then." A number of document 02 is "tested where its slip says". 0 is no refusal.
 
 -- a row: its number, where its condition holds
 infix 25 _when_
