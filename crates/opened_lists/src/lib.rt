@@ -1,5 +1,5 @@
-// The merge of a whole list on an opened store. The index takes in what each meet appends before the next, so that a long list costs what its meets cost one by one; so where
-// an answer does not fit, the index is made anew.
+// The merge of a whole list on an opened store. The index takes in what each meet appends before the next, so that a long list costs what its meets cost one by one. Where an
+// answer does not fit, entries are in the index that are gone, and it is made anew.
 use call::Made;
 use words::Interned;
 use words::fresh;
