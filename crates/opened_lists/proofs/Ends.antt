@@ -6,13 +6,10 @@ use Prim.Native.Nat.{ℕ, _-_, _≤_, _<_}
 use native.Mathlib.Omega.{arith}
 use lib.ListN.{length, take, drop, getD, set, length-drop, length-set, drop-of-length-le}
 use lib.Seq.{length-take-le, take-at, drop-at, getD-set-same, take-set-lt, take-take}
-use borrow.Rule.Slice.PartMut.{putMid, same-len-mid}
 use Rattle.words.specs.Words.{fills}
 use Rattle.words.specs.Ran.{Runs}
 use Rattle.words.specs.declared.Interned.{Interned}
 use Rattle.words.specs.declared.Interned.the-variants.{At, Full}
-use Rattle.words.proofs.Extend.{ext-length}
-use Rattle.words.proofs.Room.{fitted}
 use Rattle.wellformed.specs.Form.{wellFormed, usedWords}
 use Rattle.wellformed.proofs.Before.{tests}
 use Rattle.index.specs.Covers.{indexedTo, Opened}
@@ -24,6 +21,7 @@ use Rattle.call.proofs.Ways.{begun, ended}
 use Rattle.later.proofs.Keeps.{later-set}
 use Rattle.lent_memory.specs.Memory.{Right, RightThen}
 use Rattle.lent_memory.proofs.Laws.{right-later}
+use Rattle.making.proofs.Kept.{used-then}
 use Rattle.every_call.specs.Cleared.{Cleared}
 use Rattle.every_call.proofs.Cleared.{whole}
 use Rattle.every_call.specs.MeetList.{meetListRows, meetListOf}
@@ -31,32 +29,12 @@ use Rattle.every_call.proofs.MeetList.{merge-grows}
 use Rattle.every_call.specs.Run.{meet-list, run}
 use Rattle.store_index.specs.StoreIndex.{marksSize, indexSize, chainsOf, IndexOf}
 use Rattle.store_index.specs.Steps.{Stale, Unmarked}
-use Rattle.store_index.proofs.Index.{used-long, tail-all}
+use Rattle.store_index.proofs.Index.{used-long, tail-all, back, back-long, back-front, back-rest}
 use Rattle.store_index.proofs.Store.{used-is, used-some, used-low}
 use Rattle.opened.specs.OpenStore.{OpenStore}
 use Rattle.opened.proofs.Index.{all-in, covers-later}
 use Rattle.opened.proofs.Store.{after-well, after-stale}
 use Rattle.opened_lists.specs.Then.{OpenedThen}
-
--- ---- the chains came back in their place
-
-module _ (k : ℕ) (index d : List ℕ) (fits : k ≤ length index) (same : length d ≡ length (take (length index - k) (drop k index))) where
-  abbrev back : List ℕ
-  back = putMid k (length index - k) index d
-
-  pub back-long : length back ≡ length index
-  back-long = same-len-mid k (length index - k) index d same
-
-  front-long : length (take k index) ≡ k
-  front-long = length-take-le k index fits
-
-  back-marks : take k back ≡ take k index
-  back-marks = take-at (take k index) (d ++ drop (length index - k) (drop k index)) k front-long
-
-  back-chains : drop k back ≡ d
-  back-chains =
-      let none : drop (length index - k) (drop k index) ≡ [] = drop-of-length-le (drop k index) {i = length index - k} (omega (arith, length-drop k index)) in
-      drop-at (take k index) (d ++ drop (length index - k) (drop k index)) k front-long ∙ rw none (append-nil d)
 
 -- ---- a call on an opened store that no row turns back
 
@@ -95,8 +73,7 @@ module _ (ws index memory types : List ℕ) (o : OpenStore ws index memory) (q :
     -- an answer that fitted
     record Set (h v : ℕ) : Type 0 where
       at : r ≡ At h v
-      words : ws₂ ≡ set ws₁ 0 v
-      pub used-then : usedWords ws₂ ≡ set (take v ws₁) 0 v
+      words : usedWords ws₂ ≡ set (take v ws₁) 0 v
 
     settled : (h : ℕ) → m ≡ Made-variants.Handle h → (v : ℕ) × Set h v
     unfolding finishIn
@@ -105,12 +82,11 @@ module _ (ws index memory types : List ℕ) (o : OpenStore ws index memory) (q :
         go : (s : Interned) → r ≡ s → (v : ℕ) × Set h v
         go (At g v) a =
             let e₁ : left (handle h) ws₂ ≡ left (handle g) (set ws₁ 0 v) = rw (f, a) at e in
-            let w : ws₂ ≡ set ws₁ 0 v = ap (λ (y : Outcome). y .words) e₁ in
             let y : handle h ≡ handle g = ap (λ (y : Outcome). y .reply) e₁ in
             let hg : h ≡ g = cc in
             let some : 0 < length ws₁ = omega (arith, same, tests ws (o .well) .least) in
-            let low : 0 < v = omega (arith, fitted used (meetListOf types (take used ws)) ws ws₁ r ran g v a .end, used-low ws (o .well), length-take-le used ws (tests ws (o .well) .within), ext-length (take used ws) (meetListOf types (take used ws) .words) (merge-grows 6 types (take used ws))) in
-            (v, record { at = rw hg a; words = w; used-then = rw (w, getD-set-same ws₁ 0 v 0 some) (take-set-lt v ws₁ 0 v low) })
+            let q = used-then ws ws₁ ws₂ used r (meetListOf types (take used ws)) m (used-low ws (o .well)) (tests ws (o .well) .within) some (merge-grows 6 types (take used ws)) ran e g v a in
+            (v, record { at = rw hg a; words = q })
         go Full a =
             let e₁ : left (handle h) ws₂ ≡ finishIn used Full ws₁ = rw (f, a) at e in
             let y : handle h ≡ refused 12 = ap (λ (y : Outcome). y .reply) e₁ in
@@ -138,12 +114,12 @@ module _ (ws index memory types : List ℕ) (o : OpenStore ws index memory) (q :
             low = used-low ws (o .well);
             high = high;
             cut = rw (take-take used (getD ws₂ 0 0) ws₂ high) at cut;
-            marks = rw (K, back-marks k index d k-fits lent) (rw (n, K) at (stale .marks));
-            chains = rw (K, back-chains k index d k-fits lent, set-is .used-then) (record { covers = covers-later (take v ws₁) (set (take v ws₁) 0 v) d (later-set (take v ws₁) v) (op .covers); all = λ room. rw (length-set (take v ws₁) 0 v) (op .all (rw (length-set (take v ws₁) 0 v) at room)) });
+            marks = rw (K, back-front k index d k-fits lent) (rw (n, K) at (stale .marks));
+            chains = rw (K, back-rest k index d k-fits lent, set-is .words) (record { covers = covers-later (take v ws₁) (set (take v ws₁) 0 v) d (later-set (take v ws₁) v) (op .covers); all = λ room. rw (length-set (take v ws₁) 0 v) (op .all (rw (length-set (take v ws₁) 0 v) at room)) });
           }
 
       list-right : (memory₁ : List ℕ) → RightThen [] ws₁ r memory₁ → Right (usedWords ws₂) memory₁
-      list-right memory₁ right = rw (set-is .used-then) (right-later (later-set (take v ws₁) v) (right .is h v (set-is .at)))
+      list-right memory₁ right = rw (set-is .words) (right-later (later-set (take v ws₁) v) (right .is h v (set-is .at)))
 
     -- all of it
     pub record Ended : Type 0 where

@@ -25,6 +25,25 @@ used-long ws ok = length-take-le (getD ws 0 0) ws (tests ws ok .within)
 pub tail-all : (k : ℕ) (l : List ℕ) → take (length l - k) (drop k l) ≡ drop k l
 tail-all k l = ap (λ (n : ℕ). take n (drop k l)) (sym (length-drop k l)) ∙ take-length (drop k l)
 
+-- d came back in the place of all behind the first k
+module _ (k : ℕ) (l d : List ℕ) (fits : k ≤ length l) (same : length d ≡ length (take (length l - k) (drop k l))) where
+  abbrev pub back : List ℕ
+  back = putMid k (length l - k) l d
+
+  pub back-long : length back ≡ length l
+  back-long = same-len-mid k (length l - k) l d same
+
+  front-long : length (take k l) ≡ k
+  front-long = length-take-le k l fits
+
+  pub back-front : take k back ≡ take k l
+  back-front = take-at (take k l) (d ++ drop (length l - k) (drop k l)) k front-long
+
+  pub back-rest : drop k back ≡ d
+  back-rest =
+      let none : drop (length l - k) (drop k l) ≡ [] = drop-of-length-le (drop k l) {i = length l - k} (omega (arith, length-drop k l)) in
+      drop-at (take k l) (d ++ drop (length l - k) (drop k l)) k front-long ∙ rw none (append-nil d)
+
 -- nothing was appended
 pub none-new : (ws index : List ℕ) → wellFormed ws ≡ true → Stale ws index → (k : ℕ) → k ≡ marksSize (length ws) → (from : ℕ) → from ≡ indexedTo (take (length index - k) (drop k index)) → from ≡ getD ws 0 0 → IndexOf ws index
 none-new ws index ok s k is from covered all =
@@ -68,22 +87,20 @@ module _ (ws index : List ℕ) (k : ℕ) (is : k ≡ marksSize (length ws)) (roo
 
     -- and then the chains
     module _ (chains : List ℕ) (long : length chains ≡ length (take (length two - k) (drop k two))) where
+      two-fits : k ≤ length two
+      two-fits = omega (arith, two-long, k-fits)
+
       abbrev three : List ℕ
       three = putMid k (length two - k) two chains
 
       pub three-room : indexSize (length ws) ≤ length three
-      three-room = omega (arith, same-len-mid k (length two - k) two chains long, two-long, room)
-
-      three-front-long : length (take k two) ≡ k
-      three-front-long = length-take-le k two (omega (arith, two-long, k-fits))
+      three-room = omega (arith, back-long k two chains two-fits long, two-long, room)
 
       pub three-marks : take k three ≡ bits
-      three-marks = take-at (take k two) (chains ++ drop (length two - k) (drop k two)) k three-front-long ∙ two-marks
+      three-marks = back-front k two chains two-fits long ∙ two-marks
 
       pub three-chains : drop k three ≡ chains
-      three-chains =
-          let none : drop (length two - k) (drop k two) ≡ [] = drop-of-length-le (drop k two) {i = length two - k} (omega (arith, length-drop k two)) in
-          drop-at (take k two) (chains ++ drop (length two - k) (drop k two)) k three-front-long ∙ rw none (append-nil chains)
+      three-chains = back-rest k two chains two-fits long
 
       pub three-index : bitAt bits ≡ starts (usedWords ws) → Opened (usedWords ws) chains → IndexOf ws three
       three-index marks opened = record { room = three-room; marks = rw (sym is, three-marks) marks; chains = rw (sym is, three-chains) opened }
