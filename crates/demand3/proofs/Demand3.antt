@@ -10,7 +10,7 @@ use Rattle.words.specs.Kinds.{Fref}
 use Rattle.words.specs.Table.{entries}
 use Rattle.words.specs.Made.{Grown}
 use Rattle.wellformed.specs.Form.{wellFormed, usedWords}
-use Rattle.call.specs.Call.{handle, flag, replyAfter, call, ask}
+use Rattle.call.specs.Call.{flag, replyAfter, call, ask}
 use Rattle.wellformed.specs.Entry.{all}
 use Rattle.call.specs.Handles.{typesRows}
 use Rattle.words.specs.Columns.{kindOn}

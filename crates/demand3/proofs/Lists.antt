@@ -1,5 +1,5 @@
 -- What the merge of a list does to trees: from Top on, the least upper bound of all of them. Assumes nothing.
-use mathlib.Core.Path.{_≡_, refl, sym, _∙_}
+use mathlib.Core.Path.{_≡_, refl}
 use mathlib.Core.Logic.{inl, inr, ⊎-elim}
 use mathlib.Core.List.{List, [], _∷_}
 use Prim.Native.Nat.{ℕ, suc, max}
@@ -11,10 +11,10 @@ use Rattle.parts.specs.Parts.{Good, All}
 use Rattle.parts.proofs.Good.{fresh-word, part-below, good-adds}
 use Rattle.parts.proofs.Parts.{all-map}
 use Rattle.meet.specs.Meet.{meetOf}
-use Rattle.join.proofs.Adds.{Given, met}
+use Rattle.join.proofs.Adds.{met}
 use Rattle.every_call.specs.MeetList.{mergeFrom, meetListOf}
 use Rattle.every_call.proofs.MeetList.{top-in}
-use Rattle.trees.proofs.Tree.{Ty, hi, all, any, up, _⊑_, ⊑-refl, ⊑-trans}
+use Rattle.trees.proofs.Tree.{Ty, hi, all, _⊑_, ⊑-refl, ⊑-trans}
 use Rattle.trees.proofs.Meet.{Meet}
 use Rattle.trees.proofs.Free.{NoMem}
 use Rattle.meaning.proofs.Store.{Distinct, Typed, treeOn, looks, onward-adds, grown, still, kept}

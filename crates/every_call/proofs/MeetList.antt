@@ -13,7 +13,7 @@ use Rattle.call.specs.Keep.{Keeps}
 use Rattle.call.proofs.Keep.{call-keeps}
 use Rattle.call.proofs.Sound.{adds-none}
 use Rattle.kept.proofs.Rows.{then-off}
-use Rattle.parts.specs.Parts.{Good, Part, All}
+use Rattle.parts.specs.Parts.{Good, All}
 use Rattle.parts.proofs.Parts.{all-map}
 use Rattle.parts.proofs.Good.{good-long, part-weak, top-part, well-good, good-adds}
 use Rattle.meet.specs.Meet.{meetOf}

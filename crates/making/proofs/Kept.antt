@@ -1,9 +1,9 @@
 -- A memory stays right over the end of a call. Assumes nothing.
-use mathlib.Core.Path.{_≡_, refl, sym, ap, _∙_}
-use mathlib.Core.List.{List, [], _++_}
+use mathlib.Core.Path.{_≡_, refl, ap, _∙_}
+use mathlib.Core.List.{List, []}
 use Prim.Native.Nat.{ℕ, _≤_, _<_}
 use native.Mathlib.Omega.{arith}
-use lib.ListN.{length, take, getD, set, replicate}
+use lib.ListN.{length, take, getD, set}
 use lib.Seq.{length-take-le, getD-set-same, take-set-lt}
 use Rattle.words.specs.Made.{Grown}
 use Rattle.words.specs.Ran.{Ran}

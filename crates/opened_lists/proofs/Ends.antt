@@ -1,11 +1,11 @@
 -- What the parts of `meet_list` require and leave: the store is open again at the end. Assumes nothing.
 use mathlib.Core.Path.{_≡_, refl, sym, ap, _∙_}
 use mathlib.Core.Bool.{true}
-use mathlib.Core.List.{List, [], _++_, append-nil}
+use mathlib.Core.List.{List, []}
 use Prim.Native.Nat.{ℕ, _-_, _≤_, _<_}
 use native.Mathlib.Omega.{arith}
-use lib.ListN.{length, take, drop, getD, set, length-drop, length-set, drop-of-length-le}
-use lib.Seq.{length-take-le, take-at, drop-at, getD-set-same, take-set-lt, take-take}
+use lib.ListN.{length, take, drop, getD, set, length-set}
+use lib.Seq.{take-take}
 use Rattle.words.specs.Words.{fills}
 use Rattle.words.specs.Ran.{Runs}
 use Rattle.words.specs.declared.Interned.{Interned}
@@ -27,7 +27,7 @@ use Rattle.every_call.proofs.Cleared.{whole}
 use Rattle.every_call.specs.MeetList.{meetListRows, meetListOf}
 use Rattle.every_call.proofs.MeetList.{merge-grows}
 use Rattle.every_call.specs.Run.{meet-list, run}
-use Rattle.store_index.specs.StoreIndex.{marksSize, indexSize, chainsOf, IndexOf}
+use Rattle.store_index.specs.StoreIndex.{marksSize, indexSize, chainsOf}
 use Rattle.store_index.specs.Steps.{Stale, Unmarked}
 use Rattle.store_index.proofs.Index.{used-long, tail-all, back, back-long, back-front, back-rest}
 use Rattle.store_index.proofs.Store.{used-is, used-some, used-low}
