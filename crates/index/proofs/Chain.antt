@@ -9,13 +9,13 @@ use lib.ListN.{length, take, drop, getD, length-take, drop-of-length-le}
 use lib.Seq.{length-take-le, take-append-le, take-take}
 use Rattle.words.specs.Words.{sizeOf, eqs, fills}
 use Rattle.words.specs.Table.{rows, entries, firstOf, findIn, starts}
-use Rattle.words.specs.Ran.{Segments}
+use Rattle.words.specs.Ran.{Segments, Tail}
 use Rattle.words.specs.declared.Found.{Found}
 use Rattle.words.specs.declared.Found.the-variants.{At, Nothing}
 use Rattle.words.proofs.Grow.{orElse}
 use Rattle.index.specs.Digest.{bucketOf}
 use Rattle.index.proofs.Seek.{Seek, seek-first, seek-starts, seek-next}
-use Rattle.index.specs.Covers.{indexedTo, Covers, Tail}
+use Rattle.index.specs.Covers.{indexedTo, Covers}
 use Rattle.index.proofs.Prefix.{rest-fills, split-find, starts-whole, words-whole}
 
 pub to-none : (index : List ℕ) → length index / 2 ≡ 0 → 1 ≡ indexedTo index

@@ -9,4 +9,3 @@ pub mod Built
 pub mod Prefix
 pub mod Chain
 pub mod Keep
-pub mod Two

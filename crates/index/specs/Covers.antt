@@ -2,7 +2,7 @@
 use mathlib.Core.Path.{_≡_}
 use mathlib.Core.Bool.{true, cond}
 use mathlib.Core.List.{List}
-use Prim.Native.Nat.{ℕ, _/_, _≤_, _<_}
+use Prim.Native.Nat.{ℕ, _/_, _≤_}
 use lib.ListN.{length, take, drop, getD}
 use lib.Dec.{eqb}
 use Rattle.words.specs.Words.{fills}
@@ -28,9 +28,3 @@ pub record Blank (index : List ℕ) : Type 0 where
 pub record Opened (u index : List ℕ) : Type 0 where
   pub covers : Covers u index
   pub all : length u ≤ length index / 2 → indexedTo index ≡ length u
-
--- entries that fill the used words from position `from` on
-pub record Tail (old u : List ℕ) (from : ℕ) : Type 0 where
-  pub within : from ≤ length u
-  pub cut : from < length old → fills 0 (drop from old) ≡ true
-  pub full : fills 0 (drop from u) ≡ true

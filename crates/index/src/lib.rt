@@ -9,12 +9,12 @@ ghost use mathlib.Core.List.{_++_};
 ghost use Prim.Native.Nat.{ℕ, _+_, _-_, _*_, _/_, _<_, _≤_, _^_};
 ghost use lib.ListN.{length, take, drop, getD};
 ghost use Rattle.words.specs.Words.{sizeOf, eqs, fills};
-ghost use Rattle.words.specs.Table.{rows, firstOf, findIn, starts as startsIn};
+ghost use Rattle.words.specs.Table.{findIn, starts as startsIn};
 ghost use Rattle.words.specs.Made.{make};
 ghost use Rattle.words.specs.Ran.{Segments, Runs};
 ghost use Rattle.index.specs.Digest.{stirred, hashFrom, slotOf, bucketOf};
 ghost use Rattle.index.specs.Chains.{added};
-ghost use Rattle.index.specs.Covers.{indexedTo, Covers, Blank, Opened, Tail};
+ghost use Rattle.index.specs.Covers.{indexedTo, Covers, Blank, Opened};
 
 // The numbers of the hash (specs/Digest.antt).
 const HALF: u64 = 4294967296;
@@ -125,27 +125,6 @@ fn search(old: &[u64], new: &[u64], used: usize, entry: &[u64], index: &[u64]) -
     Found::At(lowest)
 }
 
-// The first entry equal to `entry` among those from `from` on.
-fn rest(old: &[u64], new: &[u64], used: usize, from: usize, entry: &[u64]) -> Found
-    requires { ⌜ Segments (now old) (now new) used × Tail (now old) (take used (now old ++ now new)) from ⌝ }
-    ensures { λ r. ⌜ r ≡ firstOf (rows from 0 (drop from (take used (now (old .entry) ++ now (new .entry))))) (now (entry .entry)) ⌝ }
-{
-    if old.len() <= from {
-        return words::look(
-            &*new,
-            old.len(),
-            from - old.len(),
-            used - old.len(),
-            &*entry,
-        );
-    }
-    let f = words::look(&*old, 0, from, old.len(), &*entry);
-    match f {
-        Found::At(h) => Found::At(h),
-        Found::Nothing => words::look(&*new, old.len(), 0, used - old.len(), &*entry),
-    }
-}
-
 // The lowest handle of an entry equal to `entry`.
 pub fn find(old: &[u64], new: &[u64], used: usize, entry: &[u64], index: &[u64]) -> Found
     requires { ⌜ Segments (now old) (now new) used ⌝ }
@@ -155,7 +134,11 @@ pub fn find(old: &[u64], new: &[u64], used: usize, entry: &[u64], index: &[u64])
     let f = search(&*old, &*new, used, &*entry, &*index);
     match f {
         Found::At(h) => Found::At(h),
-        Found::Nothing => rest(&*old, &*new, used, covered(&*index), &*entry),
+        Found::Nothing => {
+            let rest = words::find(&*old, &*new, used, covered(&*index), &*entry);
+            let g = rest.found;
+            g
+        }
     }
 }
 

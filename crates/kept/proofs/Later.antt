@@ -55,6 +55,6 @@ name-right u bs s =
     let g = make u (nameEntry bs) in
     let m = make-in u (nameEntry bs) (s .low) (s .full) (name-sized bs) in
     let r : Row = record { at = g .handle; words = nameEntry bs } in
-    let head : word (g .words) (g .handle) ≡ 65536 * length bs = entry-head (g .words) r m ∙ sym (head-word bs 0 (length bs) refl refl) in
+    let head : word (g .words) (g .handle) ≡ 65536 * length bs = entry-head (g .words) r m ∙ sym (head-word bs (length bs) refl) in
     let k : kindOf (word (g .words) (g .handle)) ≡ 0 = omega arith in
     record { start = and-both (starts (g .words) (g .handle)) true (row-starts (entries (g .words)) r m) refl; kinds = rw k }

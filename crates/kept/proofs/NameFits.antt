@@ -20,7 +20,7 @@ use Rattle.names.proofs.NameEntry.{name-length, head-word, later-word, name-siz
 module _ (bs : List ℕ) where
   -- the head: kind, depth and number of bytes
   head : getD (nameEntry bs) 0 0 ≡ 65536 * length bs
-  head = sym (head-word bs 0 (length bs) refl refl)
+  head = sym (head-word bs (length bs) refl)
 
   is-name : kind (nameEntry bs) ≡ 0
   is-name = omega (arith, head)

@@ -33,13 +33,16 @@ name-length bs = ap suc (length-packed ((length bs + 7) / 8) bs) ∙ omega arith
 pub name-most : (wrap : Bool) (text : List ℕ) → length text ≤ 65535 → length (nameEntry (wrapped wrap text)) ≤ 8194
 name-most wrap text h = omega (arith, name-length (wrapped wrap text), length-most text wrap)
 
--- what `name_size` and `entry_word` give
+-- what `name_size`, `name_head` and `entry_word` give
 pub size-of-name : (bs : List ℕ) (n : ℕ) → n ≡ length bs → 1 + (n + 7) / 8 ≡ length (nameEntry bs)
 size-of-name bs n is = rw is (sym (name-length bs))
 
-pub head-word : (bs : List ℕ) (i n : ℕ) → i ≡ 0 → n ≡ length bs → 65536 * n ≡ getD (nameEntry bs) i 0
+pub head-word : (bs : List ℕ) (n : ℕ) → n ≡ length bs → 65536 * n ≡ getD (nameEntry bs) 0 0
 unfolding nameEntry
-head-word bs i n z is = rw z (omega arith)
+head-word bs n is = omega arith
+
+pub first-word : (bs : List ℕ) (i w : ℕ) → i ≡ 0 → w ≡ getD (nameEntry bs) 0 0 → w ≡ getD (nameEntry bs) i 0
+first-word bs i w z is = rw z is
 
 pub later-word : (bs : List ℕ) (i w : ℕ) → (i ≡ 0 → ⊥) → i < length (nameEntry bs) → w ≡ ofBytes (take 8 (drop (8 * (i - 1)) bs)) → w ≡ getD (nameEntry bs) i 0
 unfolding nameEntry
@@ -53,7 +56,7 @@ later-word bs (suc i) w ne h is =
 pub name-sized : (bs : List ℕ) → HasSize (nameEntry bs)
 name-sized bs =
     let w = getD (nameEntry bs) 0 0 in
-    let e : 65536 * length bs ≡ w = head-word bs 0 (length bs) refl refl in
+    let e : 65536 * length bs ≡ w = head-word bs (length bs) refl in
     let k : w % 256 ≡ 0 = omega arith in
     let n : w / 65536 ≡ length bs = omega arith in
     name-length bs ∙ sym (name-size w k ∙ rw n)

@@ -8,12 +8,15 @@ ghost use Prim.Native.Nat.{_+_, _*_, _^_, _<_, _≤_};
 ghost use lib.ListN.{length, take, drop, getD};
 ghost use lib.Seq.{slice};
 ghost use Rattle.words.specs.Words.{sizeOf, eqs, fills};
-ghost use Rattle.words.specs.Table.{rows, firstOf, findIn, starts};
+ghost use Rattle.words.specs.Table.{rows, findIn, starts};
+ghost use Rattle.words.specs.Search.{Searched};
 ghost use Rattle.words.specs.Made.{make};
-ghost use Rattle.words.specs.Ran.{Segments, Runs};
+ghost use Rattle.words.specs.Ran.{Segments, Tail, Runs};
 ghost use Rattle.index.specs.Digest.{hashFrom, bucketOf};
-ghost use Rattle.index.specs.Covers.{indexedTo, Covers, Tail};
+ghost use Rattle.index.specs.Covers.{indexedTo, Covers};
 ghost use Rattle.names.specs.Name.{ofBytes, nameEntry, wrapped, longestText};
+use words::Found;
+use words::Search;
 use words::kinds;
 
 // The bytes of "[" and "]".
@@ -110,6 +113,14 @@ fn name_size(text: &[u8], wrap: bool) -> usize
     1 + (name_len(&*text, wrap) + 7) / 8
 }
 
+// The head of a name's entry.
+fn name_head(text: &[u8], wrap: bool) -> u64
+    requires { ⌜ length (now text) ≤ longestText ⌝ }
+    ensures { λ r. ⌜ r ≡ getD (nameEntry (wrapped wrap (now (text .entry)))) 0 0 ⌝ }
+{
+    kinds::COUNT * name_len(&*text, wrap) as u64
+}
+
 // A word of a name's entry.
 fn entry_word(text: &[u8], wrap: bool, i: usize) -> u64
     requires { ⌜ length (now text) ≤ longestText ⌝ }
@@ -117,13 +128,13 @@ fn entry_word(text: &[u8], wrap: bool, i: usize) -> u64
     ensures { λ r. ⌜ r ≡ getD (nameEntry (wrapped wrap (now (text .entry)))) i 0 ⌝ }
 {
     if i == 0 {
-        return kinds::COUNT * name_len(&*text, wrap) as u64;
+        return name_head(&*text, wrap);
     }
     name_word(&*text, wrap, 8 * (i - 1))
 }
 
-// Whether an entry is that of a name. The length and the head come first, so that other entries are passed over quickly.
-fn same_name(e: &[u64], text: &[u8], wrap: bool) -> bool
+// Whether an entry is that of a name.
+pub fn same_name(e: &[u64], text: &[u8], wrap: bool) -> bool
     requires { ⌜ length (now text) ≤ longestText ⌝ }
     ensures { λ r. ⌜ r ≡ eqs (now (e .entry)) (nameEntry (wrapped wrap (now (text .entry)))) ⌝ }
 {
@@ -140,28 +151,38 @@ fn same_name(e: &[u64], text: &[u8], wrap: bool) -> bool
     true
 }
 
-// The first entry of a name among those from `from` to `to` of one segment, whose first word is at position `base` of the store.
-fn look_name(
-    words: &[u64],
-    base: usize,
-    from: usize,
-    to: usize,
-    text: &[u8],
-    wrap: bool,
-) -> words::Found
+// The first entry of a name among those from `from` to `to` of one segment, whose first word is at position `base` of the store. Bytes are compared only with an entry
+// that has the name's head.
+fn look_name(words: &[u64], base: usize, from: usize, to: usize, text: &[u8], wrap: bool) -> Search
     requires { ⌜ (to ≤ length (now words)) × (base + length (now words) < 2 ^ 63) × (fills 0 (slice from to (now words)) ≡ true) ⌝ }
     requires { ⌜ length (now text) ≤ longestText ⌝ }
-    ensures { λ r. ⌜ r ≡ firstOf (rows (base + from) 0 (slice from to (now (words .entry)))) (nameEntry (wrapped wrap (now (text .entry)))) ⌝ }
+    ensures { λ r. ⌜ Searched (rows (base + from) 0 (slice from to (now (words .entry)))) (nameEntry (wrapped wrap (now (text .entry)))) (r .found) (r .count) ⌝ }
 {
+    let head = name_head(&*text, wrap);
+    let n = words::size(head);
     let mut at = from;
+    let mut count = 0;
     while at < to {
-        let n = words::size(words[at]);
-        if same_name(&words[at..at + n], &*text, wrap) {
-            return words::Found::At(base + at);
+        at = words::pass_over(&*words, at, to, head, n);
+        if to <= at {
+            return Search {
+                found: Found::Nothing,
+                count: count,
+            };
         }
+        if same_name(&words[at..at + n], &*text, wrap) {
+            return Search {
+                found: Found::At(base + at),
+                count: count + 1,
+            };
+        }
+        count += 1;
         at += n;
     }
-    words::Found::Nothing
+    Search {
+        found: Found::Nothing,
+        count: count,
+    }
 }
 
 // The hash of a name's entry.
@@ -210,7 +231,7 @@ fn search_name(
     text: &[u8],
     wrap: bool,
     index: &[u64],
-) -> words::Found
+) -> Found
     requires { ⌜ Segments (now old) (now new) used ⌝ }
     requires { ⌜ length (now text) ≤ longestText ⌝ }
     requires { ⌜ Covers (take used (now old ++ now new)) (now index) ⌝ }
@@ -218,7 +239,7 @@ fn search_name(
 {
     let half = index.len() / 2;
     if half == 0 {
-        return words::Found::Nothing;
+        return Found::Nothing;
     }
     let b = name_bucket(half, &*text, wrap);
     let mut at = index[b] as usize;
@@ -229,23 +250,23 @@ fn search_name(
         at = (index[half + at] - 1) as usize;
     }
     if lowest == 0 {
-        return words::Found::Nothing;
+        return Found::Nothing;
     }
-    words::Found::At(lowest)
+    Found::At(lowest)
 }
 
-// The first entry of a name among those from `from` on.
-fn rest_name(
+// The first entry of a name among those from `from` on; from 1 on, among all.
+pub fn find_bytes(
     old: &[u64],
     new: &[u64],
     used: usize,
     from: usize,
     text: &[u8],
     wrap: bool,
-) -> words::Found
+) -> Search
     requires { ⌜ Segments (now old) (now new) used × Tail (now old) (take used (now old ++ now new)) from ⌝ }
     requires { ⌜ length (now text) ≤ longestText ⌝ }
-    ensures { λ r. ⌜ r ≡ firstOf (rows from 0 (drop from (take used (now (old .entry) ++ now (new .entry))))) (nameEntry (wrapped wrap (now (text .entry)))) ⌝ }
+    ensures { λ r. ⌜ Searched (rows from 0 (drop from (take used (now (old .entry) ++ now (new .entry))))) (nameEntry (wrapped wrap (now (text .entry)))) (r .found) (r .count) ⌝ }
 {
     if old.len() <= from {
         return look_name(
@@ -257,22 +278,19 @@ fn rest_name(
             wrap,
         );
     }
-    let f = look_name(&*old, 0, from, old.len(), &*text, wrap);
+    let first = look_name(&*old, 0, from, old.len(), &*text, wrap);
+    let f = first.found;
     match f {
-        words::Found::At(h) => words::Found::At(h),
-        words::Found::Nothing => look_name(&*new, old.len(), 0, used - old.len(), &*text, wrap),
+        Found::At(_) => first,
+        Found::Nothing => {
+            let second = look_name(&*new, old.len(), 0, used - old.len(), &*text, wrap);
+            words::behind(first.count, second)
+        }
     }
 }
 
 // The lowest handle of a name's entry.
-pub fn find_name(
-    old: &[u64],
-    new: &[u64],
-    used: usize,
-    text: &[u8],
-    wrap: bool,
-    index: &[u64],
-) -> words::Found
+fn find_name(old: &[u64], new: &[u64], used: usize, text: &[u8], wrap: bool, index: &[u64]) -> Found
     requires { ⌜ Segments (now old) (now new) used ⌝ }
     requires { ⌜ length (now text) ≤ longestText ⌝ }
     requires { ⌜ Covers (take used (now old ++ now new)) (now index) ⌝ }
@@ -280,15 +298,12 @@ pub fn find_name(
 {
     let f = search_name(&*old, &*new, used, &*text, wrap, &*index);
     match f {
-        words::Found::At(h) => words::Found::At(h),
-        words::Found::Nothing => rest_name(
-            &*old,
-            &*new,
-            used,
-            index::covered(&*index),
-            &*text,
-            wrap,
-        ),
+        Found::At(h) => Found::At(h),
+        Found::Nothing => {
+            let rest = find_bytes(&*old, &*new, used, index::covered(&*index), &*text, wrap);
+            let g = rest.found;
+            g
+        }
     }
 }
 
@@ -322,8 +337,8 @@ pub fn intern_name(
 {
     let f = find_name(&*old, new, used, &*text, wrap, &*index);
     match f {
-        words::Found::At(h) => words::Interned::At(h, used),
-        words::Found::Nothing => {
+        Found::At(h) => words::Interned::At(h, used),
+        Found::Nothing => {
             let at = used - old.len();
             let n = name_size(&*text, wrap);
             if n <= new.len() - at {

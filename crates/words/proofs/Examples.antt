@@ -1,4 +1,4 @@
--- The table of a few words, computed: an Int 3..4 and a Bot behind the 94 words of a fresh store. Assumes nothing.
+-- The table of a few words, computed: an Int 3..4 and a Bot behind the 94 words of a fresh store; and what a search tells of a few rows. Assumes nothing.
 use mathlib.Core.Path.{_≡_, refl}
 use mathlib.Core.Bool.{true, false}
 use mathlib.Core.List.{List, [], _∷_}
@@ -7,6 +7,7 @@ use Rattle.words.specs.Kinds.{Bot, Int, Struct}
 use Rattle.words.specs.Words.{headOf, kindOf, depthOf, countOf, wordsAfter, sizeOf, fills, eqs}
 use Rattle.words.specs.Columns.{every, minOn, maxOn, nameOn, fieldNamesOn, fieldTypesOn, flagsOn, aliasIn, finalIn}
 use Rattle.words.specs.Table.{Row, rows, firstOf, isAt}
+use Rattle.words.specs.Search.{headed, notPassedOver}
 use Rattle.words.specs.declared.Found.the-variants.{At, Nothing}
 
 -- the heads of an Int and a Bot: kind 5 and kind 1, depth 1, n 0; and a head is taken apart again
@@ -41,3 +42,13 @@ pub named : (minOn intAndBot 0 ≡ 3) × (maxOn intAndBot 0 ≡ 4)
     × (aliasIn 15 ≡ 7) × (finalIn 15 ≡ 1) × (aliasIn 16 ≡ 8) × (finalIn 16 ≡ 0)
 unfolding every
 named = (refl, refl, (refl, refl, refl, refl), refl, refl, refl, refl)
+
+-- the search and its number: Slip 2. Behind the Int and the Bot stand a second Int, an equal copy of the first, and another Bot
+abbrev fiveRows : List Row
+fiveRows = record { at = 94; words = 261 ∷ 3 ∷ 4 ∷ [] } ∷ record { at = 97; words = 257 ∷ [] } ∷ record { at = 98; words = 261 ∷ 5 ∷ 5 ∷ [] } ∷ record { at = 101; words = 261 ∷ 3 ∷ 4 ∷ [] } ∷ record { at = 104; words = 257 ∷ [] } ∷ []
+
+-- the one found counts too; what stands behind it does not; of another head none counts; where none is found all of this head count
+pub searched : (notPassedOver fiveRows (261 ∷ 3 ∷ 4 ∷ []) ≡ 1) × (notPassedOver fiveRows (261 ∷ 5 ∷ 5 ∷ []) ≡ 2) × (notPassedOver fiveRows (257 ∷ []) ≡ 1)
+    × (notPassedOver fiveRows (261 ∷ 9 ∷ 9 ∷ []) ≡ 3) × (notPassedOver fiveRows (258 ∷ []) ≡ 0)
+unfolding notPassedOver headed firstOf eqs
+searched = (refl, refl, refl, refl, refl)

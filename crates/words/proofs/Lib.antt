@@ -6,6 +6,10 @@ pub mod Copy
 pub mod Zeros
 pub mod Join
 pub mod Grow
+pub mod Counted
+pub mod Passing
+pub mod Looking
+pub mod Two
 pub mod Examples
 pub mod Extend
 pub mod Room

@@ -16,14 +16,14 @@ enum-told c = search needs
 covered-requires : tie.Need-covered-requires
 covered-requires c κs = search needs
 
-rest-requires : tie.Need-rest-requires
-rest-requires c κs = (c .before .before .before .before .before .before .before .before .pre .0, tail-of _ _ _ _ (c .before .before .before .before .before .before .before .before .pre .0) (c .before .before .before .before .before .before .before .before .pre .1) _ (c .covered .ensures))
+find-requires : tie.Need-find-requires
+find-requires c κs = (c .before .before .before .before .before .before .before .before .pre .0, tail-of _ _ _ _ (c .before .before .before .before .before .before .before .before .pre .0) (c .before .before .before .before .before .before .before .before .pre .1) _ (c .covered .ensures))
 
 returns : tie.Need-returns
 returns c = found-first _ _ (c .before .before .before .before .before .before .before .before .pre .1) (c .before .before .before .before .before .before .before .before .pre .0 .full) _ _ (c .before .before .before .search .ensures) _ (c .before .f .given .1)
 
 returns-2 : tie.Need-returns-2
-returns-2 c = found-later _ _ (c .before .before .before .before .before .before .before .before .before .pre .1) (c .before .before .before .before .before .before .before .before .before .pre .0 .full) _ _ (c .before .before .before .before .search .ensures) (c .before .before .enum-told .given .1) _ (c .before .covered .ensures) _ (c .rest .ensures)
+returns-2 c = found-later _ _ (c .before .before .before .before .before .before .before .before .before .pre .1) (c .before .before .before .before .before .before .before .before .before .pre .0 .full) _ _ (c .before .before .before .before .search .ensures) (c .before .before .enum-told .given .1) _ (c .before .covered .ensures) _ (c .find .ensures .answer)
 
 pub find-spec : {M : Type 1} → statement M
 find-spec =
@@ -33,6 +33,6 @@ find-spec =
     enum-known-f
     enum-told
     covered-requires
-    rest-requires
+    find-requires
     returns
     returns-2)

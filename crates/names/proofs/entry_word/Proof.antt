@@ -5,19 +5,15 @@ use native.Mathlib.Omega.{arith}
 use borrow.Author.Needs.{needs}
 use lib.ListN.{length}
 use Rattle.names.specs.Name.{nameEntry, wrapped}
-use Rattle.names.proofs.Bytes.{length-most}
-use Rattle.names.proofs.NameEntry.{name-most, head-word, later-word}
+use Rattle.names.proofs.NameEntry.{name-most, first-word, later-word}
 use Rattle.names.proofs.entry_word.Statement.{statement}
 use Rattle.names.proofs.entry_word.Tie as tie
 
-name-len-requires : tie.Need-name-len-requires
-name-len-requires c κs = search needs
-
-mul-result : tie.Need-mul-result
-mul-result c = record { fits = omega (arith, length-most (now (c .before .before .before .args .text)) (c .before .before .before .args .wrap)) }
+name-head-requires : tie.Need-name-head-requires
+name-head-requires c κs = search needs
 
 returns : tie.Need-returns
-returns c = search head-word
+returns c = search first-word
 
 -- no entry of a name has more words
 here : (c : tie.Else1) → length (nameEntry (wrapped (c .before .before .args .wrap) (now (c .before .before .args .text)))) ≤ 8194
@@ -39,8 +35,7 @@ pub entry-word-spec : {M : Type 1} → statement M
 entry-word-spec =
     tie.close
     (tie.spec
-    name-len-requires
-    mul-result
+    name-head-requires
     returns
     sub-name-word
     mul-name-word

@@ -16,14 +16,14 @@ enum-told c = search needs
 covered-requires : tie.Need-covered-requires
 covered-requires c κs = search needs
 
-rest-name-requires : tie.Need-rest-name-requires
-rest-name-requires c κs = ((c .before .before .before .before .before .before .before .before .pre .0, tail-of _ _ _ _ (c .before .before .before .before .before .before .before .before .pre .0) (c .before .before .before .before .before .before .before .before .pre .1 .1) _ (c .covered .ensures)), search needs)
+find-bytes-requires : tie.Need-find-bytes-requires
+find-bytes-requires c κs = ((c .before .before .before .before .before .before .before .before .pre .0, tail-of _ _ _ _ (c .before .before .before .before .before .before .before .before .pre .0) (c .before .before .before .before .before .before .before .before .pre .1 .1) _ (c .covered .ensures)), search needs)
 
 returns : tie.Need-returns
 returns c = found-first _ _ (c .before .before .before .before .before .before .before .before .pre .1 .1) (c .before .before .before .before .before .before .before .before .pre .0 .full) _ _ (c .before .before .before .search-name .ensures) _ (c .before .f .given .1)
 
 returns-2 : tie.Need-returns-2
-returns-2 c = found-later _ _ (c .before .before .before .before .before .before .before .before .before .pre .1 .1) (c .before .before .before .before .before .before .before .before .before .pre .0 .full) _ _ (c .before .before .before .before .search-name .ensures) (c .before .before .enum-told .given .1) _ (c .before .covered .ensures) _ (c .rest-name .ensures)
+returns-2 c = found-later _ _ (c .before .before .before .before .before .before .before .before .before .pre .1 .1) (c .before .before .before .before .before .before .before .before .before .pre .0 .full) _ _ (c .before .before .before .before .search-name .ensures) (c .before .before .enum-told .given .1) _ (c .before .covered .ensures) _ (c .find-bytes .ensures .answer)
 
 pub find-name-spec : {M : Type 1} → statement M
 find-name-spec =
@@ -33,6 +33,6 @@ find-name-spec =
     enum-known-f
     enum-told
     covered-requires
-    rest-name-requires
+    find-bytes-requires
     returns
     returns-2)
