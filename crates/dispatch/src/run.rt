@@ -214,7 +214,7 @@ fn ordered(
             }
         }
         Order::Read(reading) => {
-            let reply = list_lines::read(reading, &words[0..len], kept);
+            let reply = list_lines::read(reading, a, &words[0..len], kept);
             Outcome {
                 len: len,
                 opened: opened,

@@ -12,6 +12,8 @@ use walk_rules::Walk;
 ghost use mathlib.Core.Path.{_≡_};
 ghost use lib.ListN.{length};
 ghost use Rattle.wellformed.specs.Form.{wellFormed};
+ghost use Rattle.entry_search.specs.EntrySearch.{entrySearch};
+ghost use Rattle.entry_search.specs.CodedSearch.{CodedSearch};
 ghost use Rattle.makers.specs.Makers.{freshCall};
 ghost use Rattle.every_call.specs.Others.{structFieldsOutput, offsetsOutput};
 ghost use Rattle.every_call.specs.Run.{run, kind, get-bool, get-int, make-int, get-float, make-float, get-tuple, get-str, get-struct, make-ary, make-struct-fref, get-mem-ptr, get-mem, meet, meet-list, isa, dual, join, glb, lub, is-final, make-ro, make-init, make-zero, non-zero, is-high, is-high-or-constant, is-constant, is-fref, log-size, int-min, int-max, int-value, int-mask, float-sz, float-is-f32, float-value, float-reading, struct-name, struct-fields, find, find-alias, is-ary, offset, offsets, ary-base, ary-scale};
@@ -23,6 +25,20 @@ pub extern "C" fn ferigulan_well_formed(words: &[u64]) -> bool
     ensures { λ r. ⌜ r ≡ wellFormed (now (words .entry)) ⌝ }
 {
     wellformed::well_formed(&*words)
+}
+
+// The search for an entry that is given by its words, which is no call. Whether there is one goes to `which`, 1 or 0, and how many entries were not passed over to `count`; where there is none `answer` keeps.
+#[no_mangle]
+pub extern "C" fn ferigulan_find_entry(
+    words: &[u64],
+    entry: &[u64],
+    which: &mut u64,
+    count: &mut u64,
+    answer: &mut u64,
+) -> u32
+    ensures { λ r. ⌜ CodedSearch (entrySearch (now (words .entry)) (now (entry .entry))) r (now (which .entry)) (now (which .exit)) (now (count .entry)) (now (count .exit)) (now (answer .entry)) (now (answer .exit)) ⌝ }
+{
+    entry_search::find_entry_coded(&*words, &*entry, which, count, answer)
 }
 
 #[no_mangle]

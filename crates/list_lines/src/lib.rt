@@ -41,6 +41,8 @@ pub enum Reading {
     Keep,
     // tells whether it is as it was then
     Kept,
+    // looks for the entry that the line's numbers are
+    FindEntry,
 }
 
 // ---- which line
@@ -93,6 +95,12 @@ fn others(name: &[u8], a: &[u64]) -> Order {
     }
     if is(name, n, b"kept", 0) {
         return Order::Read(Reading::Kept);
+    }
+    // an entry has a word at least, its head
+    if n != 0 {
+        if check::same(name, b"find_entry") {
+            return Order::Read(Reading::FindEntry);
+        }
     }
     Order::Call
 }
@@ -161,8 +169,8 @@ fn poke(words: &mut [u64], i: u64, value: u64) -> Reply {
 
 // ---- lines that read
 
-// What is remembered stands in `kept`: before the first `keep` zeros, which are the empty list.
-pub fn read(reading: Reading, words: &[u64], kept: &mut [u64]) -> Reply {
+// The line's numbers are `a`. What is remembered stands in `kept`: before the first `keep` zeros, which are the empty list.
+pub fn read(reading: Reading, a: &[u64], words: &[u64], kept: &mut [u64]) -> Reply {
     match reading {
         Reading::Peek(i) => peek(words, i),
         Reading::Dump => Reply::Used,
@@ -170,6 +178,7 @@ pub fn read(reading: Reading, words: &[u64], kept: &mut [u64]) -> Reply {
         Reading::Check => flag(wellformed::well_formed(words)),
         Reading::Keep => remember(words, kept),
         Reading::Kept => flag(remembered::is_kept(words, kept)),
+        Reading::FindEntry => Reply::Search(entry_search::find_entry(words, a)),
     }
 }
 

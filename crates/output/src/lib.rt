@@ -1,6 +1,7 @@
 // What the program writes: gathered in a buffer, which is written out when it is full.
 ghost use Prim.Native.Nat.{_≤_};
 ghost use lib.ListN.{length};
+use entry_search::EntrySearch;
 use libc::STDOUT_FILENO;
 use replies::Reply;
 
@@ -22,6 +23,7 @@ pub fn put(
         Reply::Used => put_words(out, used, &words[0..counted(words)]),
         Reply::All => put_words(out, used, words),
         Reply::Output(n, k) => put_output(out, used, n, &output[0..least(k, output.len())]),
+        Reply::Search(search) => put_search(out, used, search),
         Reply::Malformed => echo(out, used, &line[0..script::cut(line)]),
     }
 }
@@ -80,6 +82,33 @@ fn put_output(out: &mut [u8], used: usize, n: u64, output: &[u64]) -> usize
     }
     let space = put_space(out, mark);
     put_words(out, space, output)
+}
+
+// A handle, or that there is none, and a count behind it; or a refusal.
+fn put_search(out: &mut [u8], used: usize, search: EntrySearch) -> usize
+    requires { ⌜ used ≤ length (now out) ⌝ }
+    ensures { λ r. ⌜ r ≤ length (now (out .exit)) ⌝ }
+{
+    match search {
+        EntrySearch::Found(h, n) => {
+            let handle = put_number(out, used, h);
+            put_count(out, handle, n)
+        }
+        EntrySearch::Absent(n) => {
+            let absent = add(out, used, b"absent");
+            put_count(out, absent, n)
+        }
+        EntrySearch::Refused(n) => put_answer(out, used, script::Answer::Refused(n)),
+    }
+}
+
+fn put_count(out: &mut [u8], used: usize, n: u64) -> usize
+    requires { ⌜ used ≤ length (now out) ⌝ }
+    ensures { λ r. ⌜ r ≤ length (now (out .exit)) ⌝ }
+{
+    let space = put_space(out, used);
+    let count = put_number(out, space, n);
+    end_line(out, count)
 }
 
 // Words on a line, one space between two.

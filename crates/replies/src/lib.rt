@@ -14,6 +14,8 @@ pub enum Reply {
     All,
     // a count, and how many words the output has that was lent
     Output(u64, usize),
+    // the search for an entry, and how many entries it did not pass over
+    Search(entry_search::EntrySearch),
     // the line itself, after a mark
     Malformed,
 }

@@ -1,0 +1,2 @@
+pub mod EntrySearch
+pub mod CodedSearch
