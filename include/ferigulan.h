@@ -146,6 +146,14 @@ enum ferigulan_fresh_handles {
 /* Whether the n words are those of a store, which is what row 1 asks. It returns its answer, and writes nothing. */
 bool ferigulan_well_formed(const uint64_t *words, size_t n);
 
+/* Looks for an entry by its k words as a store has them, the head first, and answers the lowest handle of an equal one.
+   *which is 1 where there is one, and 0 where there is none; then *answer keeps. *count is the number of entries that
+   were not passed over: those of an equal head, up to the one found and with it, or all of them where none is found.
+   No store has an entry of no words: it is absent, and is counted as one whose head is 0. It reads the words and the
+   entry and writes the three words. Refused, and then all three keep: 1. */
+uint32_t ferigulan_find_entry(const uint64_t *words, size_t n, const uint64_t *entry, size_t k, uint64_t *which,
+    uint64_t *count, uint64_t *answer);
+
 /* Writes a fresh store into the n words, whatever they were: 94 words, and 0 behind them. Tests the length alone, and
    answers nothing. Refused: 1, where n is not 94 to 1,048,576. */
 uint32_t ferigulan_fresh(uint64_t *words, size_t n);

@@ -121,7 +121,7 @@ step "the scripts of tests/ print through the crate what they print through call
 
 # The stacks for the longer lists take too long here; and a process that is to end by a signal is none for valgrind.
 under_valgrind() {
-    CARGO_TARGET_X86_64_UNKNOWN_LINUX_GNU_RUNNER="valgrind -q --error-exitcode=1" cargo_in test --test every_call --test values --test opened --test reading --test stack -- \
+    CARGO_TARGET_X86_64_UNKNOWN_LINUX_GNU_RUNNER="valgrind -q --error-exitcode=1" cargo_in test --test every_call --test values --test opened --test reading --test find_entry --test stack -- \
         --skip 65_536 --skip 1_048_576 --skip ends_the_process
 }
 step "the tests under valgrind" under_valgrind

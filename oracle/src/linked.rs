@@ -13,6 +13,7 @@ mod law;
 mod lists;
 mod model;
 mod planted;
+mod searches;
 mod tally;
 mod trial;
 mod typed;

@@ -34,6 +34,8 @@ const SHAPES: &[Shape] = &[
     Shape("kept", 0, 0, false),
     Shape("open", 0, 0, false),
     Shape("close", 0, 0, false),
+    // The search for an entry by its words: document 02, Slip 2.
+    Shape("find_entry", 1, ANY, false),
     // The makers.
     Shape("kind", 1, 1, false),
     Shape("get_bool", 1, 1, false),

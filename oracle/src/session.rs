@@ -25,6 +25,8 @@ pub enum Answer {
     Words(Vec<u64>),
     /// An output: the words that were filled, and the length of the whole. All words behind the filled ones are what they were.
     Filled(Vec<u64>, usize),
+    /// The entry that was looked for, if there is one, and how many were not passed over.
+    Searched(Option<u64>, u64),
     /// No call. The line itself is printed after it.
     Malformed,
     /// The Rust cannot be asked, for this reason: not to be compared.
@@ -51,6 +53,8 @@ impl fmt::Display for Answer {
                 let kept = std::iter::repeat_n(&KEPT, length - words.len());
                 words.iter().chain(kept).try_for_each(|word| write!(f, " {word}"))
             }
+            Answer::Searched(Some(handle), count) => write!(f, "{handle} {count}"),
+            Answer::Searched(None, count) => write!(f, "absent {count}"),
             Answer::Malformed => f.write_str("?"),
             Answer::NotHeld(reason) => write!(f, "! {reason}"),
         }
@@ -153,6 +157,8 @@ impl<'a, 't> Session<'a, 't> {
             ("close", []) => Answer::Accepted,
             ("keep", []) => self.keep(),
             ("kept", []) => self.all_words().zip(self.kept.as_ref()).map_or_else(lost, |(now, kept)| Answer::Flag(now == *kept)),
+            // it finds its types by a hash, so that there is no count to compare
+            ("find_entry", _) => Answer::NotHeld("the Rust has no such search".to_string()),
             ("meet_rep", _) => call.written_out().map_or(Answer::Malformed, |list| self.call(&list)),
             _ => self.call(call),
         }

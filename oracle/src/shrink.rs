@@ -177,6 +177,7 @@ impl<S: Sides> Shrinker<'_, S> {
         let (first, width) = match self.steps.get(i).map(|step| step.name) {
             Some("struct") => (1, 4),
             Some("tuple" | "meet_list") => (0, 1),
+            Some("find_entry") => (1, 1),
             _ => return Ok(()),
         };
         let mut many = self.steps[i].args.len() / width;

@@ -84,6 +84,7 @@ fn measure(stack: &mut Stack, needs: &mut Needs, length: usize) {
     let mut words = vec![0; length];
     note(&mut needs.plain, "fresh", length, stack.used_by(|| calls::fresh(&mut words).expect("the length is right")));
     note(&mut needs.plain, "well_formed", length, stack.used_by(|| assert!(calls::well_formed(&words))));
+    note(&mut needs.plain, "find_entry", length, stack.used_by(|| ignore(calls::find_entry(&words, &[0; 4]))));
     for shape in TOWERS {
         let mut deep = deep(length, shape);
         let mut memory = vec![0; memory_lengths(length)[0]];

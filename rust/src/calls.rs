@@ -18,7 +18,7 @@
 //! ```
 use crate::sys;
 use crate::word::{argument, word, Told};
-use crate::{Handle, Kind, Reading, Refusal};
+use crate::{Handle, Kind, Reading, Refusal, Search};
 
 /// Writes a fresh store into the words: the 94 of the fresh types, and 0 behind them.
 ///
@@ -52,6 +52,23 @@ pub fn fresh(words: &mut [u64]) -> Result<(), Refusal> {
 /// ```
 pub fn well_formed(words: &[u64]) -> bool {
     sys::well_formed(words)
+}
+
+/// Looks for an entry by its words as a store has them, the head first: see [`Store::find_entry`](crate::Store::find_entry).
+///
+/// Refused with [`NotWellFormed`](Refusal::NotWellFormed).
+///
+/// ```
+/// use ferigulan::{calls, fresh, Refusal, Search};
+///
+/// let mut words = [0; 100];
+/// assert_eq!(calls::find_entry(&words, &[261, 2, 2]), Err(Refusal::NotWellFormed));
+/// calls::fresh(&mut words)?;
+/// assert_eq!(calls::find_entry(&words, &[261, 2, 2])?, Search { handle: Some(fresh::INT_TWO), count: 6 });
+/// # Ok::<(), Refusal>(())
+/// ```
+pub fn find_entry(words: &[u64], entry: &[u64]) -> Result<Search, Refusal> {
+    sys::find_entry(words, entry).map(Told::told)
 }
 
 macro_rules! plain_calls {

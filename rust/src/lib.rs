@@ -36,6 +36,9 @@
 //! - the methods of [`OpenedStore`], which holds an index and a memory of answers besides, and reads no more of the words than it needs. It
 //!   is the one to use where many calls are made.
 //!
+//! The search for an entry by its words, [`find_entry`](Store::find_entry), is no call, and is there in the same three forms. It tells
+//! besides how many entries it did not pass over.
+//!
 //! # Linking
 //!
 //! A program that has this crate among its dependencies, by its path, links the archive by that alone:
@@ -74,6 +77,7 @@ mod kind;
 mod opened_store;
 mod reading;
 mod refusal;
+mod search;
 mod store;
 mod sys;
 mod word;
@@ -84,4 +88,5 @@ pub use kind::Kind;
 pub use opened_store::{index_len, memory_len, OpenedStore};
 pub use reading::Reading;
 pub use refusal::Refusal;
+pub use search::Search;
 pub use store::Store;

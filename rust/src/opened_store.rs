@@ -2,7 +2,7 @@ use core::fmt;
 
 use crate::sys::{self, OpenedLists};
 use crate::word::{argument, word, Told};
-use crate::{Handle, Kind, Reading, Refusal};
+use crate::{Handle, Kind, Reading, Refusal, Search};
 
 /// A store that was opened: its calls answer and leave in the words just what [`Store`](crate::Store)'s do, without reading all of them.
 ///
@@ -116,6 +116,12 @@ impl<'s> OpenedStore<'s> {
     /// How many of the words are used: the handle of the next entry that is appended.
     pub fn used(&self) -> usize {
         self.words()[0] as usize
+    }
+
+    /// Looks for an entry by its words: see [`Store::find_entry`](crate::Store::find_entry). It reads all of the store's words, as that does,
+    /// and leaves the index alone, which does not know how many entries of a head there are.
+    pub fn find_entry(&self, entry: &[u64]) -> Search {
+        Search::in_store(self.words(), entry)
     }
 }
 

@@ -1,7 +1,7 @@
 use core::fmt;
 
 use crate::word::argument;
-use crate::{calls, sys, Handle, Kind, OpenedStore, Reading, Refusal};
+use crate::{calls, sys, Handle, Kind, OpenedStore, Reading, Refusal, Search};
 
 /// A store of types, in words that the caller lends.
 ///
@@ -76,6 +76,27 @@ impl<'a> Store<'a> {
     /// How many of the words are used: the handle of the next entry that is appended.
     pub fn used(&self) -> usize {
         self.words[0] as usize
+    }
+
+    /// Looks for an entry by its words as the store has them, the head first, and answers the lowest handle of an equal one.
+    ///
+    /// The head is kind + 256 × depth + 65,536 × n. Entries of another head are passed over, and [`Search`] tells how many were not. No store
+    /// has an entry of no words: it is absent, and is counted as one whose head is 0.
+    ///
+    /// ```
+    /// use ferigulan::{fresh, Search, Store};
+    ///
+    /// let mut words = [0; 100];
+    /// let mut store = Store::fresh(&mut words)?;
+    /// // Int 2..2 is the sixth of the fresh store's twelve Ints
+    /// assert_eq!(store.find_entry(&[261, 2, 2]), Search { handle: Some(fresh::INT_TWO), count: 6 });
+    /// assert_eq!(store.find_entry(&[261, 3, 3]), Search { handle: None, count: 12 });
+    /// let three = store.get_int(3)?;
+    /// assert_eq!(store.find_entry(&[261, 3, 3]), Search { handle: Some(three), count: 13 });
+    /// # Ok::<(), ferigulan::Refusal>(())
+    /// ```
+    pub fn find_entry(&self, entry: &[u64]) -> Search {
+        Search::in_store(self.words, entry)
     }
 
     /// The words, once the store is no longer needed.

@@ -18,6 +18,7 @@ use crate::{Field, Handle, Refusal};
 #[rustfmt::skip]
 extern "C" {
     fn ferigulan_well_formed(words: *const u64, n: usize) -> bool;
+    fn ferigulan_find_entry(words: *const u64, n: usize, entry: *const u64, k: usize, which: *mut u64, count: *mut u64, answer: *mut u64) -> u32;
     fn ferigulan_fresh(words: *mut u64, n: usize) -> u32;
     fn ferigulan_kind(words: *const u64, n: usize, h: u64, answer: *mut u64) -> u32;
     fn ferigulan_get_bool(words: *const u64, n: usize, value: u64, answer: *mut u64) -> u32;
@@ -178,11 +179,20 @@ pub(crate) fn fields_of(words: &[u64]) -> &[Field] {
     unsafe { core::slice::from_raw_parts(words.as_ptr().cast(), length) }
 }
 
-// ---- the two functions that are no calls on a store
+// ---- the three functions that are no calls on a store
 
 pub(crate) fn well_formed(words: &[u64]) -> bool {
     // SAFETY: the words are a slice, borrowed through the call, which only reads them.
     unsafe { ferigulan_well_formed(words.as_ptr(), words.len()) }
+}
+
+/// What the words `which`, `count` and `answer` hold afterwards.
+pub(crate) fn find_entry(words: &[u64], entry: &[u64]) -> Result<(u64, u64, u64), Refusal> {
+    let (mut which, mut count, mut answer) = (0, 0, 0);
+    // SAFETY: two slices, borrowed through the call, which only reads them, and three local variables.
+    let status =
+        unsafe { ferigulan_find_entry(words.as_ptr(), words.len(), entry.as_ptr(), entry.len(), &mut which, &mut count, &mut answer) };
+    accepted(status, (which, count, answer))
 }
 
 pub(crate) fn fresh(words: &mut [u64]) -> Result<(), Refusal> {

@@ -1,5 +1,5 @@
 //! Arguments as words, and answers from words.
-use crate::{Handle, Kind, Reading};
+use crate::{Handle, Kind, Reading, Search};
 
 /// The type of an argument: `Word` is what a caller may get wrong, and comes as anything that is a word (a flag, an alias).
 macro_rules! argument {
@@ -96,5 +96,11 @@ impl Told<(u64, u64)> for Reading {
         } else {
             Reading::Sized(i8::told(word))
         }
+    }
+}
+
+impl Told<(u64, u64, u64)> for Search {
+    fn told((which, count, word): (u64, u64, u64)) -> Search {
+        Search { handle: Option::told((which, word)), count }
     }
 }

@@ -77,8 +77,10 @@ fn reading_calls_write_neither_words_nor_index() {
         let mut opened = store.open(index, &mut memory).expect("an index that is long enough");
         protect(index_at, READ);
         let told_opened: Vec<_> = reading.iter().map(|call| call.on_opened(&mut opened, &mut call.output())).collect();
+        let searched = opened.find_entry(&[261, 3, 3]);
         let told_plain: Vec<_> = reading.iter().map(|call| call.on_store(&mut store, &mut call.output())).collect();
         assert_eq!(told_opened, told_plain);
+        assert_eq!(store.find_entry(&[261, 3, 3]), searched);
         protect(words_at, READ | WRITE);
         protect(index_at, READ | WRITE);
     }

@@ -4,7 +4,7 @@ use std::env;
 use std::process::Command;
 use std::thread;
 
-use ferigulan::{fresh, index_len, Refusal, Store};
+use ferigulan::{calls, fresh, index_len, Refusal, Store};
 
 mod common;
 use common::towers::{deep, memory_lengths, Tower, TOWERS};
@@ -70,9 +70,10 @@ fn too_little_stack_ends_the_process() {
     assert!(!output.status.success() && message.contains("has overflowed its stack"), "{}: {message}", output.status);
 }
 
-/// Every call on one tower, plain and opened.
+/// Every call on one tower, plain and opened, and the search for an entry.
 fn run(length: usize, shape: Tower) {
     let mut deep = deep(length, shape);
+    assert_eq!(calls::find_entry(deep.words(), &[0; 4]).map(|search| search.handle), Ok(None));
     let (mut index, mut memory) = (vec![0; index_len(length)], vec![0; memory_lengths(length)[0]]);
     for call in deep.calls() {
         let mut output = call.output();

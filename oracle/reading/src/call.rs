@@ -3,7 +3,7 @@
 use crate::float::Reading;
 use crate::refusals::Refusal;
 use crate::store::Store;
-use crate::{dual, finals, float, glb_lub, int, makers, meet, scalars, structs};
+use crate::{dual, finals, float, glb_lub, int, makers, meet, scalars, search, structs};
 
 /// A call. Numbers are 64-bit words, signed ones two's complement; lists and texts are lent.
 #[derive(Debug, Clone, Copy, PartialEq, Eq)]
@@ -70,6 +70,8 @@ pub enum Call<'a> {
     Offsets(u64),
     AryBase(u64),
     AryScale(u64),
+    /// Document 02, Slip 2: an entry's words. The document has no call for the search; here it is one whose only row is 1.
+    FindEntry(&'a [u64]),
 }
 
 #[derive(Debug, Clone, Copy, PartialEq, Eq)]
@@ -91,6 +93,8 @@ pub enum Reply {
     Size(i64),
     /// How many words of the output were filled.
     Filled(u64),
+    /// The handle of the entry found, if there is one, and the number of entries not passed over.
+    Searched(Option<u64>, u64),
 }
 
 type Answered = Result<Reply, Refusal>;
@@ -156,7 +160,7 @@ fn asked(store: &mut Store, call: &Call, output: &mut [u64]) -> Answered {
     Ok(yes_or_no(yes))
 }
 
-/// The calls that answer a number, a constant, a field, or fill an output.
+/// The calls that answer a number, a constant, a field, an entry with a number beside it, or fill an output.
 fn told(store: &Store, call: &Call, output: &mut [u64]) -> Answered {
     let found = |field: Option<usize>| field.map_or(Reply::Absent, |i| Reply::Number(i as u64));
     Ok(match *call {
@@ -182,6 +186,10 @@ fn told(store: &Store, call: &Call, output: &mut [u64]) -> Answered {
         Call::Offsets(s) => Reply::Filled(structs::offsets(store, s, output)?),
         Call::AryBase(s) => Reply::Number(structs::ary_base(store, s)?),
         Call::AryScale(s) => Reply::Number(structs::ary_scale(store, s)?),
+        Call::FindEntry(entry) => {
+            let (found, count) = search::find_entry(store, entry);
+            Reply::Searched(found, count)
+        }
         _ => unreachable!("{call:?} is answered before"),
     })
 }

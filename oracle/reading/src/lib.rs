@@ -3,7 +3,7 @@
 //! where the two differ, one of them reads a document wrongly.
 //!
 //! The modules go in document 01's order: the store (`entry`, `fresh`, `row_one`, `store`, `making`, `types`), the calls turned back
-//! (`refusals`), and then the calls. Sentences in quotes are a document's, 01's where no slip is named.
+//! (`refusals`), and then the calls; document 02's search for an entry is in `search`. Sentences in quotes are a document's, 01's where no slip is named.
 
 mod call;
 mod dual;
@@ -21,6 +21,7 @@ mod meet;
 mod refusals;
 mod row_one;
 mod scalars;
+mod search;
 mod store;
 mod structs;
 mod types;

@@ -75,6 +75,11 @@ impl<'w> Store<'w> {
         self.marks.kinds.get(handle as usize).copied().filter(|&kind| kind != NO_ENTRY)
     }
 
+    /// In rising order.
+    pub fn handles(&self) -> impl Iterator<Item = Handle> + '_ {
+        handles_from(self.words, 1)
+    }
+
     pub fn entry(&self, handle: Handle) -> &[u64] {
         entry_at(self.words, handle)
     }

@@ -64,6 +64,24 @@ impl Chance {
         }
     }
 
+    /// The words of an entry, some of them with another word in one place, without the last, or with one more.
+    fn entry(&mut self, list: &List) -> Vec<u64> {
+        let all = handles(list);
+        let place = self.below(all.len() as u64) as usize;
+        let end = all.get(place + 1).copied().unwrap_or(list.used());
+        let mut entry = list.words[all[place] as usize..end as usize].to_vec();
+        match self.below(6) {
+            0 | 1 => {
+                let at = self.below(entry.len() as u64) as usize;
+                entry[at] = self.one_of(&[0, 1, 5, 94, 257, 261, 263, u64::MAX]);
+            }
+            2 => entry.truncate(entry.len() - 1),
+            3 => entry.push(self.below(2)),
+            _ => {}
+        }
+        entry
+    }
+
     fn alias(&mut self) -> u64 {
         self.one_of(&[0, 1, 1, 2, 4_294_967_295, 4_294_967_296])
     }
@@ -92,7 +110,7 @@ fn run_one(chance: &mut Chance, list: &mut List) -> Reply {
 /// A call by chance; its list and text are lent to `with`.
 fn by_chance(chance: &mut Chance, list: &List, with: &mut dyn FnMut(&Call)) {
     let (a, b) = (chance.handle(list), chance.handle(list));
-    match chance.below(17) {
+    match chance.below(18) {
         0..=8 => maker(chance, list, with),
         9..=12 => {
             let same = chance.of_kinds(list, &[list.words[a as usize % list.words.len()] % 256]);
@@ -100,6 +118,7 @@ fn by_chance(chance: &mut Chance, list: &List, with: &mut dyn FnMut(&Call)) {
         }
         13 => with(&chance.one_of(&of_one(a))),
         14 => with(&Call::MeetList(&chance.list_to_merge(list, a))),
+        15 => with(&Call::FindEntry(&chance.entry(list))),
         _ => of_struct(chance, list, with),
     }
 }
@@ -203,6 +222,44 @@ fn calls_keep_the_store() {
     for row in [2, 3, 4, 7, 8, 9, 10, 11, 12, 13] {
         assert!(refused[row] > 20, "row {row}: {refused:?}");
     }
+}
+
+/// Document 02's Slip 2 as a search does it: each entry's head is compared first, and the whole entry is passed over where it differs.
+fn one_by_one(list: &List, entry: &[u64]) -> Reply {
+    let (all, mut count) = (handles(list), 0);
+    for (place, &handle) in all.iter().enumerate() {
+        let end = all.get(place + 1).copied().unwrap_or(list.used());
+        let words = &list.words[handle as usize..end as usize];
+        if words[0] != entry.first().copied().unwrap_or(0) {
+            continue;
+        }
+        count += 1;
+        if words == entry {
+            return Reply::Searched(Some(handle), count);
+        }
+    }
+    Reply::Searched(None, count)
+}
+
+#[test]
+fn searches() {
+    let mut chance = Chance(0x5ea4_c4e5);
+    let (mut found, mut late) = (0, 0);
+    for _ in 0..100 {
+        let mut list = List::fresh(400);
+        for _ in 0..60 {
+            run_one(&mut chance, &mut list);
+            if chance.below(10) == 0 {
+                copy_an_entry(&mut chance, &mut list);
+            }
+            let entry = chance.entry(&list);
+            let reply = list.call(&Call::FindEntry(&entry));
+            assert_eq!(reply, one_by_one(&list, &entry), "{entry:?}");
+            found += u32::from(matches!(reply, Reply::Searched(Some(_), _)));
+            late += u32::from(matches!(reply, Reply::Searched(_, 5..)));
+        }
+    }
+    assert!(found > 2000 && late > 1000, "{found} found, {late} with 5 entries or more not passed over");
 }
 
 /// A word changed by chance: row 1 decides, and what it lets through every call must be able to take.

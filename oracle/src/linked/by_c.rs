@@ -1,11 +1,11 @@
 //! The library by its functions as C declares them. They are lent the words for the answer too, with guard words around these, so that it shows
 //! when a function writes one that it may not.
 
-use super::cell::{flag, signed, size, Cell, Shape};
+use super::cell::{flag, signed, size, Cell, Lent, Shape};
 use super::door::{Door, Lists};
 use reading::Call;
 use reading::Reply::{self, Filled, Handle, Number};
-use Shape::{Either, One, Perhaps};
+use Shape::{Either, One, Perhaps, Search};
 
 /// Lent words, or an opened store.
 pub enum ByC<'l> {
@@ -24,9 +24,11 @@ macro_rules! functions {
         }
 
         /// Calls the function: what it returns, and how its reply is told.
-        fn run(door: &mut ByC, call: &Call, $output: &mut [u64], $which: *mut u64, $answer: *mut u64) -> (u32, Shape) {
+        fn run(door: &mut ByC, call: &Call, $output: &mut [u64], told: &Lent) -> (u32, Shape) {
+            let ($which, $answer) = (told.which, told.answer);
             match *call {
                 Call::Fresh => (fresh(door), One(|_| Reply::Done)),
+                Call::FindEntry(entry) => (find_entry(door.words(), entry, told), Search),
                 // SAFETY: pointers of slices with their lengths, or to words of the cell; none overlap. An opened store was opened by `open` and
                 // is borrowed since then, so that only these calls have written its lists.
                 $($call => (match door {
@@ -42,6 +44,15 @@ macro_rules! functions {
 
 extern "C" {
     fn ferigulan_fresh(words: *mut u64, n: usize) -> u32;
+    fn ferigulan_find_entry(
+        words: *const u64,
+        n: usize,
+        entry: *const u64,
+        k: usize,
+        which: *mut u64,
+        count: *mut u64,
+        answer: *mut u64,
+    ) -> u32;
     fn ferigulan_open(words: *const u64, n: usize, index: *mut u64, i: usize, memory: *mut u64, m: usize) -> u32;
 }
 
@@ -105,6 +116,12 @@ fn fresh(door: &mut ByC) -> u32 {
     }
 }
 
+/// There is one function for lent words and opened stores: it reads the words alone.
+fn find_entry(words: &[u64], entry: &[u64], told: &Lent) -> u32 {
+    // SAFETY: slices with their lengths, which are read, and three words of the cell, which overlap nothing.
+    unsafe { ferigulan_find_entry(words.as_ptr(), words.len(), entry.as_ptr(), entry.len(), told.which, told.count, told.answer) }
+}
+
 /// Opens a store: 0, or the number of the refusal.
 pub fn open(lists: &mut Lists) -> u8 {
     let Lists { words, index, memory } = lists;
@@ -116,8 +133,7 @@ pub fn open(lists: &mut Lists) -> u8 {
 impl Door for ByC<'_> {
     fn answer(&mut self, call: &Call, output: &mut [u64]) -> Result<Reply, String> {
         let mut cell = Cell::new();
-        let (which, answer) = cell.lend();
-        let (status, shape) = run(self, call, output, which, answer);
+        let (status, shape) = run(self, call, output, &cell.lend());
         cell.reply(status, shape)
     }
 

@@ -1,7 +1,7 @@
 //! The library by the crate `ferigulan`: plain calls by its functions over lent words, opened ones by its `OpenedStore`.
 
 use super::door::Door;
-use ferigulan::{calls, Handle, OpenedStore, Reading, Refusal};
+use ferigulan::{calls, Handle, OpenedStore, Reading, Refusal, Search};
 use reading::{Call, Reply};
 
 /// The calls of an enum as calls of the crate. `$call!` makes one of a name and arguments: a function, or a method.
@@ -9,6 +9,7 @@ macro_rules! asked {
     ($given:expr, $output:expr, $call:ident) => {
         match *$given {
             Call::Fresh => unreachable!("a list is not opened for fresh"),
+            Call::FindEntry(_) => unreachable!("a store refuses no search, and each door answers it by itself"),
             Call::Kind(h) => told($call!(kind(at(h))), |kind| Reply::Number(kind.number())),
 
             Call::GetBool(value) => handle($call!(get_bool(value))),
@@ -81,6 +82,7 @@ impl Door for Plain<'_> {
         }
         Ok(match call {
             Call::Fresh => told(calls::fresh(words), |()| Reply::Done),
+            Call::FindEntry(entry) => told(calls::find_entry(words, entry), searched),
             call => asked!(call, output, function),
         })
     }
@@ -99,7 +101,10 @@ impl Door for OpenedStore<'_> {
         macro_rules! method {
             ($name:ident($($arg:expr),*)) => { self.$name($($arg),*) };
         }
-        Ok(asked!(call, output, method))
+        Ok(match call {
+            Call::FindEntry(entry) => searched(self.find_entry(entry)),
+            call => asked!(call, output, method),
+        })
     }
 
     fn words(&self) -> &[u64] {
@@ -134,4 +139,8 @@ fn flag(answer: Result<bool, Refusal>) -> Reply {
 
 fn perhaps<T>(answer: Result<Option<T>, Refusal>, reply: impl FnOnce(T) -> Reply) -> Reply {
     told(answer, |found| found.map_or(Reply::Absent, reply))
+}
+
+fn searched(search: Search) -> Reply {
+    Reply::Searched(search.handle.map(Handle::word), search.count)
 }

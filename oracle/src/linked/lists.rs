@@ -2,6 +2,7 @@
 
 use super::damage::{damaged, opening};
 use super::planted::Plant;
+use super::searches::with_searches;
 use super::trial::{By, Way};
 use super::unfolded::ROOM;
 use crate::generate::{list, Lists, Menu, SHORT};
@@ -16,6 +17,8 @@ pub struct Menus {
     long: Menu,
     /// How many lists in a hundred are damaged.
     damaged: usize,
+    /// Whether entries are looked for among the calls.
+    searches: bool,
 }
 
 /// A list to be run.
@@ -35,13 +38,15 @@ impl Menus {
         };
         let short = Lists { room: ROOM, length: short_length, ..SHORT };
         let long = Lists { length: long_length, are_filled: true, most_calls: 1500, ..short };
-        Ok(Menus { short: menu(short)?, long: menu(long)?, damaged: 35 })
+        let searches = names.split(',').any(|name| ["all", "find_entry"].contains(&name));
+        Ok(Menus { short: menu(short)?, long: menu(long)?, damaged: 35, searches })
     }
 
     /// Lists of calls most of which merge the same types again and again, in stores that calls alone have made.
     pub fn of_merges() -> Result<Menus, String> {
         let mut menus = Menus::read("all")?;
         menus.damaged = 0;
+        menus.searches = false;
         for menu in [&mut menus.short, &mut menus.long] {
             menu.weigh("meet_list", 400);
             menu.lists.merged_again = 75;
@@ -61,6 +66,10 @@ impl Menus {
         let steps = match is_damaged {
             true => damaged(seed, menu, holds),
             false => with_lengths(list(seed, menu).steps, &mut random),
+        };
+        let steps = match self.searches {
+            true => with_searches(steps, &mut random),
+            false => steps,
         };
         Made { steps, way: Way { by, holds, plant } }
     }

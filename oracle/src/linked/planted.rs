@@ -2,6 +2,7 @@
 //! something else, or changes what it has answered or written.
 
 use super::door::Door;
+use super::entries::Entries;
 use reading::{Call, Reply};
 
 /// A mistake: its name, what the library would do wrong, and how that is done.
@@ -37,6 +38,9 @@ pub const PLANTS: &[Plant] = &[
     plant("shared-final", "an opened is_final is yes of structs of more than 3 fields", shared_final),
     plant("half-a-list", "a list that is refused with 12 leaves what its first merges have made", half_a_list),
     plant("handles-first", "the handles of a list that is too long are tested before its length", handles_first),
+    plant("one-short", "a search does not count the entry that it finds", one_short),
+    plant("behind-the-found", "a search goes on to count behind the entry that it finds", behind_the_found),
+    plant("last-equal", "a search finds the last equal entry, and counts up to it", last_equal),
 ];
 
 impl Plant {
@@ -228,6 +232,39 @@ fn handles_first(door: &mut dyn Door, call: &Call, output: &mut [u64]) -> Answer
     if let (Call::MeetList(types), Reply::Refused(13)) = (call, reply) {
         let starts_none = |t: &u64| door.answer(&Call::Kind(*t), &mut []) == Ok(Reply::Refused(2));
         return Ok(if types.iter().any(starts_none) { Reply::Refused(2) } else { reply });
+    }
+    Ok(reply)
+}
+
+fn one_short(door: &mut dyn Door, call: &Call, output: &mut [u64]) -> Answered {
+    let reply = door.answer(call, output)?;
+    Ok(match reply {
+        Reply::Searched(Some(handle), count) => Reply::Searched(Some(handle), count - 1),
+        _ => reply,
+    })
+}
+
+/// The handles of all entries with this head.
+fn of_head(door: &dyn Door, head: u64) -> Vec<u64> {
+    let mut entries = Entries::default();
+    entries.read_on(door.words());
+    entries.list.iter().map(|entry| entry.handle).filter(|handle| door.words()[*handle as usize] == head).collect()
+}
+
+fn behind_the_found(door: &mut dyn Door, call: &Call, output: &mut [u64]) -> Answered {
+    let reply = door.answer(call, output)?;
+    if let (Call::FindEntry(entry), Reply::Searched(Some(handle), _)) = (call, reply) {
+        return Ok(Reply::Searched(Some(handle), of_head(door, entry[0]).len() as u64));
+    }
+    Ok(reply)
+}
+
+fn last_equal(door: &mut dyn Door, call: &Call, output: &mut [u64]) -> Answered {
+    let reply = door.answer(call, output)?;
+    if let (Call::FindEntry(entry), Reply::Searched(Some(_), _)) = (call, reply) {
+        let handles = of_head(door, entry[0]);
+        let last = handles.iter().rposition(|handle| door.words()[*handle as usize..].starts_with(entry));
+        return Ok(last.map_or(reply, |place| Reply::Searched(Some(handles[place]), place as u64 + 1)));
     }
     Ok(reply)
 }

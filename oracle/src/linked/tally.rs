@@ -32,6 +32,37 @@ struct Class {
     damaged: u64,
 }
 
+/// The searches for entries that were accepted.
+#[derive(Default)]
+struct Searches {
+    found: u64,
+    absent: u64,
+    opened: u64,
+    damaged: u64,
+    /// The entries that were not passed over, in all and by the search that has most.
+    counted: u64,
+    most: u64,
+}
+
+impl Searches {
+    fn add(&mut self, found: bool, count: u64, told: &Circumstances) {
+        *(if found { &mut self.found } else { &mut self.absent }) += 1;
+        self.opened += u64::from(told.is_open);
+        self.damaged += u64::from(told.is_damaged);
+        self.counted += count;
+        self.most = self.most.max(count);
+    }
+
+    fn print(&self) {
+        if self.found + self.absent == 0 {
+            return;
+        }
+        let [found, absent, opened, damaged] = [self.found, self.absent, self.opened, self.damaged].map(grouped);
+        println!("searches for an entry: {found} found one, {absent} none; {opened} on opened stores, {damaged} on damaged words");
+        println!("  entries not passed over: {}, at most {} by one search", grouped(self.counted), grouped(self.most));
+    }
+}
+
 #[derive(Default)]
 pub struct Tally {
     /// How many calls of a name, by the reply: 0 for accepted ones, else the refusal.
@@ -52,6 +83,7 @@ pub struct Tally {
     damaged_opened: u64,
     /// The merges of lists on stores that calls alone have made.
     pub merges: Merges,
+    searches: Searches,
 }
 
 impl Tally {
@@ -68,6 +100,9 @@ impl Tally {
             Answer::Refused(row) => *row,
             _ => 0,
         };
+        if let Answer::Searched(found, count) = answer {
+            self.searches.add(found.is_some(), *count, told);
+        }
         self.calls += 1;
         self.counts.entry(call.name).or_default()[row as usize] += 1;
         let class = CLASSES.iter().position(|last| told.length <= *last).unwrap_or(0);
@@ -103,6 +138,7 @@ impl Tally {
             grouped(self.filling)
         );
         self.merges.print();
+        self.searches.print();
     }
 
     fn print_calls(&self) {

@@ -61,6 +61,8 @@ pub fn typed(call: &script::Call) -> Option<Call<'_>> {
         ("offsets", &[s, _]) => Call::Offsets(s),
         ("ary_base", &[s]) => Call::AryBase(s),
         ("ary_scale", &[s]) => Call::AryScale(s),
+
+        ("find_entry", entry) => Call::FindEntry(entry),
         _ => return None,
     })
 }
@@ -91,6 +93,7 @@ pub fn answer(call: &Call, reply: Reply, output: &[u64]) -> Answer {
         Reply::Absent => Answer::Absent,
         Reply::Constant(bits) => Answer::Constant(bits),
         Reply::Size(size) => i8::try_from(size).map_or(Answer::Signed(size), Answer::Size),
+        Reply::Searched(found, count) => Answer::Searched(found, count),
         Reply::Filled(n) => Answer::Filled(output[..output.len().min(n as usize)].to_vec(), output.len()),
     }
 }

@@ -1,8 +1,9 @@
 //! The calls that a step is. Most steps are one; `put W..` is the pokes that put an entry of these words behind the used ones, `fill SEED WORDS`
 //! many makers, and `raise WORDS` the pokes that fill a list at once: with empty names, which are zero words, and an Int behind them. `meet_rep`
-//! is one with its list written out.
+//! is one with its list written out, and `search` one for an entry that is there (searches.rs).
 
 use super::model::Model;
+use super::searches::search;
 use super::typed::{output_length, typed};
 use crate::filling::Filler;
 use crate::script::Call;
@@ -28,6 +29,7 @@ impl Unfolded {
     pub fn new(step: &Step, numbers: Vec<u64>, model: &Model) -> Unfolded {
         match (step.name, &numbers[..]) {
             ("put", entry) => return Unfolded::Calls(pokes(model.used(), entry, model)),
+            ("search", numbers) => return Unfolded::Calls([search(numbers, model)].into()),
             ("raise", [words]) => return Unfolded::Calls(pokes(*words as usize, &[5 + 256, 0, 7], model)),
             _ => {}
         }

@@ -45,12 +45,13 @@ fn sides(original: Option<String>, reading: String, library: String) -> String {
 /// A list of more handles than this, all of them the same, is shown by their count.
 const FEW_HANDLES: usize = 8;
 
-/// A call as a script has it, and a comment. `open` has no numbers in a script: they stand in the comment.
+/// A call as a script has it, and a comment, in which stands what no script can say: `open` has no numbers there, `find_entry` always has some.
 fn line(call: &Call) -> (String, String) {
     match (call.name, &call.numbers[..]) {
         ("meet_list", handles @ [first, ..]) if handles.len() > FEW_HANDLES && handles.iter().all(|handle| handle == first) => {
             (format!("meet_rep {} {first}", handles.len()), String::new())
         }
+        ("find_entry", []) => ("find_entry".to_string(), " (an entry of no words, which no script can look for)".to_string()),
         ("open", [memory, more]) => {
             ("open".to_string(), format!(" (a memory of {memory} words, an index of {} more than needed)", *more as i64))
         }

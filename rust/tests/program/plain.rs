@@ -49,7 +49,7 @@ const NAMES: &str =
     "list fresh poke peek dump dumpall check open close kind get_bool int float tuple str struct fref ptr mem ary meet isa \
     dual join glb lub is_final make_ro make_init make_zero non_zero is_high is_high_or_constant is_constant is_fref \
     log_size min max value mask sz is_f32 float_value reading name fields find find_alias is_ary offset offsets ary_base \
-    ary_scale meet_list meet_rep keep kept get_int foo";
+    ary_scale meet_list meet_rep keep kept find_entry get_int foo";
 
 fn random_number(random: &mut Random) -> String {
     const HANDLES: [u64; 24] = [1, 3, 5, 6, 7, 8, 9, 12, 15, 18, 20, 22, 25, 40, 55, 58, 61, 64, 76, 85, 88, 94, 97, 100];
@@ -64,6 +64,25 @@ fn random_number(random: &mut Random) -> String {
     }
 }
 
+/// What stands behind find_entry before numbers by chance: entries of the fresh store, others of the same heads, the empty name and tuple,
+/// and nothing.
+const ENTRIES: [&str; 14] = [
+    " 261 0 0",
+    " 261 2 2",
+    " 261 3 3",
+    " 262 64 0",
+    " 264 1",
+    " 264 94",
+    " 131591 8 7",
+    " 131591 8 9",
+    " 262144 1414480420",
+    " 522 18 1",
+    " 523 1 5",
+    " 263",
+    " 0",
+    "",
+];
+
 fn random_line(random: &mut Random) -> String {
     let names: Vec<&str> = NAMES.split_whitespace().chain([""]).collect();
     let name = random.of(&names);
@@ -74,9 +93,13 @@ fn random_line(random: &mut Random) -> String {
         "meet" | "isa" | "join" | "ptr" | "meet_rep" => 2,
         "keep" | "kept" => 0,
         "struct" => 5,
+        "find_entry" => random.of(&[0, 0, 0, 1, 3]),
         _ => random.below(4),
     };
     let mut line = name.to_string();
+    if name == "find_entry" {
+        line += random.of(&ENTRIES);
+    }
     (0..count).for_each(|_| line += &format!(" {}", random_number(random)));
     if name == "str" || name == "ary" {
         line += random.of(&["", " ", " 61", " 6", " 6G", " 61 62", "  61"]);
@@ -105,6 +128,19 @@ fn plain_is_calls_on_random_scripts() {
         assert!(ran.out == wanted.out, "not the same lines: {:?}", String::from_utf8_lossy(&script[..script.len().min(9000)]));
         assert_eq!((ran.status, ran.err.as_str()), (0, ""));
     }
+}
+
+/// Plain and opened, which a search leaves open; and with an entry of as many words as a line has room for.
+#[test]
+fn plain_looks_for_entries() {
+    let lines =
+        "find_entry 261 2 2\nfind_entry 261 3 3\nfind_entry 262144 1414480420\nfind_entry 0\nfind_entry\nint 3 3\nfind_entry 261 3 3\n";
+    let answers = "28 6\nabsent 12\n3 2\nabsent 0\n? find_entry\n94\n94 13\n";
+    let script = format!("find_entry 261 2 2\nfresh 97\n{lines}fresh\nopen\n{lines}poke 94 5\nfind_entry 261 2 2\n");
+    let ran = ferigulan(&["run", "--plain"], script);
+    assert_eq!(ran.text(), format!("-1\nok\n{answers}ok\nok\n{answers}ok\n-1\n"));
+    let long = format!("fresh 94\nfind_entry 261{}\n", " 0".repeat(131_000));
+    assert_eq!(ferigulan(&["run", "--plain"], long).text(), "ok\nabsent 12\n");
 }
 
 #[test]

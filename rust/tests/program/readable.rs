@@ -164,6 +164,28 @@ fn lists_are_merged_and_lists_are_remembered() {
 }
 
 #[test]
+fn entries_are_looked_for() {
+    expect(&[
+        ("find_entry 261 0 0", "-1 store length out of limits, or not well formed"),
+        ("fresh 200", "ok"),
+        ("find_entry 261 0 0", "9 1 0, with 1 entry not passed over"),
+        ("find_entry 261 2 2", "28 6 2, with 6 entries not passed over"),
+        ("find_entry 261 3 3", "absent 12 12 entries not passed over"),
+        ("find_entry 264 3", "20 2 $BOT, with 2 entries not passed over"),
+        ("find_entry 131591 8 7", "73 4 (XCtrl, Ctrl), with 4 entries not passed over"),
+        ("find_entry 262144 1414480420", "3 2 \"$BOT\", with 2 entries not passed over"),
+        ("find_entry 522 18 1", "88 3 null, with 3 entries not passed over"),
+        ("find_entry 0", "absent 0 0 entries not passed over"),
+        ("open", "ok"),
+        ("int 3 3", "94 3"),
+        ("find_entry 261 3 3", "94 13 3, with 13 entries not passed over"),
+        ("int 3 3", "94 3"),
+        ("poke 0 2", "ok"),
+        ("find_entry 261 3 3", "-1 store length out of limits, or not well formed"),
+    ]);
+}
+
+#[test]
 fn each_line_of_a_script_is_a_line_of_the_output() {
     for script in scripts() {
         let plain = ferigulan(&["run", "--plain", "--long", &script], "").out;

@@ -82,6 +82,7 @@ impl Script {
         match (call, numbers) {
             ("tuple", types) => self.reply(&Call::GetTuple(types), 0),
             ("struct", [name, fields @ ..]) => self.reply(&Call::GetStruct(*name, fields), 0),
+            ("find_entry", entry @ [_, ..]) => self.reply(&Call::FindEntry(entry), 0),
             ("meet_list", types) => self.reply(&Call::MeetList(types), 0),
             ("meet_rep", &[count, t]) => self.reply(&Call::MeetList(&vec![t; count as usize]), 0),
             ("fields", &[s, length]) => self.reply(&Call::StructFields(s), length),
@@ -109,6 +110,8 @@ impl Script {
             Reply::Constant(bits) => bits.to_string(),
             Reply::Size(sz) => format!("size ={sz}"),
             Reply::Filled(n) => format!("{n} : {}", joined(&output)),
+            Reply::Searched(Some(handle), count) => format!("{handle} {count}"),
+            Reply::Searched(None, count) => format!("absent {count}"),
         })
     }
 }

@@ -29,6 +29,8 @@ call, '=>', its answer, what that means, and the line's comment. A call of more
 than 120 characters is cut, and ends in '..'.
 
   94      a handle, and the type that it stands for
+  28 6    of find_entry: a handle, or 'absent', and how many entries were not
+          passed over, which are those of the same head up to it
   =-4     a signed number
   1, 0    yes, no
   -12     a refusal, and its condition in the documents' words
@@ -90,8 +92,8 @@ const SCRIPT: &str = "\
 A script has a call a line, its words separated by one space; ';' starts a
 comment. Numbers are decimal, a negative one for its two's complement word, or
 0x hex. HEX is a text: two hex digits a byte, nothing for the empty one. W are
-fields, four numbers each: name, type, alias, final. A line has fewer than
-262,144 bytes.
+fields, four numbers each: name, type, alias, final; of find_entry they are an
+entry's words, its head first. A line has fewer than 262,144 bytes.
 
 ";
 

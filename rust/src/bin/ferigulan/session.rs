@@ -32,6 +32,7 @@ pub const LINES: &[Usage] = &[
     Usage { name: "dump", arguments: "", call: "", does: "the used words, or the entries that they are" },
     Usage { name: "dumpall", arguments: "", call: "", does: "all words" },
     Usage { name: "check", arguments: "", call: "well_formed", does: "whether the words are well formed" },
+    Usage { name: "find_entry", arguments: "W..", call: "find_entry", does: "looks for an entry by its words" },
     Usage { name: "keep", arguments: "", call: "", does: "remembers the list, all its words" },
     Usage { name: "kept", arguments: "", call: "", does: "whether the list is as it was then" },
     Usage { name: "open", arguments: "", call: "open", does: "opens the store: the same answers, sooner" },
@@ -193,6 +194,8 @@ fn look(words: &[u64], said: Said, kept: &mut Vec<u64>) -> Result<Option<Answer>
         ("dump", []) => Answer::Used,
         ("dumpall", []) => Answer::All,
         ("check", []) => Answer::Flag(calls::well_formed(words)),
+        // an entry has a word at least, its head
+        ("find_entry", entry @ [_, ..]) => calls::find_entry(words, entry).map_or_else(Answer::Refused, Answer::Search),
         ("keep", []) => {
             words.clone_into(kept);
             Answer::Accepted

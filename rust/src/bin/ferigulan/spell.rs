@@ -2,7 +2,7 @@
 use crate::entries::kind_name;
 use crate::readable::{constant, float_size, readable};
 use crate::wrong::used;
-use ferigulan::{Handle, Kind, Reading, Refusal};
+use ferigulan::{Handle, Kind, Reading, Refusal, Search};
 use std::fmt::Write;
 
 /// What a line of the script answers.
@@ -20,6 +20,8 @@ pub enum Answer {
     Value(f64),
     Reading(Reading),
     Absent,
+    /// The entry that was looked for, if there is one, and how many entries were not passed over.
+    Search(Search),
     /// How many words of the output were filled.
     Filled(usize),
     /// The used words of the list.
@@ -59,6 +61,8 @@ impl Answer {
             Answer::Reading(Reading::Constant(value)) => format!("constant {}", value.to_bits()),
             Answer::Reading(Reading::Sized(size)) => format!("size ={size}"),
             Answer::Absent => "absent".to_string(),
+            Answer::Search(Search { handle: Some(handle), count }) => format!("{handle} {count}"),
+            Answer::Search(Search { handle: None, count }) => format!("absent {count}"),
             Answer::Filled(n) if output.is_empty() => format!("{n} :"),
             Answer::Filled(n) => format!("{n} : {}", row(output)),
             Answer::Used => row(&words[..used(words)]),
@@ -79,10 +83,20 @@ impl Answer {
             Answer::Flag(yes) => if *yes { "yes" } else { "no" }.to_string(),
             Answer::Value(value) | Answer::Reading(Reading::Constant(value)) => constant(value.to_bits()),
             Answer::Reading(Reading::Sized(size)) => float_size(*size),
+            Answer::Search(Search { handle: Some(handle), count }) => {
+                format!("{}, with {}", readable(words, handle.word()), compared(*count))
+            }
+            Answer::Search(Search { handle: None, count }) => compared(*count),
             Answer::Accepted | Answer::Number(_) | Answer::Signed(_) | Answer::Absent => String::new(),
             Answer::Filled(_) | Answer::Used | Answer::All => String::new(),
         }
     }
+}
+
+/// How many entries a search has not passed over.
+fn compared(count: u64) -> String {
+    let entries = if count == 1 { "entry" } else { "entries" };
+    format!("{} {entries} not passed over", grouped(count))
 }
 
 /// Words in a row, a space between two.
