@@ -1,24 +1,8 @@
 // Row 1 by hand and row 1 of the library: whether they say the same, of a store and of the same store with damaged words.
 use crate::calls::well_formed;
+use crate::random::Random;
 use crate::row1::Row1;
 use crate::stores::Store;
-
-// The same numbers in each run.
-struct Random(u64);
-
-impl Random {
-    // xorshift64*
-    fn next(&mut self) -> u64 {
-        self.0 ^= self.0 >> 12;
-        self.0 ^= self.0 << 25;
-        self.0 ^= self.0 >> 27;
-        self.0.wrapping_mul(0x2545_f491_4f6c_dd1d)
-    }
-
-    fn below(&mut self, n: u64) -> u64 {
-        self.next() % n
-    }
-}
 
 // Words that may be put in the place of one: near it, of another place, a handle, a head, a limit.
 const OTHERS: u64 = 16;

@@ -12,8 +12,14 @@ pub struct Built {
 pub const INT: u64 = 25;
 pub const BYTE: u64 = 40;
 
-fn head(kind: u64, depth: u64, n: usize) -> u64 {
+pub fn head(kind: u64, depth: u64, n: usize) -> u64 {
     kind + 256 * depth + 65_536 * n as u64
+}
+
+// The entry of a name: its bytes, eight a word.
+pub fn name_entry(bytes: &[u8]) -> Vec<u64> {
+    let word = |eight: &[u8]| eight.iter().rev().fold(0, |w, byte| 256 * w + *byte as u64);
+    [head(0, 0, bytes.len())].into_iter().chain(bytes.chunks(8).map(word)).collect()
 }
 
 impl Built {
@@ -39,11 +45,8 @@ impl Built {
         1 + types.map(|h| self.words[h as usize] / 256 % 256).max().unwrap_or(0)
     }
 
-    // A name of at most eight bytes.
     pub fn name(&mut self, text: &str) -> u64 {
-        let mut bytes = [0u8; 8];
-        bytes[..text.len()].copy_from_slice(text.as_bytes());
-        self.put(make::name(text.as_bytes()), &[head(0, 0, text.len()), u64::from_le_bytes(bytes)])
+        self.put(make::name(text.as_bytes()), &name_entry(text.as_bytes()))
     }
 
     pub fn int(&mut self, min: u64, max: u64) -> u64 {
@@ -113,14 +116,19 @@ fn size(head: u64) -> usize {
     }
 }
 
+// The handles and heads of the entries between two places.
+pub fn heads(words: &[u64], from: usize, to: usize) -> impl Iterator<Item = (usize, u64)> + '_ {
+    let mut next = from;
+    std::iter::from_fn(move || {
+        let (at, head) = (next, *words[..to].get(next)?);
+        next += size(head);
+        Some((at, head))
+    })
+}
+
 // How many entries stand between two places.
 pub fn entries(words: &[u64], from: usize, to: usize) -> usize {
-    let (mut at, mut count) = (from, 0);
-    while at < to {
-        at += size(words[at]);
-        count += 1;
-    }
-    count
+    heads(words, from, to).count()
 }
 
 // At most so many of all, from all over, in fours that stay together: their kinds take turns.

@@ -11,6 +11,10 @@ mod clock;
 mod functions;
 #[cfg(all(opened, told, lists))]
 mod growth;
+#[cfg(all(search, opened, told, lists))]
+mod heads;
+#[cfg(all(search, opened, told, lists))]
+mod kinds;
 #[cfg(all(opened, lists))]
 mod lists;
 #[cfg(opened)]
@@ -25,6 +29,8 @@ mod plain;
 #[cfg(all(opened, told, lists))]
 mod program;
 #[cfg(all(opened, told, lists))]
+mod random;
+#[cfg(all(opened, told, lists))]
 mod row1;
 #[cfg(opened)]
 mod script;
@@ -37,7 +43,7 @@ mod stores;
 mod told;
 mod towers;
 
-const PARTS: [&str; 9] = ["makers", "operations", "opened", "told", "lists", "beside", "towers", "search", "growth"];
+const PARTS: [&str; 10] = ["makers", "operations", "opened", "told", "lists", "beside", "towers", "search", "heads", "growth"];
 
 fn run(part: &str, oracle: Option<&str>) {
     match part {
@@ -64,6 +70,10 @@ fn run(part: &str, oracle: Option<&str>) {
         "search" => search::table(),
         #[cfg(not(search))]
         "search" => eprintln!("the search: left out, its library was not built"),
+        #[cfg(all(search, opened, told, lists))]
+        "heads" => heads::table(),
+        #[cfg(not(all(search, opened, told, lists)))]
+        "heads" => eprintln!("the search before and after: left out, its library was not built, or the library has not all calls"),
         #[cfg(all(opened, told, lists))]
         "growth" => growth::measure(oracle),
         #[cfg(not(all(opened, told, lists)))]

@@ -1,6 +1,6 @@
 #!/bin/sh
 # run.sh [PART..]: builds the static libraries, the benchmark and the oracle, and runs the named parts, or all but the last: makers, operations, opened, told, lists,
-# beside, towers, search, growth. It needs rustc beside the Rattle kit, cargo for the oracle, and nm and objcopy for an old library.
+# beside, towers, search, heads, growth. It needs rustc beside the Rattle kit, cargo for the oracle, and nm and objcopy for an old library.
 #   OLD=ARCHIVE   an older liblattice_c.a, measured beside the new one
 #   ONE_WORD=1    the old library's functions return one word, the answer or 2 to the 63 and the refusal's number, and are lent none
 #   NEW=ARCHIVE   a liblattice_c.a that is built already, to be measured in the place of one built here
@@ -73,12 +73,12 @@ else
     echo "run.sh: $OLD could not be renamed, the table of old beside new is left out" >&2
 fi
 
-if ! asked search "$@"; then
+if ! asked search "$@" && ! asked heads "$@"; then
     :
 elif echo "building the search .." >&2 && rt staticlib search_c >&2 && cp target/staticlib/libsearch_c.a "$libs" && apart "$libs/libsearch_c.a" "$libs/libnew.a"; then
     flags="$flags -l static=search_c --cfg search"
 else
-    echo "run.sh: the search was not built, its table is left out" >&2
+    echo "run.sh: the search was not built, its tables are left out" >&2
 fi
 
 rustc --edition 2021 -C opt-level=3 -C target-cpu=x86-64 -L "$libs" $flags -o target/bench bench/main.rs || exit 1

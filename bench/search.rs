@@ -26,7 +26,7 @@ fn intern_name(w: &mut [u64], used: usize, name: &[u8], index: &[u64]) -> u64 {
 }
 
 // Row 1, and then the index of all used words.
-fn open(w: &[u64], index: &mut [u64]) {
+pub fn open(w: &[u64], index: &mut [u64]) {
     assert!(unsafe { bench_open(w.as_ptr(), w.len(), index.as_mut_ptr(), index.len()) });
 }
 

@@ -4,6 +4,8 @@ use mathlib.Core.Bool.{Bool, true}
 use mathlib.Core.List.{List}
 use Prim.Native.Nat.{ℕ}
 use lib.ListN.{take, getD}
+use Rattle.words.specs.Table.{Row, firstOf}
+use Rattle.words.specs.Search.{notPassedOver}
 use Rattle.words.specs.Made.{Grown}
 use Rattle.words.specs.Ran.{Ran}
 use Rattle.words.specs.declared.Found.{Found}
@@ -32,3 +34,8 @@ pub record Left (used : ℕ) (g : Grown) (ws ws′ : List ℕ) (r : ℕ) : Type 
   pub answer : Interned
   pub ran : Ran used g ws ws′ answer
   pub told : r ≡ ofInterned answer
+
+-- r and count are what is told of the search for e among these rows: the handle, and how many of them were not passed over
+pub record Told (rs : List Row) (e : List ℕ) (r count : ℕ) : Type 0 where
+  pub handle : r ≡ ofFound (firstOf rs e)
+  pub number : count ≡ notPassedOver rs e
