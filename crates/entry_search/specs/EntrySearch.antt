@@ -15,10 +15,11 @@ abbrev pub shown : Found → ℕ → EntrySearch
 shown (At h) n = Variants.Found h n
 shown Nothing n = Variants.Absent n
 
-abbrev pub unless : Bool → EntrySearch → EntrySearch
-unless true s = s
-unless false s = Variants.Refused 1
+-- row 1: 1 where the words are not well formed
+abbrev pub onceWellFormed : Bool → EntrySearch → EntrySearch
+onceWellFormed true s = s
+onceWellFormed false s = Variants.Refused 1
 
 -- row 1; then the "lowest equal entry", and "the number of entries not passed over"
 unfoldable pub entrySearch : List ℕ → List ℕ → EntrySearch
-entrySearch ws e = unless (wellFormed ws) (shown (findIn (usedWords ws) e) (notPassedOver (entries (usedWords ws)) e))
+entrySearch ws e = onceWellFormed (wellFormed ws) (shown (findIn (usedWords ws) e) (notPassedOver (entries (usedWords ws)) e))
