@@ -17,7 +17,8 @@ use Rattle.words.specs.Columns.{every}
 use Rattle.wellformed.specs.Form.{allZero, headsAt, okRows, okEntries, wellFormed, usedWords}
 use Rattle.call.specs.Call.{Reply, handle, flag, call, ask}
 use Rattle.call.specs.Handles.{typesRows}
-use Rattle.names.specs.Name.{ofBytes, packed, nameEntry}
+use Rattle.source.specs.Packed.{ofBytes, packed}
+use Rattle.names.specs.Name.{nameEntry}
 use Rattle.makers.specs.Entries.{intEntry, fieldWords}
 use Rattle.makers.specs.Makers.{freshCall, structRows}
 use Rattle.meet_rules.specs.Rules.{pairRule, ruleFor}

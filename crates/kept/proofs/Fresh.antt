@@ -21,7 +21,8 @@ use Rattle.wellformed.specs.Form.{allZero, headsAt, okRows, wellFormed, usedWor
 use Rattle.wellformed.proofs.Before.{passes}
 use Rattle.wellformed.proofs.Bools.{and-left, and-right}
 use Rattle.call.specs.Keep.{Ends}
-use Rattle.names.specs.Name.{ofBytes, packed, nameEntry}
+use Rattle.source.specs.Packed.{ofBytes, packed}
+use Rattle.names.specs.Name.{nameEntry}
 use Rattle.makers.specs.Entries.{fieldWords}
 use Rattle.makers.specs.Makers.{freshStore, freshCall}
 use Rattle.kept.specs.FreshTable.{freshUsed, freshTable}

@@ -13,8 +13,9 @@ use Rattle.words.specs.Table.{starts}
 use Rattle.wellformed.specs.Entry.{kind, count, depth, mostOf, namesIn, typesIn, all, valuesOk, zeroFilled, okEntry}
 use Rattle.wellformed.specs.Form.{headsAt}
 use Rattle.call.specs.Adds.{Fitting}
-use Rattle.names.specs.Name.{ofBytes, nameEntry}
-use Rattle.names.proofs.Number.{number-below}
+use Rattle.source.specs.Packed.{ofBytes}
+use Rattle.names.specs.Name.{nameEntry}
+use Rattle.source.proofs.Number.{number-below}
 use Rattle.names.proofs.NameEntry.{name-length, head-word, later-word, name-sized}
 
 module _ (bs : List ℕ) where

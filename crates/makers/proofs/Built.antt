@@ -1,11 +1,10 @@
 -- An entry that is built in a local array is the maker's. Assumes nothing.
 use mathlib.Core.Path.{_≡_, sym, ap, _∙_}
-use mathlib.Core.List.{List, [], _∷_, _++_, append-nil}
+use mathlib.Core.List.{List, [], _∷_, _++_}
 use Prim.Native.Nat.{ℕ, suc, _+_, _-_, _*_, _≤_, max}
 use native.Mathlib.Omega.{arith}
-use borrow.Rule.Slice.PartMut.{putMid}
-use lib.ListN.{length, take, drop, set, drop-of-length-le}
-use lib.Seq.{take-all, take-at}
+use lib.ListN.{length, take}
+use lib.Seq.{take-at}
 use lib.IntN.{ℤ}
 use mir.Syntax.{w8}
 use mir.Val.{SFits, toZ, ofZ}
@@ -18,16 +17,6 @@ use Rattle.words.specs.declared.Interned.{Interned}
 use Rattle.wellformed.specs.Entry.{deepest}
 use Rattle.words.specs.Columns.{word}
 use Rattle.makers.specs.Entries.{floatEntry, tupleEntry, pointerEntry, memoryEntry}
-
--- a head, and a list behind it
-pub headed-all : (dst list d : List ℕ) (head : ℕ) → 1 + length list ≤ length dst → d ≡ list ++ drop (length list) (take (length dst - 1) (drop 1 dst))
-    → set (putMid 1 (length dst - 1) dst d) 0 head ≡ (head ∷ list) ++ drop (1 + length list) dst
-headed-all [] list d head h e = absurd (omega arith)
-headed-all (x ∷ dst) list d head h e =
-    let q : suc (length dst) - 1 ≡ length dst = omega arith in
-    let n : 1 + length list ≡ suc (length list) = omega arith in
-    let k : length dst ≤ length dst = omega arith in
-    rw (e, q, n, take-all (length dst) dst k, drop-of-length-le dst k, append-nil)
 
 pub front-of : (l x a : List ℕ) → a ≡ l ++ x → (n : ℕ) → n ≡ length l → take n a ≡ l
 front-of l x a is n len = rw is (take-at l x n (sym len))

@@ -60,15 +60,6 @@ pub fn float(
     index::intern(&*old, new, used, &[kinds::FLOAT_HEAD, size, con], &*index)
 }
 
-// Fills the first words of `dst` with a head and a list.
-pub fn headed(dst: &mut [u64], head: u64, list: &[u64])
-    requires { ⌜ 1 + length (now list) ≤ length (now dst) ⌝ }
-    ensures { λ _. ⌜ now (dst .exit) ≡ (head ∷ now (list .entry)) ++ drop (1 + length (now (list .entry))) (now (dst .entry)) ⌝ }
-{
-    words::write(&mut dst[1..], &*list);
-    dst[0] = head;
-}
-
 // A tuple, whose entry is built in the first words of `e`.
 fn tuple_in(
     old: &[u64],
@@ -85,7 +76,7 @@ fn tuple_in(
 {
     let d = call::deep(&*old, new, used, &*types);
     let n = types.len();
-    headed(
+    words::headed(
         e,
         kinds::TUPLE + kinds::DEPTH * (1 + d) + kinds::COUNT * (n as u64),
         &*types,

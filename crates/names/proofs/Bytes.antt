@@ -8,7 +8,8 @@ use borrow.Author.Tests.{not-true, not-false, ltb-true, ltb-false}
 use lib.ListN.{length, take, drop, getD, length-append, List·getD-append, List·getD-eq-default}
 use lib.Seq.{getD-append-add}
 use lib.Dec.{ltb}
-use Rattle.names.specs.Name.{ofBytes, wrapped}
+use Rattle.source.specs.Packed.{ofBytes}
+use Rattle.names.specs.Name.{wrapped}
 
 -- the closing bracket is the byte after the text's, and the others are as they were
 at-end : (text : List ℕ) (i : ℕ) → i ≡ length text → 93 ≡ getD (text ++ (93 ∷ [])) i 0

@@ -2,7 +2,8 @@
 use mathlib.Core.Path.{_≡_, refl}
 use mathlib.Core.Bool.{true, false}
 use mathlib.Core.List.{[], _∷_}
-use Rattle.names.specs.Name.{ofBytes, packed, nameEntry, wrapped}
+use Rattle.source.specs.Packed.{ofBytes, packed}
+use Rattle.names.specs.Name.{nameEntry, wrapped}
 
 -- "$TOP"
 pub top-name : nameEntry (wrapped false (36 ∷ 84 ∷ 79 ∷ 80 ∷ [])) ≡ 262144 ∷ 1347376164 ∷ []

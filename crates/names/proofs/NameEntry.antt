@@ -8,22 +8,10 @@ use lib.ListN.{length, take, drop, getD}
 use lib.Seq.{drop-drop}
 use Rattle.words.specs.Ran.{HasSize}
 use Rattle.words.proofs.Sizes.{name-size}
-use Rattle.names.specs.Name.{ofBytes, packed, nameEntry, wrapped}
+use Rattle.source.specs.Packed.{ofBytes, packed}
+use Rattle.source.proofs.Packing.{length-packed, packed-word}
+use Rattle.names.specs.Name.{nameEntry, wrapped}
 use Rattle.names.proofs.Bytes.{length-most}
-
-length-packed : (k : ℕ) (bs : List ℕ) → length (packed k bs) ≡ k
-unfolding packed
-length-packed zero bs = refl
-length-packed (suc k) bs = ap suc (length-packed k (drop 8 bs))
-
--- word i has the bytes from 8 × i on
-packed-word : (k i : ℕ) (bs : List ℕ) → i < k → getD (packed k bs) i 0 ≡ ofBytes (take 8 (drop (8 * i) bs))
-unfolding packed
-packed-word zero i bs h = absurd (omega arith)
-packed-word (suc k) zero bs h = refl
-packed-word (suc k) (suc i) bs h =
-    let n : 8 + 8 * i ≡ 8 * suc i = omega arith in
-    packed-word k i (drop 8 bs) (omega arith) ∙ ap (λ (l : List ℕ). ofBytes (take 8 l)) (drop-drop (8 * i) 8 bs ∙ ap (λ (m : ℕ). drop m bs) n)
 
 pub name-length : (bs : List ℕ) → length (nameEntry bs) ≡ 1 + (length bs + 7) / 8
 unfolding nameEntry

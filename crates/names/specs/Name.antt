@@ -1,20 +1,11 @@
 -- Document 01, "The store": the entry of a name, from the name's bytes.
 use mathlib.Core.Bool.{Bool, true, false}
 use mathlib.Core.List.{List, [], _∷_, _++_}
-use Prim.Native.Nat.{ℕ, zero, suc, _+_, _*_}
-use lib.ListN.{length, take, drop}
+use Prim.Native.Nat.{ℕ}
+use lib.ListN.{length}
 use Rattle.words.specs.Kinds.{Name}
 use Rattle.words.specs.Words.{headOf, nameWords}
-
--- the number that some bytes are, "lowest first": each byte counts 256 times as much as the one before it
-unfoldable pub ofBytes : List ℕ → ℕ
-ofBytes [] = 0
-ofBytes (b ∷ bs) = b + 256 * ofBytes bs
-
--- k words of bytes, "eight a word, lowest first, zero fill"
-unfoldable pub packed : ℕ → List ℕ → List ℕ
-packed zero bs = []
-packed (suc k) bs = ofBytes (take 8 bs) ∷ packed k (drop 8 bs)
+use Rattle.source.specs.Packed.{packed}
 
 -- a name's entry: the head, and "n bytes, eight a word"
 unfoldable pub nameEntry : List ℕ → List ℕ

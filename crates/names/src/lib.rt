@@ -14,7 +14,8 @@ ghost use Rattle.words.specs.Made.{make};
 ghost use Rattle.words.specs.Ran.{Segments, Tail, Runs};
 ghost use Rattle.index.specs.Digest.{hashFrom, bucketOf};
 ghost use Rattle.index.specs.Covers.{indexedTo, Covers};
-ghost use Rattle.names.specs.Name.{ofBytes, nameEntry, wrapped, longestText};
+ghost use Rattle.source.specs.Packed.{ofBytes};
+ghost use Rattle.names.specs.Name.{nameEntry, wrapped, longestText};
 use words::Found;
 use words::Search;
 use words::kinds;
@@ -35,19 +36,12 @@ pub fn name_len(text: &[u8], wrap: bool) -> usize
     text.len()
 }
 
-// A byte as a word.
-fn wide(b: u8) -> u64
-    ensures { λ r. ⌜ (r ≡ b) × (r < 256) ⌝ }
-{
-    b as u64
-}
-
 // The byte of a text at a position, 0 past its end.
 fn text_at(text: &[u8], i: usize) -> u64
     ensures { λ r. ⌜ (r ≡ getD (now (text .entry)) i 0) × (r < 256) ⌝ }
 {
     if i < text.len() {
-        return wide(text[i]);
+        return source::wide(text[i]);
     }
     0
 }
@@ -68,24 +62,6 @@ fn byte_at(text: &[u8], wrap: bool, i: usize) -> u64
     text_at(&*text, i - 1)
 }
 
-// Four bytes of a text that has them, from a position on, as a number.
-fn four(text: &[u8], at: usize) -> u64
-    requires { ⌜ at + 4 ≤ length (now text) ⌝ }
-    ensures { λ r. ⌜ (r ≡ ofBytes (take 4 (drop at (now (text .entry))))) × (r < 4294967296) ⌝ }
-{
-    let low = wide(text[at]) + 256 * wide(text[at + 1]);
-    let high = wide(text[at + 2]) + 256 * wide(text[at + 3]);
-    low + 65536 * high
-}
-
-// The same for eight bytes. They are written out and not counted, so that a processor reads them as one word.
-fn eight(text: &[u8], at: usize) -> u64
-    requires { ⌜ at + 8 ≤ length (now text) ⌝ }
-    ensures { λ r. ⌜ r ≡ ofBytes (take 8 (drop at (now (text .entry)))) ⌝ }
-{
-    four(&*text, at) + 4294967296 * four(&*text, at + 4)
-}
-
 // Eight bytes of a name, from a position on, as a word.
 fn name_word(text: &[u8], wrap: bool, at: usize) -> u64
     requires { ⌜ at ≤ longestText + 1 ⌝ }
@@ -93,7 +69,7 @@ fn name_word(text: &[u8], wrap: bool, at: usize) -> u64
 {
     if !wrap {
         if at + 8 <= text.len() {
-            return eight(&*text, at);
+            return source::eight(&*text, at);
         }
     }
     let mut w: u64 = 0;

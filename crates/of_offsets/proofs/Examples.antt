@@ -11,7 +11,8 @@ use Rattle.bitset.specs.Bitset.{nowhere, also}
 use Rattle.wellformed.specs.Fresh.{freshWords}
 use Rattle.wellformed.specs.Entry.{mostOf, namesIn, typesIn, all, deepest, floatOk, zeroFilled, valuesOk, okEntry}
 use Rattle.wellformed.specs.Form.{allZero, headsAt, okRows, okEntries, wellFormed}
-use Rattle.names.specs.Name.{ofBytes, packed, nameEntry}
+use Rattle.source.specs.Packed.{ofBytes, packed}
+use Rattle.names.specs.Name.{nameEntry}
 use Rattle.makers.specs.Entries.{intEntry}
 use Rattle.layout.specs.Layout.{bytesWhere, offsetsFrom, offsets}
 use Rattle.of_types.specs.OfTypes.{intLogSize, logSize}

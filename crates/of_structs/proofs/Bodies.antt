@@ -10,7 +10,8 @@ use lib.Dec.{eqb}
 use lib.ListN.{length, take, List·getD-eq-default}
 use lib.Seq.{length-take-le}
 use Rattle.words.specs.Columns.{word, kindOn}
-use Rattle.names.specs.Name.{ofBytes, packed, nameEntry}
+use Rattle.source.specs.Packed.{ofBytes, packed}
+use Rattle.names.specs.Name.{nameEntry}
 use Rattle.makers.specs.Makers.{bodyName}
 use Rattle.of_structs.specs.OfStructs.{isBodyName, isAry, isArray}
 

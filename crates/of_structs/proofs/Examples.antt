@@ -8,7 +8,8 @@ use Rattle.words.specs.Words.{headOf, wordsAfter, sizeOf}
 use Rattle.words.specs.Columns.{every}
 use Rattle.words.specs.Table.{rows, entries, isAt}
 use Rattle.wellformed.specs.Entry.{all}
-use Rattle.names.specs.Name.{ofBytes, packed, nameEntry}
+use Rattle.source.specs.Packed.{ofBytes, packed}
+use Rattle.names.specs.Name.{nameEntry}
 use Rattle.makers.specs.Makers.{bodyName}
 use Rattle.meet_rules.specs.Names.{sameWords}
 use Rattle.of_structs.specs.declared.Place.the-variants.{At, Absent}

@@ -12,7 +12,8 @@ use Rattle.wellformed.specs.Entry.{mostOf, namesIn, typesIn, all, deepest, floa
 use Rattle.wellformed.specs.Form.{allZero, headsAt, okRows, okEntries, wellFormed}
 use Rattle.call.specs.Call.{call, ask, filledOutput}
 use Rattle.call.specs.Handles.{typesRows}
-use Rattle.names.specs.Name.{ofBytes, packed, nameEntry}
+use Rattle.source.specs.Packed.{ofBytes, packed}
+use Rattle.names.specs.Name.{nameEntry}
 use Rattle.makers.specs.Entries.{fieldWords}
 use Rattle.makers.specs.Makers.{freshCall, tupleRows, frefRows, structRows, partRows}
 use Rattle.type_float.specs.Single.{isSingle}

@@ -5,6 +5,8 @@ pub mod Sizes
 pub mod Parts
 pub mod ByKind
 pub mod Passed
+pub mod Windows
 pub mod Limits
+pub mod Tail
 pub mod Before
 pub mod Examples

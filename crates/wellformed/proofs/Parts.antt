@@ -11,6 +11,8 @@ use lib.Dec.{eqb}
 use lib.ListN.{length, drop, getD, drop-of-length-le}
 use lib.Seq.{drop-cons}
 use Rattle.words.specs.Words.{depthOf}
+use Rattle.source.specs.Source.{stored}
+use Rattle.source.proofs.Both.{length-stored, in-words}
 use Rattle.bitset.specs.Bitset.{bitAt}
 use Rattle.wellformed.specs.Entry.{noHead, kindIn, kindAt, isName, isType, isAliasFinal, all, deepest}
 use Rattle.words.specs.Columns.{every}
@@ -22,21 +24,24 @@ use Rattle.wellformed.specs.declared.Depth.the-variants.{Of, Bad}
 -- ---- head_at
 
 module _ (ws bits : List ℕ) (h : ℕ) where
-  pub outside : Marks ws bits → length ws ≤ h → noHead ≡ headsAt (bitAt bits) ws h
-  unfolding headsAt
-  outside m out = go (bitAt bits h) refl
-    where
-      go : (t : Bool) → bitAt bits h ≡ t → noHead ≡ cond t (getD ws h 0) noHead
-      go true e = absurd (omega (arith, m .inside h e))
-      go false e = refl
+  pub marked-in : Marks ws bits → (k : Bool) → k ≡ bitAt bits h → not k ≡ false → h < length ws
+  marked-in m k is y = m .inside h (sym is ∙ not-false k y)
 
   pub unmarked : (k : Bool) → k ≡ bitAt bits h → not k ≡ true → noHead ≡ headsAt (bitAt bits) ws h
   unfolding headsAt
   unmarked k is n = rw (sym is ∙ not-true k n)
 
-  pub marked-head : (k : Bool) → k ≡ bitAt bits h → not k ≡ false → getD ws h 0 ≡ headsAt (bitAt bits) ws h
+  pub marked-head : (k : Bool) → k ≡ bitAt bits h → not k ≡ false → (r : ℕ) → r ≡ getD ws h 0 → r ≡ headsAt (bitAt bits) ws h
   unfolding headsAt
-  marked-head k is y = rw (sym is ∙ not-false k y)
+  marked-head k is y r it = it ∙ rw (sym is ∙ not-false k y)
+
+-- the same where the word stands in the first source
+module _ (ws bs bits : List ℕ) (h : ℕ) (more : h < length ws) where
+  pub bit-room : Marks (stored ws bs) bits → h / 64 < length bits
+  bit-room m = omega (arith, m .room, length-stored ws bs)
+
+  pub near-head : (k : Bool) → k ≡ bitAt bits h → not k ≡ false → getD ws h 0 ≡ headsAt (bitAt bits) (stored ws bs) h
+  near-head k is y = marked-head (stored ws bs) bits h k is y (getD ws h 0) (in-words ws bs h more)
 
 -- ---- part
 

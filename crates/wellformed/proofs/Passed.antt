@@ -1,29 +1,21 @@
--- The loop of `entries`: its bits are the starts passed, and the answer is the answer on what is left. Assumes nothing.
+-- The loop over the entries: its bits are the starts passed, and the answer is the answer on what is left. Assumes nothing.
 use mathlib.Core.Path.{_≡_, refl, sym, ap, _∙_, fun-ext}
 use mathlib.Core.Bool.{Bool, true, false, not, _&&_, _||_}
 use mathlib.Core.List.{List}
 use Prim.Native.Nat.{ℕ, _+_, _-_, _≤_, _<_}
 use native.Mathlib.Omega.{arith}
-use native.Mathlib.Nat.{add-sub-cancel-left}
 use borrow.Author.Tests.{eqb-true, not-true, not-false}
 use lib.Dec.{eqb}
-use lib.ListN.{length, take, drop, getD, length-take, length-drop, drop-of-length-le}
-use lib.Seq.{slice, getD-take, getD-drop}
+use lib.ListN.{length, take, drop, getD, length-take, drop-of-length-le}
+use lib.Seq.{slice}
 use Rattle.words.specs.Words.{sizeOf, fills}
 use Rattle.words.specs.Table.{rows, entries, isAt}
-use Rattle.words.proofs.Walk.{next, over, size-pos}
+use Rattle.words.proofs.Walk.{next, over}
 use Rattle.bitset.specs.Bitset.{bitAt, nowhere, also}
 use Rattle.wellformed.specs.Form.{headsAt, okRows, okEntries}
 use Rattle.wellformed.specs.Entry.{okEntry}
-use Rattle.wellformed.specs.Scan.{Scanned}
+use Rattle.wellformed.specs.Scan.{Passed, Scanned}
 use Rattle.wellformed.proofs.Bools.{and-false, or-false, or-turn}
-
--- what the loop knows at its head
-pub record Passed (ws : List ℕ) (used : ℕ) (bits : List ℕ) (at : ℕ) : Type 0 where
-  pub within : at ≤ used
-  pub marks : (h : ℕ) → bitAt bits h ≡ true → h < used
-  pub seen : (h : ℕ) → isAt (entries (take used ws)) h ≡ (bitAt bits h || isAt (rows at 0 (slice at used ws)) h)
-  pub left : okEntries ws used ≡ (fills 0 (slice at used ws) && okRows ws (bitAt bits) (rows at 0 (slice at used ws)))
 
 pub begin : (ws : List ℕ) (used : ℕ) (bits : List ℕ) → 1 ≤ used → bitAt bits ≡ nowhere → Passed ws used bits 1
 unfolding okEntries entries nowhere
@@ -35,8 +27,8 @@ begin ws used bits low none = record {
 }
 
 -- not right: the bits are of no use
-bad : (ws : List ℕ) (used : ℕ) (bits : List ℕ) → false ≡ okEntries ws used → Scanned ws used bits false
-bad ws used bits e = record { is = e; marks = λ x. let z : _≡_ {A = ℕ} 0 1 = cc in absurd (omega arith) }
+pub bad : (ws : List ℕ) (used : ℕ) (bits : List ℕ) → okEntries ws used ≡ false → Scanned ws used bits false
+bad ws used bits e = record { is = sym e; marks = λ x. let z : _≡_ {A = ℕ} 0 1 = cc in absurd (omega arith) }
 
 also-low : (at used : ℕ) (start : ℕ → Bool) → at < used → ((h : ℕ) → start h ≡ true → h < used) → (h : ℕ) → also at start h ≡ true → h < used
 unfolding also
@@ -47,26 +39,19 @@ also-low at used start more low h e = go (eqb at h) refl e
     go false q f = low h f
 
 module _ (ws : List ℕ) (used at n : ℕ) (bits : List ℕ) (high : used ≤ length ws) (p : Passed ws used bits at) (more : at < used) (sized : n ≡ sizeOf (getD ws at 0)) where
-  pub runs-over : used - at < n → Scanned ws used bits false
-  runs-over out = bad ws used bits (sym (p .left ∙ rw (over ws used at high more (omega arith))))
+  pub runs-over : used < at + n → okEntries ws used ≡ false
+  runs-over out = p .left ∙ rw (over ws used at high more (omega arith))
 
-  module _ (fits : n ≤ used - at) where
-    -- the part that is lent is an entry
-    pub part-sized : length (take ((at + n) - at) (drop at ws)) ≡ sizeOf (getD (take ((at + n) - at) (drop at ws)) 0 0)
-    part-sized =
-        let pos = size-pos (getD ws at 0) in
-        let g : getD (take n (drop at ws)) 0 0 ≡ getD ws at 0 = getD-take n (drop at ws) 0 0 (omega arith) ∙ getD-drop at ws 0 0 ∙ ap (λ (k : ℕ). getD ws k 0) (omega arith) in
-        rw (add-sub-cancel-left, g, ← sized) (omega (arith, length-take n (drop at ws), length-drop at ws))
-
-    module _ (r : Bool) (is : r ≡ okEntry (headsAt (bitAt bits) ws) (take ((at + n) - at) (drop at ws))) where
+  module _ (fits : at + n ≤ used) where
+    module _ (r : Bool) (is : r ≡ okEntry (headsAt (bitAt bits) ws) (take n (drop at ws))) where
       step : okEntries ws used ≡ (fills 0 (slice (at + n) used ws) && (r && okRows ws (also at (bitAt bits)) (rows (at + n) 0 (slice (at + n) used ws))))
       unfolding okRows
       step =
           let h : at + sizeOf (getD ws at 0) ≤ used = omega arith in
-          p .left ∙ rw (next ws used at high more at h .row, next ws used at high more at h .filled, is, add-sub-cancel-left, sized)
+          p .left ∙ rw (next ws used at high more at h .row, next ws used at high more at h .filled, is, sized)
 
-      pub bad-entry : not r ≡ true → Scanned ws used bits false
-      bad-entry f = bad ws used bits (sym (step ∙ rw (not-true r f) (and-false (fills 0 (slice (at + n) used ws)))))
+      pub bad-entry : not r ≡ true → okEntries ws used ≡ false
+      bad-entry f = step ∙ rw (not-true r f) (and-false (fills 0 (slice (at + n) used ws)))
 
       pub good-entry : not r ≡ false → (bits′ : List ℕ) → bitAt bits′ ≡ also at (bitAt bits) → Passed ws used bits′ (at + n)
       unfolding also isAt

@@ -1,7 +1,7 @@
 -- Document 01, "The store": when a list of words is well formed (row 1).
 use mathlib.Core.Bool.{Bool, true, cond, _&&_}
-use mathlib.Core.List.{List, [], _∷_}
-use Prim.Native.Nat.{ℕ, _-_}
+use mathlib.Core.List.{List, [], _∷_, _++_}
+use Prim.Native.Nat.{ℕ, _+_, _-_}
 use lib.ListN.{length, take, drop}
 use lib.Dec.{eqb, leb}
 use Rattle.words.specs.Words.{fills, eqs}
@@ -58,3 +58,7 @@ wellFormed ws =
     && allZero (drop (usedCount ws) ws)
     -- "entries fill the used words", and what else is said of each
     && okEntries ws (usedCount ws)
+
+-- document 02, Slip 3: the store whose words behind the fresh ones are ks, in a list of just its length
+unfoldable pub behindFresh : List ℕ → List ℕ
+behindFresh ks = (freshLength + length ks) ∷ (freshWords ++ ks)

@@ -2,11 +2,12 @@
 ghost use mathlib.Core.Path.{_≡_};
 ghost use Prim.Native.Nat.{_+_, _*_, _<_, _≤_, max, min};
 ghost use lib.ListN.{length, getD};
+ghost use Rattle.source.specs.Source.{unpacked, stored};
 ghost use Rattle.words.specs.Words.{sizeOf};
 ghost use Rattle.bitset.specs.Bitset.{wordBits, bitAt};
 ghost use Rattle.wellformed.specs.Entry.{zeroFilled, floatOk, kindIn, okEntry};
-ghost use Rattle.wellformed.specs.Form.{allZero, headsAt, longestAllowed, wellFormed};
-ghost use Rattle.wellformed.specs.Scan.{partDepth, partsDepth, fieldsDepth, oneOver, Marks, Scanned, Verified};
+ghost use Rattle.wellformed.specs.Form.{allZero, headsAt, longestAllowed, wellFormed, behindFresh};
+ghost use Rattle.wellformed.specs.Scan.{partDepth, partsDepth, fieldsDepth, oneOver, Marks, Passed, Window, Going, Scanned, Verified, largestEntry};
 ghost use Rattle.words.specs.Columns.{structSize, firstField};
 use words::columns;
 use words::kinds;
@@ -73,27 +74,30 @@ pub fn larger(a: u64, b: u64) -> u64
     if a < b { b } else { a }
 }
 
-// The head of the earlier entry at h, or a head of no kind.
-fn head_at(words: &[u64], bits: &[u64], h: u64) -> u64
-    requires { ⌜ Marks (now words) (now bits) ⌝ }
-    ensures { λ r. ⌜ r ≡ headsAt (bitAt (now (bits .entry))) (now (words .entry)) h ⌝ }
+// The head of the earlier entry at h, or a head of no kind. A plain store's words are all in `words`, which is asked first.
+fn head_at(words: &[u64], tail: &[u8], bits: &[u64], h: u64) -> u64
+    requires { ⌜ Marks (stored (now words) (now tail)) (now bits) ⌝ }
+    ensures { λ r. ⌜ r ≡ headsAt (bitAt (now (bits .entry))) (stored (now (words .entry)) (now (tail .entry))) h ⌝ }
 {
     let at = h as usize;
-    if at >= words.len() {
+    if at < words.len() {
+        if !bitset::marked(bits, at) {
+            return kinds::NO_HEAD;
+        }
+        return words[at];
+    }
+    if !bitset::contains(bits, h) {
         return kinds::NO_HEAD;
     }
-    if !bitset::marked(bits, at) {
-        return kinds::NO_HEAD;
-    }
-    words[at]
+    source::word_at(words, tail, at)
 }
 
 // The depth of the earlier entry at h, if its kind is from low to high.
-fn part(words: &[u64], bits: &[u64], h: u64, low: u64, high: u64) -> Depth
-    requires { ⌜ Marks (now words) (now bits) ⌝ }
-    ensures { λ r. ⌜ r ≡ partDepth (headsAt (bitAt (now (bits .entry))) (now (words .entry))) (kindIn low high) h ⌝ }
+fn part(words: &[u64], tail: &[u8], bits: &[u64], h: u64, low: u64, high: u64) -> Depth
+    requires { ⌜ Marks (stored (now words) (now tail)) (now bits) ⌝ }
+    ensures { λ r. ⌜ r ≡ partDepth (headsAt (bitAt (now (bits .entry))) (stored (now (words .entry)) (now (tail .entry)))) (kindIn low high) h ⌝ }
 {
-    let head = head_at(words, bits, h);
+    let head = head_at(words, tail, bits, h);
     let kind = head % kinds::DEPTH;
     if kind < low {
         return Depth::Bad;
@@ -105,14 +109,14 @@ fn part(words: &[u64], bits: &[u64], h: u64, low: u64, high: u64) -> Depth
 }
 
 // The depth of the deepest of the types whose handles are `parts`.
-fn elements(words: &[u64], bits: &[u64], parts: &[u64]) -> Depth
-    requires { ⌜ Marks (now words) (now bits) ⌝ }
-    ensures { λ r. ⌜ r ≡ partsDepth (headsAt (bitAt (now (bits .entry))) (now (words .entry))) 0 (now (parts .entry)) ⌝ }
+fn elements(words: &[u64], tail: &[u8], bits: &[u64], parts: &[u64]) -> Depth
+    requires { ⌜ Marks (stored (now words) (now tail)) (now bits) ⌝ }
+    ensures { λ r. ⌜ r ≡ partsDepth (headsAt (bitAt (now (bits .entry))) (stored (now (words .entry)) (now (tail .entry)))) 0 (now (parts .entry)) ⌝ }
 {
     let mut d: u64 = 0;
     let mut i = 0;
     while i < parts.len() {
-        let p = part(words, bits, parts[i], kinds::BOT, kinds::MEM);
+        let p = part(words, tail, bits, parts[i], kinds::BOT, kinds::MEM);
         let Depth::Of(x) = p else {
             return Depth::Bad;
         };
@@ -123,16 +127,16 @@ fn elements(words: &[u64], bits: &[u64], parts: &[u64]) -> Depth
 }
 
 // The depth of the deepest type of a struct's n fields.
-fn fields(words: &[u64], bits: &[u64], e: &[u64], n: u64) -> Depth
-    requires { ⌜ Marks (now words) (now bits) ⌝ }
+fn fields(words: &[u64], tail: &[u8], bits: &[u64], e: &[u64], n: u64) -> Depth
+    requires { ⌜ Marks (stored (now words) (now tail)) (now bits) ⌝ }
     requires { ⌜ length (now e) ≡ structSize n ⌝ }
-    ensures { λ r. ⌜ r ≡ fieldsDepth (headsAt (bitAt (now (bits .entry))) (now (words .entry))) 0 n (firstField 0) (now (e .entry)) ⌝ }
+    ensures { λ r. ⌜ r ≡ fieldsDepth (headsAt (bitAt (now (bits .entry))) (stored (now (words .entry)) (now (tail .entry)))) 0 n (firstField 0) (now (e .entry)) ⌝ }
 {
     let mut d: u64 = 0;
     let mut i = columns::FIELDS;
     let mut j = n;
     while 0 < j {
-        let name = head_at(words, bits, e[i]);
+        let name = head_at(words, tail, bits, e[i]);
         if name % kinds::DEPTH != kinds::NAME {
             return Depth::Bad;
         }
@@ -141,6 +145,7 @@ fn fields(words: &[u64], bits: &[u64], e: &[u64], n: u64) -> Depth
         }
         let t = part(
             words,
+            tail,
             bits,
             e[i + columns::FIELD_TYPE],
             kinds::BOT,
@@ -172,10 +177,10 @@ fn over(depth: u64, d: Depth) -> bool
 }
 
 // Whether an entry is one that a maker could have made, with its parts among the marked handles.
-pub fn entry(words: &[u64], bits: &[u64], e: &[u64]) -> bool
-    requires { ⌜ Marks (now words) (now bits) ⌝ }
+pub fn entry(words: &[u64], tail: &[u8], bits: &[u64], e: &[u64]) -> bool
+    requires { ⌜ Marks (stored (now words) (now tail)) (now bits) ⌝ }
     requires { ⌜ length (now e) ≡ sizeOf (getD (now e) 0 0) ⌝ }
-    ensures { λ r. ⌜ r ≡ okEntry (headsAt (bitAt (now (bits .entry))) (now (words .entry))) (now (e .entry)) ⌝ }
+    ensures { λ r. ⌜ r ≡ okEntry (headsAt (bitAt (now (bits .entry))) (stored (now (words .entry)) (now (tail .entry)))) (now (e .entry)) ⌝ }
 {
     let head = e[0];
     let kind = head % kinds::DEPTH;
@@ -194,13 +199,13 @@ pub fn entry(words: &[u64], bits: &[u64], e: &[u64]) -> bool
         return padding(e);
     }
     if kind == kinds::TUPLE {
-        return over(depth, elements(words, bits, &e[columns::ELEMENTS..]));
+        return over(depth, elements(words, tail, bits, &e[columns::ELEMENTS..]));
     }
     if kind == kinds::STRUCT {
-        if head_at(words, bits, e[columns::NAME]) % kinds::DEPTH != kinds::NAME {
+        if head_at(words, tail, bits, e[columns::NAME]) % kinds::DEPTH != kinds::NAME {
             return false;
         }
-        return over(depth, fields(words, bits, e, n));
+        return over(depth, fields(words, tail, bits, e, n));
     }
     if n != 0 {
         return false;
@@ -215,7 +220,7 @@ pub fn entry(words: &[u64], bits: &[u64], e: &[u64]) -> bool
         return false;
     }
     if kind == kinds::FREF {
-        if head_at(words, bits, e[columns::NAME]) % kinds::DEPTH != kinds::NAME {
+        if head_at(words, tail, bits, e[columns::NAME]) % kinds::DEPTH != kinds::NAME {
             return false;
         }
         return depth == 1;
@@ -226,7 +231,7 @@ pub fn entry(words: &[u64], bits: &[u64], e: &[u64]) -> bool
         }
         return over(
             depth,
-            part(words, bits, e[columns::TARGET], kinds::STRUCT, kinds::FREF),
+            part(words, tail, bits, e[columns::TARGET], kinds::STRUCT, kinds::FREF),
         );
     }
     if kind == kinds::MEM {
@@ -235,29 +240,88 @@ pub fn entry(words: &[u64], bits: &[u64], e: &[u64]) -> bool
         }
         return over(
             depth,
-            part(words, bits, e[columns::INNER], kinds::BOT, kinds::MEM),
+            part(words, tail, bits, e[columns::INNER], kinds::BOT, kinds::MEM),
         );
     }
     false
 }
 
-// Whether entries fill the words from 1 to used, each with its parts before it. If so, the bits mark where they start.
+// How far the entries of a window are right, as an index of it.
+pub enum Reached {
+    At(usize),
+    Fault,
+}
+
+// Checks the entries in a window of the used words, the first at index `from` of it, and marks them. It stops at the window's end, or before an entry that runs past it.
+// The window begins at position `base`; `used` words are used. The only place that calls `entry`, so that the compiler puts it here.
+fn run(
+    words: &[u64],
+    tail: &[u8],
+    used: usize,
+    bits: &mut [u64],
+    window: &[u64],
+    base: usize,
+    from: usize,
+) -> Reached
+    requires { ⌜ (used ≤ length (stored (now words) (now tail))) × (length (stored (now words) (now tail)) ≤ wordBits * length (now bits)) ⌝ }
+    requires { ⌜ Window (stored (now words) (now tail)) used base (now window) ⌝ }
+    requires { ⌜ (from ≤ length (now window)) × (Passed (stored (now words) (now tail)) used (now bits) (base + from)) ⌝ }
+    ensures { λ r. ⌜ Going (stored (now (words .entry)) (now (tail .entry))) used (now (bits .exit)) base (length (now (window .entry))) r ⌝ }
+{
+    let mut i = from;
+    while i < window.len() {
+        let n = words::size(window[i]);
+        if n > window.len() - i {
+            return Reached::At(i);
+        }
+        if !entry(words, tail, bits, &window[i..i + n]) {
+            return Reached::Fault;
+        }
+        bitset::mark(bits, base + i);
+        i += n;
+    }
+    Reached::At(i)
+}
+
+// Whether entries fill the words from 1 to used, each with its parts before it. If so, the bits mark where they start. The words are one window.
 fn entries(words: &[u64], used: usize, bits: &mut [u64]) -> bool
     requires { ⌜ (1 ≤ used) × (used ≤ length (now words)) × (length (now words) ≤ wordBits * length (now bits)) ⌝ }
     ensures { λ r. ⌜ Scanned (now (words .entry)) used (now (bits .exit)) r ⌝ }
 {
     bitset::clear(bits);
+    let none = [0u8; 0];
+    let r = run(words, &none, used, bits, &words[..used], 0, 1);
+    match r {
+        Reached::At(i) => i == used,
+        Reached::Fault => false,
+    }
+}
+
+fn smaller(a: usize, b: usize) -> usize
+    ensures { λ r. ⌜ r ≡ min a b ⌝ }
+{
+    if a < b { a } else { b }
+}
+
+// The same for words in two sources, in windows that are copied to `room`, which has room for the largest entry.
+fn entries_in(words: &[u64], tail: &[u8], used: usize, bits: &mut [u64], room: &mut [u64]) -> bool
+    requires { ⌜ (1 ≤ used) × (used ≤ length (stored (now words) (now tail))) × (length (stored (now words) (now tail)) ≤ wordBits * length (now bits)) ⌝ }
+    requires { ⌜ largestEntry ≤ length (now room) ⌝ }
+    ensures { λ r. ⌜ Scanned (stored (now (words .entry)) (now (tail .entry))) used (now (bits .exit)) r ⌝ }
+{
+    bitset::clear(bits);
     let mut at = 1;
     while at < used {
-        let n = words::size(words[at]);
-        if n > used - at {
+        let m = smaller(room.len(), used - at);
+        source::gather(words, tail, at, m, room);
+        let r = run(words, tail, used, bits, &room[..m], at, 0);
+        let Reached::At(i) = r else {
+            return false;
+        };
+        if i == 0 {
             return false;
         }
-        if !entry(words, bits, &words[at..at + n]) {
-            return false;
-        }
-        bitset::mark(bits, at);
-        at += n;
+        at += i;
     }
     true
 }
@@ -385,6 +449,28 @@ pub fn verify(words: &[u64], bits: &mut [u64]) -> bool
         return false;
     }
     entries(words, used, bits)
+}
+
+// A window of a file's words: at least as long as the largest entry.
+const WINDOW: usize = 1024;
+
+// How many words a store has behind the fresh ones, at most.
+pub const MOST_LATER: usize = limits::LONGEST - limits::FRESH_LENGTH;
+
+// Row 1 for the store whose words behind the fresh ones are in `tail`, in a list of just that length. If so, the bits mark where its entries start.
+pub fn verify_tail(tail: &[u8], bits: &mut [u64]) -> bool
+    requires { ⌜ min (length (behindFresh (unpacked (now tail)))) longestAllowed ≤ wordBits * length (now bits) ⌝ }
+    ensures { λ r. ⌜ Verified (behindFresh (unpacked (now (tail .entry)))) (now (bits .exit)) r ⌝ }
+{
+    let k = tail.len() / 8;
+    if k > MOST_LATER {
+        return false;
+    }
+    let used = limits::FRESH_LENGTH + k;
+    let mut first = [0u64; limits::FRESH_LENGTH];
+    words::headed(&mut first, used as u64, &FRESH);
+    let mut room = [0u64; WINDOW];
+    entries_in(&first, tail, used, bits, &mut room)
 }
 
 // How many words of bits mark the entries of a list, for lists of up to so many words: one bit for each word.

@@ -16,3 +16,4 @@ pub mod Room
 pub mod Placed
 pub mod Kept
 pub mod Written
+pub mod Heading

@@ -3,7 +3,7 @@
 ghost use mathlib.Core.Path.{_≡_};
 ghost use mathlib.Core.Bool.{true};
 ghost use Prim.Native.Nat.{_+_, _-_, _*_, _^_, _<_, _≤_};
-ghost use mathlib.Core.List.{_++_};
+ghost use mathlib.Core.List.{_∷_, _++_};
 ghost use lib.ListN.{length, take, drop, getD, replicate};
 ghost use lib.Seq.{slice};
 ghost use Rattle.words.specs.Words.{wordsAfter, sizeOf, eqs, fills};
@@ -214,6 +214,15 @@ pub fn write(dst: &mut [u64], entry: &[u64])
         dst[i] = entry[i];
         i += 1;
     }
+}
+
+// Fills the first words of `dst` with a head and a list.
+pub fn headed(dst: &mut [u64], head: u64, list: &[u64])
+    requires { ⌜ 1 + length (now list) ≤ length (now dst) ⌝ }
+    ensures { λ _. ⌜ now (dst .exit) ≡ (head ∷ now (list .entry)) ++ drop (1 + length (now (list .entry))) (now (dst .entry)) ⌝ }
+{
+    write(&mut dst[1..], &*list);
+    dst[0] = head;
 }
 
 // Zeroes the words of a list.

@@ -4,7 +4,8 @@ use Prim.Native.Nat.{_+_, _-_, _*_, _^_, _≤_, _<_}
 use borrow.Author.Needs.{needs}
 use native.Mathlib.Omega.{arith}
 use lib.ListN.{take, drop}
-use Rattle.names.specs.Name.{ofBytes, wrapped}
+use Rattle.source.specs.Packed.{ofBytes}
+use Rattle.names.specs.Name.{wrapped}
 use Rattle.names.proofs.Number.{room, wider-by-one, one-more, all-eight}
 use Rattle.names.proofs.Bytes.{plain-word}
 use Rattle.names.proofs.name_word.Statement.{statement}

@@ -2,6 +2,7 @@
 use mathlib.Core.Path.{_≡_, refl}
 use Prim.Native.Nat.{_≤_, _-_}
 use lib.ListN.{length, drop}
+use Rattle.source.specs.Source.{stored}
 use Rattle.bitset.specs.Bitset.{bitAt}
 use Rattle.wellformed.specs.Form.{headsAt}
 use Rattle.wellformed.specs.Scan.{partsDepth}
@@ -11,10 +12,10 @@ use Rattle.wellformed.proofs.elements.Statement.{statement}
 use Rattle.wellformed.proofs.elements.Tie as tie
 
 abbrev Inv-loop : tie.InvT-loop
-Inv-loop words bits parts d₀ i₀ d i = (i ≤ length parts) × (partsDepth (headsAt (bitAt bits) words) 0 parts ≡ partsDepth (headsAt (bitAt bits) words) d (drop i parts))
+Inv-loop words tail bits parts d₀ i₀ d i = (i ≤ length parts) × (partsDepth (headsAt (bitAt bits) (stored words tail)) 0 parts ≡ partsDepth (headsAt (bitAt bits) (stored words tail)) d (drop i parts))
 
 abbrev μ-loop : tie.MeasureT-loop
-μ-loop words bits parts d₀ i₀ d i = length parts - i
+μ-loop words tail bits parts d₀ i₀ d i = length parts - i
 
 loop-holds : tie.Need-loop-holds Inv-loop μ-loop
 loop-holds c = (search needs, refl)

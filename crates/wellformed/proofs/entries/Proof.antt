@@ -1,140 +1,72 @@
--- `wellformed::entries` meets its contract. The invariant is `Passed`: the bits are the starts that were passed, and the answer is the answer on what is left.
-use mathlib.Core.Path.{_≡_, refl, _∙_}
-use Prim.Native.Nat.{ℕ, _*_, _≤_, _<_, _-_}
+use mathlib.Core.Path.{sym}
+use mathlib.Core.List.{[]}
 use denote.Ref.{now}
 use native.Mathlib.Omega.{arith}
-use lib.ListN.{length, getD}
-use Rattle.words.proofs.Walk.{size-pos}
-use Rattle.wellformed.proofs.Passed.{Passed, begin, runs-over, part-sized, bad-entry, good-entry, all-good}
+use lib.Seq.{length-take-le}
+use Rattle.source.proofs.Both.{length-stored}
+use Rattle.wellformed.proofs.Windows.{plain-window, plain-some, plain-begin, plain-bad, plain-at}
 use borrow.Author.Needs.{needs}
 use Rattle.wellformed.proofs.entries.Statement.{statement}
 use Rattle.wellformed.proofs.entries.Tie as tie
+use Rattle.wellformed.proofs.entries.Reads as reads
+use Rattle.wellformed.proofs.entries.Lts as lts
+use Rattle.bitset.proofs.clear.Reads as clear-reads
+use Rattle.wellformed.proofs.run.Reads as run-reads
 
-abbrev Inv-loop : tie.InvT-loop
-Inv-loop words used bits₀ at₀ bits at = (length bits ≡ length bits₀) × Passed words used bits at
-
-abbrev μ-loop : tie.MeasureT-loop
-μ-loop words used bits₀ at₀ bits at = used - at
-
--- places: the function's entry from the loop's head, and the loop's head from a turn's entry
-abbrev start : tie.At-loop Inv-loop μ-loop → tie.Start Inv-loop μ-loop
-start l = l .before .before .before .before .before .before .before
-
-abbrev head : tie.After-size Inv-loop μ-loop → tie.At-loop Inv-loop μ-loop
-head z = z .before .before .before
-
--- the bits are enough for the words
-room : (l : tie.At-loop Inv-loop μ-loop) → length (now (start l .args .words)) ≤ 64 * length (l .loop .bits)
-room l = omega (arith, start l .pre .2, l .before .before .before .clear .kept .0, l .loop .inv .0)
-
-below : (a b c : ℕ) → a < b → b ≤ c → a < c
-below a b c h k = omega arith
-
-clear-requires : tie.Need-clear-requires Inv-loop μ-loop
+-- src/lib.rt:262:5
+clear-requires : tie.Need-clear-requires
 clear-requires c κs = search needs
 
-loop-holds : tie.Need-loop-holds Inv-loop μ-loop
-loop-holds c = (refl, search begin)
+-- src/lib.rt:264:24
+slice-aggregate-run : tie.Need-slice-aggregate-run
+slice-aggregate-run c = search needs
 
-mul-size : tie.Need-mul-size Inv-loop μ-loop
-mul-size c = search needs
+-- src/lib.rt:264:43
+slice-aggregate-run-2 : tie.Need-slice-aggregate-run-2
+slice-aggregate-run-2 c = let s = c .before .before .before .before .before .before .before .before .before in sym (length-take-le _ (now (s .args .words)) (s .pre .1))
 
-shared-slice-read-size : tie.Need-shared-slice-read-size Inv-loop μ-loop
-shared-slice-read-size c = search needs
+-- src/lib.rt:264:9
+run-requires : tie.Need-run-requires
+run-requires c κs = let s = c .before .before .before .before .before .before .before .before .before in let k = c .before .before .before .before .before in let n = length-stored (now (s .args .words)) [] in (
+  (omega (arith, n, s .pre .1), omega (arith, n, s .pre .2, k .clear .kept .0)),
+  (plain-window _ _ (s .pre .0) (s .pre .1), (plain-some _ _ (s .pre .0) (s .pre .1), plain-begin _ _ (s .pre .0) (s .pre .1) _ (k .clear .ensures))),
+)
 
-size-requires : tie.Need-size-requires Inv-loop μ-loop
-size-requires c κs = search needs
+-- src/lib.rt:266:21
+enum-known-r : tie.Need-enum-known-r
+enum-known-r c = search needs
 
-sub-if1 : tie.Need-sub-if1 Inv-loop μ-loop
-sub-if1 c = search needs
+-- src/lib.rt:267:27
+enum-told : tie.Need-enum-told
+enum-told c = search needs
 
-same-length : tie.Need-same-length Inv-loop μ-loop
+-- src/lib.rt:258:1
+same-length : tie.Need-same-length
 same-length c = search needs
 
-returns : tie.Need-returns Inv-loop μ-loop
-returns c = search runs-over
+-- src/lib.rt:258:1
+returns : tie.Need-returns
+returns c = let s = c .before .before .before .before .before .before .before .before .before .before .before .before .before .before .before in plain-at _ _ (s .pre .0) (s .pre .1) _ _ (c .before .before .before .before .before .run .ensures) _ (c .before .r .given .1)
 
-add-entry : tie.Need-add-entry Inv-loop μ-loop
-add-entry c = search needs
-
-mul-entry : tie.Need-mul-entry Inv-loop μ-loop
-mul-entry c = search needs
-
-sub-entry : tie.Need-sub-entry Inv-loop μ-loop
-sub-entry c = search needs
-
-part-entry-start : tie.Need-part-entry-start Inv-loop μ-loop
-part-entry-start c = search needs
-
-part-entry-end : tie.Need-part-entry-end Inv-loop μ-loop
-part-entry-end c = search needs
-
-entry-requires : tie.Need-entry-requires Inv-loop μ-loop
-entry-requires c κs =
-    let z = c .before .before .before in
-    let l = head z in
-    (record { room = room l; inside = λ h e. below _ _ _ (l .loop .inv .1 .marks h e) (start l .pre .1) }, part-sized _ _ _ _ _ (start l .pre .1) (l .loop .inv .1) (z .before .before .loop-test .taken) (z .size .ensures) (c .before .before .if1 .left))
-
-same-length-2 : tie.Need-same-length-2 Inv-loop μ-loop
+-- src/lib.rt:258:1
+same-length-2 : tie.Need-same-length-2
 same-length-2 c = search needs
 
-returns-2 : tie.Need-returns-2 Inv-loop μ-loop
-returns-2 c = search bad-entry
-
-mark-requires : tie.Need-mark-requires Inv-loop μ-loop
-mark-requires c κs =
-    let l = c .before .before .before .before .before .before .before .before .before in
-    omega (arith, room l, start l .pre .1, c .before .before .before .before .before .before .before .before .loop-test .taken)
-
-add-at : tie.Need-add-at Inv-loop μ-loop
-add-at c = search needs
-
-loop-less : tie.Need-loop-less Inv-loop μ-loop
-loop-less c =
-    let z = c .before .before .before .before .before .before .before .before .before in
-    omega (arith, size-pos (getD (now (start (head z) .args .words)) (head z .loop .at) 0), z .size .ensures, z .before .before .loop-test .taken)
-
-loop-again : tie.Need-loop-again Inv-loop μ-loop
-loop-again c =
-    let m = c .before .before in
-    let i = m .before .before in
-    let e = i .before in
-    let x = e .before .before .before in
-    let z = x .before in
-    let l = head z in
-    (m .mark .kept .0 ∙ l .loop .inv .0, good-entry _ _ _ _ _ (start l .pre .1) (l .loop .inv .1) (z .before .before .loop-test .taken) (z .size .ensures) (x .if1 .left) _ (e .entry .ensures) (i .if2 .left) _ (m .mark .ensures))
-
-same-length-3 : tie.Need-same-length-3 Inv-loop μ-loop
-same-length-3 c = search needs
-
-returns-3 : tie.Need-returns-3 Inv-loop μ-loop
-returns-3 c = search all-good
+-- src/lib.rt:258:1
+returns-2 : tie.Need-returns-2
+returns-2 c = let s = c .before .before .before .before .before .before .before .before .before .before .before .before .before .before in plain-bad _ _ (s .pre .0) (s .pre .1) _ _ (c .before .before .before .before .run .ensures) (c .enum-told .given .1)
 
 pub entries-spec : {M : Type 1} → statement M
 entries-spec =
     tie.close
     (tie.spec
-    Inv-loop
-    μ-loop
     clear-requires
-    loop-holds
-    mul-size
-    shared-slice-read-size
-    size-requires
-    sub-if1
+    slice-aggregate-run
+    slice-aggregate-run-2
+    run-requires
+    enum-known-r
+    enum-told
     same-length
     returns
-    add-entry
-    mul-entry
-    sub-entry
-    part-entry-start
-    part-entry-end
-    entry-requires
     same-length-2
-    returns-2
-    mark-requires
-    add-at
-    loop-less
-    loop-again
-    same-length-3
-    returns-3)
+    returns-2)

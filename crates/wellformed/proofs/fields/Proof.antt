@@ -2,6 +2,7 @@
 use mathlib.Core.Path.{_≡_, refl}
 use Prim.Native.Nat.{_+_, _*_, _-_}
 use lib.ListN.{length}
+use Rattle.source.specs.Source.{stored}
 use Rattle.bitset.specs.Bitset.{bitAt}
 use Rattle.wellformed.specs.Form.{headsAt}
 use Rattle.wellformed.specs.Scan.{fieldsDepth}
@@ -11,10 +12,10 @@ use Rattle.wellformed.proofs.fields.Statement.{statement}
 use Rattle.wellformed.proofs.fields.Tie as tie
 
 abbrev Inv-loop : tie.InvT-loop
-Inv-loop words bits e n d₀ i₀ j₀ d i j = (length e ≡ i + 3 * j) × (fieldsDepth (headsAt (bitAt bits) words) 0 n 2 e ≡ fieldsDepth (headsAt (bitAt bits) words) d j i e)
+Inv-loop words tail bits e n d₀ i₀ j₀ d i j = (length e ≡ i + 3 * j) × (fieldsDepth (headsAt (bitAt bits) (stored words tail)) 0 n 2 e ≡ fieldsDepth (headsAt (bitAt bits) (stored words tail)) d j i e)
 
 abbrev μ-loop : tie.MeasureT-loop
-μ-loop words bits e n d₀ i₀ j₀ d i j = j
+μ-loop words tail bits e n d₀ i₀ j₀ d i j = j
 
 loop-holds : tie.Need-loop-holds Inv-loop μ-loop
 loop-holds c = (search needs, refl)

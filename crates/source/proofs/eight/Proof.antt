@@ -1,8 +1,8 @@
--- `names::eight` meets its contract.
-use Rattle.names.proofs.Number.{eight-bytes}
+-- `source::eight` meets its contract.
+use Rattle.source.proofs.Number.{eight-bytes}
 use borrow.Author.Needs.{needs}
-use Rattle.names.proofs.eight.Statement.{statement}
-use Rattle.names.proofs.eight.Tie as tie
+use Rattle.source.proofs.eight.Statement.{statement}
+use Rattle.source.proofs.eight.Tie as tie
 
 four-requires : tie.Need-four-requires
 four-requires c κs = search needs

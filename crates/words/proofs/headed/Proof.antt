@@ -1,9 +1,9 @@
--- `makers::headed` meets its contract.
+-- `words::headed` meets its contract.
 use lib.ListN.{length-set}
-use Rattle.makers.proofs.Built.{headed-all}
+use Rattle.words.proofs.Heading.{headed-all}
 use borrow.Author.Needs.{needs}
-use Rattle.makers.proofs.headed.Statement.{statement}
-use Rattle.makers.proofs.headed.Tie as tie
+use Rattle.words.proofs.headed.Statement.{statement}
+use Rattle.words.proofs.headed.Tie as tie
 
 sub-write : tie.Need-sub-write
 sub-write c = search needs

@@ -1,8 +1,8 @@
--- `names::four` meets its contract.
-use Rattle.names.proofs.Number.{four-bytes}
+-- `source::four` meets its contract.
+use Rattle.source.proofs.Number.{four-bytes}
 use borrow.Author.Needs.{needs}
-use Rattle.names.proofs.four.Statement.{statement}
-use Rattle.names.proofs.four.Tie as tie
+use Rattle.source.proofs.four.Statement.{statement}
+use Rattle.source.proofs.four.Tie as tie
 
 shared-slice-read-wide : tie.Need-shared-slice-read-wide
 shared-slice-read-wide c = search needs
