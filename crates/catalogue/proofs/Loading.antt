@@ -49,7 +49,8 @@ module _ (bs f x : List ℕ) (few : length bs / 8 ≤ 1048482) (is : f ≡ ((94 
       let c : w ≡ behindFresh (unpacked bs) ++ drop n w₀ = copied ∙ rw (first-stored bs few f x is none, take-all n (behindFresh (unpacked bs)) g) in
       let t : take n w ≡ behindFresh (unpacked bs) = rw c (take-at (behindFresh (unpacked bs)) (drop n w₀) n (tail-length bs)) in
       let k : length (take (length w - n) (drop n w)) ≡ length w₀ - length (behindFresh (unpacked bs)) = omega (arith, length-take (length w - n) (drop n w), length-drop n w, tail-length bs) in
-      let d : drop (length w - n) (drop n w) ≡ [] = drop-of-length-le (drop n w) (omega (arith, length-drop n w)) in
+      let o : length (drop n w) ≤ length w - n = omega (arith, length-drop n w) in
+      let d : drop (length w - n) (drop n w) ≡ [] = drop-of-length-le (drop n w) o in
       rw (t, d, append-nil z, zeroed, k)
 
 -- ---- load
@@ -86,9 +87,9 @@ module _ (f ws : List ℕ) where
         unfolding trailed
         wrong-trailer n =
             let ne : startIn f + 8 * countIn f + 16 ≡ length f → ⊥ = λ e.
-                let q : s + 8 * k ≡ length f - 16 = omega arith in
-                let z : false ≡ true = sym (sym it ∙ not-true t n) ∙ eq-eqb _ _ q in
-                absurd (contra z)
+            let q : s + 8 * k ≡ length f - 16 = omega arith in
+            let z : false ≡ true = sym (sym it ∙ not-true t n) ∙ eq-eqb _ _ q in
+            absurd (contra z)
             in
             no-trail (rw (le-leb 16 _ some, ne-eqb _ _ ne))
           where
@@ -106,6 +107,9 @@ module _ (f ws : List ℕ) where
           pub inside : s ≤ length f - 16
           inside = omega (arith, sums)
 
+          pub shorter : 8 * k ≤ length f
+          shorter = omega (arith, sums)
+
           pub tail-bytes : length (take ((length f - 16) - s) (drop s f)) ≡ 8 * k
           tail-bytes = omega (arith, sums, length-take ((length f - 16) - s) (drop s f), length-drop s f)
 
@@ -115,11 +119,8 @@ module _ (f ws : List ℕ) where
               let m : (length f - 16) - s ≡ 8 * k = omega (arith, sums) in
               rw (n, m, packed-first k (drop s f), ik, is)
 
-          size : length (behindFresh (unpacked (take ((length f - 16) - s) (drop s f)))) ≡ 94 + k
-          size = omega (arith, tail-length (take ((length f - 16) - s) (drop s f)), tail-bytes)
-
           pub words-size : length (behindFresh (unpacked (take ((length f - 16) - s) (drop s f)))) ≡ 94 + k
-          words-size = size
+          words-size = omega (arith, tail-length (take ((length f - 16) - s) (drop s f)), tail-bytes)
 
           module _ (g : Bool) (ig : g ≡ formsStore (unpacked (take ((length f - 16) - s) (drop s f)))) where
             pub no-store : not g ≡ true → Loads f ws (Refused 15) ws
@@ -134,10 +135,10 @@ module _ (f ws : List ℕ) where
               module _ (brief : s ≤ 255) where
                 pub no-room : length ws < 94 + k → Loads f ws (Refused 12) ws
                 unfolding loadRows
-                no-room h = refuses 11 (rw (le-leb 94 _ long, le-leb _ 1048576 short, trail, ← lent-words, sym ig ∙ not-false g w, ← is, le-ltb 255 s brief, size, lt-ltb _ _ h))
+                no-room h = refuses 11 (rw (le-leb 94 _ long, le-leb _ 1048576 short, trail, ← lent-words, sym ig ∙ not-false g w, ← is, le-ltb 255 s brief, words-size, lt-ltb _ _ h))
 
                 pub loaded : 94 + k ≤ length ws → (ws′ : List ℕ) → ws′ ≡ loadedStore (unpacked (take ((length f - 16) - s) (drop s f))) (length ws) → Loads f ws (Number s) ws′
                 unfolding loadRows loadCall
                 loaded h ws′ e =
-                    let z : loadRows f ws ≡ 0 = rw (le-leb 94 _ long, le-leb _ 1048576 short, trail, ← lent-words, sym ig ∙ not-false g w, ← is, le-ltb 255 s brief, size, le-ltb _ _ h) in
+                    let z : loadRows f ws ≡ 0 = rw (le-leb 94 _ long, le-leb _ 1048576 short, trail, ← lent-words, sym ig ∙ not-false g w, ← is, le-ltb 255 s brief, words-size, le-ltb _ _ h) in
                     (rw (z, ← is), e ∙ rw (z, lent-words))

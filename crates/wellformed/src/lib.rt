@@ -231,7 +231,14 @@ pub fn entry(words: &[u64], tail: &[u8], bits: &[u64], e: &[u64]) -> bool
         }
         return over(
             depth,
-            part(words, tail, bits, e[columns::TARGET], kinds::STRUCT, kinds::FREF),
+            part(
+                words,
+                tail,
+                bits,
+                e[columns::TARGET],
+                kinds::STRUCT,
+                kinds::FREF,
+            ),
         );
     }
     if kind == kinds::MEM {

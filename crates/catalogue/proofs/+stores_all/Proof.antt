@@ -1,5 +1,7 @@
+-- `catalogue::stores_all` meets its contract; its measure is how often it calls itself.
 use Prim.Native.Nat.{ℕ, _<_}
 use borrow.Fn.Kinds.{In}
+use borrow.Author.Needs.{needs}
 use borrow.Fn.PlainCycle.{Measures, is, falls, and}
 use Rattle.catalogue.proofs.stores_all.Reads as stores-all
 use Rattle.catalogue.proofs.stores_all.Kinds as stores-all-kinds
@@ -10,7 +12,7 @@ use Rattle.catalogue.proofs.+stores_all.{statement}
 use Rattle.catalogue.proofs.+stores_all.Tie.{close}
 
 abbrev μ-stores-all : Measures 1 stores-all-kinds.ps ℕ
-μ-stores-all κs a = ?
+μ-stores-all κs a = a .0
 
 abbrev stores-all-at : ℕ → In 1 stores-all-kinds.ps
 stores-all-at t =
@@ -20,7 +22,6 @@ abbrev stores-all-below : ℕ → In 1 stores-all-kinds.ps
 stores-all-below t =
     and 1 stores-all-kinds.ps (falls 1 stores-all-kinds.ps _<_ μ-stores-all t) stores-all.Pre
 
--- src/lib.rt:89:27
 stores-all-sub-stores-all : (t : ℕ) → stores-all-lts.Need-sub-stores-all (
   stores-all-below t,
   stores-all.Post,
@@ -29,9 +30,8 @@ stores-all-sub-stores-all : (t : ℕ) → stores-all-lts.Need-sub-stores-all (
   stores-large-reads.Asked,
   stores-large-reads.Learnt,
 ) (stores-all-at t) stores-all.Post
-stores-all-sub-stores-all t c = ?
+stores-all-sub-stores-all t c = search needs
 
--- src/lib.rt:89:9
 stores-all-stores-all-requires : (t : ℕ) → stores-all-lts.Need-stores-all-requires (
   stores-all-below t,
   stores-all.Post,
@@ -40,9 +40,8 @@ stores-all-stores-all-requires : (t : ℕ) → stores-all-lts.Need-stores-all-re
   stores-large-reads.Asked,
   stores-large-reads.Learnt,
 ) (stores-all-at t) stores-all.Post
-stores-all-stores-all-requires t c κs = ?
+stores-all-stores-all-requires t c κs = search needs
 
--- src/lib.rt:89:9
 stores-all-returns : (t : ℕ) → stores-all-lts.Need-returns (
   stores-all-below t,
   stores-all.Post,
@@ -51,9 +50,8 @@ stores-all-returns : (t : ℕ) → stores-all-lts.Need-returns (
   stores-large-reads.Asked,
   stores-large-reads.Learnt,
 ) (stores-all-at t) stores-all.Post
-stores-all-returns t c = ?
+stores-all-returns t c = search needs
 
--- src/lib.rt:92:9
 stores-all-stores-small-requires : (t : ℕ) → stores-all-lts.Need-stores-small-requires (
   stores-all-below t,
   stores-all.Post,
@@ -62,9 +60,8 @@ stores-all-stores-small-requires : (t : ℕ) → stores-all-lts.Need-stores-smal
   stores-large-reads.Asked,
   stores-large-reads.Learnt,
 ) (stores-all-at t) stores-all.Post
-stores-all-stores-small-requires t c κs = ?
+stores-all-stores-small-requires t c κs = search needs
 
--- src/lib.rt:92:9
 stores-all-returns-2 : (t : ℕ) → stores-all-lts.Need-returns-2 (
   stores-all-below t,
   stores-all.Post,
@@ -73,9 +70,8 @@ stores-all-returns-2 : (t : ℕ) → stores-all-lts.Need-returns-2 (
   stores-large-reads.Asked,
   stores-large-reads.Learnt,
 ) (stores-all-at t) stores-all.Post
-stores-all-returns-2 t c = ?
+stores-all-returns-2 t c = search needs
 
--- src/lib.rt:94:5
 stores-all-stores-large-requires : (t : ℕ) → stores-all-lts.Need-stores-large-requires (
   stores-all-below t,
   stores-all.Post,
@@ -84,9 +80,8 @@ stores-all-stores-large-requires : (t : ℕ) → stores-all-lts.Need-stores-larg
   stores-large-reads.Asked,
   stores-large-reads.Learnt,
 ) (stores-all-at t) stores-all.Post
-stores-all-stores-large-requires t c κs = ?
+stores-all-stores-large-requires t c κs = search needs
 
--- src/lib.rt:85:1
 stores-all-returns-3 : (t : ℕ) → stores-all-lts.Need-returns-3 (
   stores-all-below t,
   stores-all.Post,
@@ -95,7 +90,7 @@ stores-all-returns-3 : (t : ℕ) → stores-all-lts.Need-returns-3 (
   stores-large-reads.Asked,
   stores-large-reads.Learnt,
 ) (stores-all-at t) stores-all.Post
-stores-all-returns-3 t c = ?
+stores-all-returns-3 t c = search needs
 
 pub +stores-all-spec : {M : Type 1} → statement M
 +stores-all-spec = close μ-stores-all λ t. stores-all-lts.spec (

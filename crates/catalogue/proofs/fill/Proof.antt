@@ -1,63 +1,68 @@
+-- `catalogue::fill` meets its contract.
+use mathlib.Core.Path.{refl}
+use Prim.Native.Nat.{_+_, _/_, _≤_}
+use denote.Ref.{now}
+use native.Mathlib.Omega.{arith}
+use lib.ListN.{length}
+use Rattle.wellformed.specs.Fresh.{freshWords}
+use Rattle.wellformed.proofs.Tail.{tail-length}
+use Rattle.catalogue.proofs.Loading.{enough, filled}
 use borrow.Author.Needs.{needs}
 use Rattle.catalogue.proofs.fill.Statement.{statement}
 use Rattle.catalogue.proofs.fill.Tie as tie
-use Rattle.catalogue.proofs.fill.Reads as reads
-use Rattle.catalogue.proofs.fill.Lts as lts
-use Rattle.source.proofs.gather.Reads as gather-reads
-use Rattle.words.proofs.clear.Reads as clear-reads
-use Rattle.words.proofs.headed.Reads as headed-reads
 
--- src/lib.rt:102:16
+room : (s : tie.Start) → 94 + length (now (s .args .tail)) / 8 ≤ length (now (s .args .words))
+room s = omega (arith, s .pre .0, tail-length (now (s .args .tail)))
+
+few : (s : tie.Start) → length (now (s .args .tail)) / 8 ≤ 1048482
+few s = omega (arith, room s, s .pre .1)
+
 add-used : tie.Need-add-used
 add-used c = search needs
 
--- src/lib.rt:104:19
 slice-aggregate-headed : tie.Need-slice-aggregate-headed
 slice-aggregate-headed c = search needs
 
--- src/lib.rt:104:44
 slice-aggregate-headed-2 : tie.Need-slice-aggregate-headed-2
 slice-aggregate-headed-2 c = search needs
 
--- src/lib.rt:104:5
 headed-requires : tie.Need-headed-requires
 headed-requires c κs = search needs
 
--- src/lib.rt:105:20
 slice-aggregate-gather : tie.Need-slice-aggregate-gather
 slice-aggregate-gather c = search needs
 
--- src/lib.rt:105:5
 gather-requires : tie.Need-gather-requires
-gather-requires c κs = ?
+unfolding freshWords
+gather-requires c κs =
+    let h = c .before .before .before in
+    let s = c .before .before .before .before .before .before .before .before in
+    (enough (now (s .args .tail)) (h .headed .last .0) _ (few s) (h .headed .ensures) refl, omega (arith, s .pre .0, tail-length (now (s .args .tail))))
 
--- src/lib.rt:106:18
 mul-clear : tie.Need-mul-clear
 mul-clear c = search needs
 
--- src/lib.rt:106:18
 sub-clear : tie.Need-sub-clear
-sub-clear c = ?
+sub-clear c = omega (arith, room (c .before .before .before .before .before .before .before .before .before .before .before), c .before .before .gather .kept .1 .1 .1 .1 .0)
 
--- src/lib.rt:106:18
 part-clear-start : tie.Need-part-clear-start
-part-clear-start c = ?
+part-clear-start c = omega (arith, room (c .before .before .before .before .before .before .before .before .before .before .before), c .before .before .gather .kept .1 .1 .1 .1 .0)
 
--- src/lib.rt:106:18
 part-clear-end : tie.Need-part-clear-end
 part-clear-end c = search needs
 
--- src/lib.rt:106:5
 clear-requires : tie.Need-clear-requires
 clear-requires c κs = search needs
 
--- src/lib.rt:98:1
 same-length : tie.Need-same-length
 same-length c = search needs
 
--- src/lib.rt:98:1
 returns : tie.Need-returns
-returns c = ?
+unfolding freshWords
+returns c =
+    let h = c .before .before .before .before .before .before .before .before .before .before in
+    let s = c .before .before .before .before .before .before .before .before .before .before .before .before .before .before .before in
+    filled (now (s .args .tail)) (h .headed .last .0) _ (few s) (h .headed .ensures) refl _ _ _ (c .before .before .before .before .before .before .gather .ensures) (c .before .before .before .before .before .before .gather .kept .1 .1 .1 .1 .0) (room s) (c .before .before .clear .ensures)
 
 pub fill-spec : {M : Type 1} → statement M
 fill-spec =

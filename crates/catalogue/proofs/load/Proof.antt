@@ -1,0 +1,100 @@
+-- `catalogue::load` meets its contract.
+use denote.Ref.{now}
+use native.Mathlib.Omega.{arith}
+use Rattle.catalogue.proofs.Loading.{list-short, list-long, no-trailer, wrong-trailer, inside, tail-bytes, shorter, words-size, no-store, long-label, no-room, loaded}
+use borrow.Author.Needs.{needs}
+use Rattle.catalogue.proofs.load.Statement.{statement}
+use Rattle.catalogue.proofs.load.Tie as tie
+
+returns : tie.Need-returns
+returns c = list-short (now (c .before .before .before .args .file)) (now (c .before .before .before .args .words)) (c .if1 .taken)
+
+returns-2 : tie.Need-returns-2
+returns-2 c = list-long (now (c .before .before .before .before .args .file)) (now (c .before .before .before .before .args .words)) (c .before .if1 .left) (c .if2 .taken)
+
+returns-3 : tie.Need-returns-3
+returns-3 c = no-trailer (now (c .before .before .before .before .before .args .file)) (now (c .before .before .before .before .before .args .words)) (c .before .before .if1 .left) (c .before .if2 .left) (c .if3 .taken)
+
+eight-requires : tie.Need-eight-requires
+eight-requires c κs = search needs
+
+sub-eight : tie.Need-sub-eight
+sub-eight c = search needs
+
+eight-requires-2 : tie.Need-eight-requires-2
+eight-requires-2 c κs = search needs
+
+trailer-fits-requires : tie.Need-trailer-fits-requires
+trailer-fits-requires c κs = search needs
+
+returns-4 : tie.Need-returns-4
+returns-4 c = wrong-trailer (now (c .before .before .before .before .before .before .before .before .before .args .file)) (now (c .before .before .before .before .before .before .before .before .before .args .words)) (c .before .before .before .before .before .before .if1 .left) (c .before .before .before .before .before .if2 .left) (c .before .before .before .before .if3 .left) _ _ (c .before .before .before .eight .ensures) (c .before .before .eight2 .ensures) _ (c .before .trailer-fits .ensures) (c .if4 .taken)
+
+sub-stores-all : tie.Need-sub-stores-all
+sub-stores-all c = inside (now (c .before .before .before .before .before .before .before .before .before .args .file)) (now (c .before .before .before .before .before .before .before .before .before .args .words)) (c .before .before .before .before .before .before .if1 .left) (c .before .before .before .before .before .if2 .left) (c .before .before .before .before .if3 .left) _ _ (c .before .before .before .eight .ensures) (c .before .before .eight2 .ensures) _ (c .before .trailer-fits .ensures) (c .if4 .left)
+
+part-stores-all-start : tie.Need-part-stores-all-start
+part-stores-all-start c = inside (now (c .before .before .before .before .before .before .before .before .before .args .file)) (now (c .before .before .before .before .before .before .before .before .before .args .words)) (c .before .before .before .before .before .before .if1 .left) (c .before .before .before .before .before .if2 .left) (c .before .before .before .before .if3 .left) _ _ (c .before .before .before .eight .ensures) (c .before .before .eight2 .ensures) _ (c .before .trailer-fits .ensures) (c .if4 .left)
+
+part-stores-all-end : tie.Need-part-stores-all-end
+part-stores-all-end c = search needs
+
+stores-all-requires : tie.Need-stores-all-requires
+stores-all-requires c κs = search needs
+
+returns-5 : tie.Need-returns-5
+returns-5 c = no-store (now (c .before .before .before .before .before .before .before .before .before .before .before .before .args .file)) (now (c .before .before .before .before .before .before .before .before .before .before .before .before .args .words)) (c .before .before .before .before .before .before .before .before .before .if1 .left) (c .before .before .before .before .before .before .before .before .if2 .left) (c .before .before .before .before .before .before .before .if3 .left) _ _ (c .before .before .before .before .before .before .eight .ensures) (c .before .before .before .before .before .eight2 .ensures) _ (c .before .before .before .before .trailer-fits .ensures) (c .before .before .before .if4 .left) _ (c .before .stores-all .ensures) (c .if5 .taken)
+
+returns-6 : tie.Need-returns-6
+returns-6 c = long-label (now (c .before .before .before .before .before .before .before .before .before .before .before .before .before .args .file)) (now (c .before .before .before .before .before .before .before .before .before .before .before .before .before .args .words)) (c .before .before .before .before .before .before .before .before .before .before .if1 .left) (c .before .before .before .before .before .before .before .before .before .if2 .left) (c .before .before .before .before .before .before .before .before .if3 .left) _ _ (c .before .before .before .before .before .before .before .eight .ensures) (c .before .before .before .before .before .before .eight2 .ensures) _ (c .before .before .before .before .before .trailer-fits .ensures) (c .before .before .before .before .if4 .left) _ (c .before .before .stores-all .ensures) (c .before .if5 .left) (c .if6 .taken)
+
+add-if7 : tie.Need-add-if7
+add-if7 c = record { fits = omega (arith, words-size (now (c .before .before .before .before .before .before .before .before .before .before .before .before .before .args .file)) (now (c .before .before .before .before .before .before .before .before .before .before .before .before .before .args .words)) (c .before .before .before .before .before .before .before .before .before .before .if1 .left) (c .before .before .before .before .before .before .before .before .before .if2 .left) (c .before .before .before .before .before .before .before .before .if3 .left) _ _ (c .before .before .before .before .before .before .before .eight .ensures) (c .before .before .before .before .before .before .eight2 .ensures) _ (c .before .before .before .before .before .trailer-fits .ensures) (c .before .before .before .before .if4 .left), tail-bytes (now (c .before .before .before .before .before .before .before .before .before .before .before .before .before .args .file)) (now (c .before .before .before .before .before .before .before .before .before .before .before .before .before .args .words)) (c .before .before .before .before .before .before .before .before .before .before .if1 .left) (c .before .before .before .before .before .before .before .before .before .if2 .left) (c .before .before .before .before .before .before .before .before .if3 .left) _ _ (c .before .before .before .before .before .before .before .eight .ensures) (c .before .before .before .before .before .before .eight2 .ensures) _ (c .before .before .before .before .before .trailer-fits .ensures) (c .before .before .before .before .if4 .left), shorter (now (c .before .before .before .before .before .before .before .before .before .before .before .before .before .args .file)) (now (c .before .before .before .before .before .before .before .before .before .before .before .before .before .args .words)) (c .before .before .before .before .before .before .before .before .before .before .if1 .left) (c .before .before .before .before .before .before .before .before .before .if2 .left) (c .before .before .before .before .before .before .before .before .if3 .left) _ _ (c .before .before .before .before .before .before .before .eight .ensures) (c .before .before .before .before .before .before .eight2 .ensures) _ (c .before .before .before .before .before .trailer-fits .ensures) (c .before .before .before .before .if4 .left)) }
+
+returns-7 : tie.Need-returns-7
+returns-7 c = no-room (now (c .before .before .before .before .before .before .before .before .before .before .before .before .before .before .args .file)) (now (c .before .before .before .before .before .before .before .before .before .before .before .before .before .before .args .words)) (c .before .before .before .before .before .before .before .before .before .before .before .if1 .left) (c .before .before .before .before .before .before .before .before .before .before .if2 .left) (c .before .before .before .before .before .before .before .before .before .if3 .left) _ _ (c .before .before .before .before .before .before .before .before .eight .ensures) (c .before .before .before .before .before .before .before .eight2 .ensures) _ (c .before .before .before .before .before .before .trailer-fits .ensures) (c .before .before .before .before .before .if4 .left) _ (c .before .before .before .stores-all .ensures) (c .before .before .if5 .left) (c .before .if6 .left) (c .if7 .taken)
+
+sub-fill : tie.Need-sub-fill
+sub-fill c = inside (now (c .before .before .before .before .before .before .before .before .before .before .before .before .before .before .before .args .file)) (now (c .before .before .before .before .before .before .before .before .before .before .before .before .before .before .before .args .words)) (c .before .before .before .before .before .before .before .before .before .before .before .before .if1 .left) (c .before .before .before .before .before .before .before .before .before .before .before .if2 .left) (c .before .before .before .before .before .before .before .before .before .before .if3 .left) _ _ (c .before .before .before .before .before .before .before .before .before .eight .ensures) (c .before .before .before .before .before .before .before .before .eight2 .ensures) _ (c .before .before .before .before .before .before .before .trailer-fits .ensures) (c .before .before .before .before .before .before .if4 .left)
+
+part-fill-start : tie.Need-part-fill-start
+part-fill-start c = inside (now (c .before .before .before .before .before .before .before .before .before .before .before .before .before .before .before .args .file)) (now (c .before .before .before .before .before .before .before .before .before .before .before .before .before .before .before .args .words)) (c .before .before .before .before .before .before .before .before .before .before .before .before .if1 .left) (c .before .before .before .before .before .before .before .before .before .before .before .if2 .left) (c .before .before .before .before .before .before .before .before .before .before .if3 .left) _ _ (c .before .before .before .before .before .before .before .before .before .eight .ensures) (c .before .before .before .before .before .before .before .before .eight2 .ensures) _ (c .before .before .before .before .before .before .before .trailer-fits .ensures) (c .before .before .before .before .before .before .if4 .left)
+
+part-fill-end : tie.Need-part-fill-end
+part-fill-end c = search needs
+
+fill-requires : tie.Need-fill-requires
+fill-requires c κs = (omega (arith, words-size (now (c .before .before .before .before .before .before .before .before .before .before .before .before .before .before .before .before .args .file)) (now (c .before .before .before .before .before .before .before .before .before .before .before .before .before .before .before .before .args .words)) (c .before .before .before .before .before .before .before .before .before .before .before .before .before .if1 .left) (c .before .before .before .before .before .before .before .before .before .before .before .before .if2 .left) (c .before .before .before .before .before .before .before .before .before .before .before .if3 .left) _ _ (c .before .before .before .before .before .before .before .before .before .before .eight .ensures) (c .before .before .before .before .before .before .before .before .before .eight2 .ensures) _ (c .before .before .before .before .before .before .before .before .trailer-fits .ensures) (c .before .before .before .before .before .before .before .if4 .left), c .before .before .if7 .left), c .before .before .before .before .before .before .before .before .before .before .before .before .if2 .left)
+
+same-length : tie.Need-same-length
+same-length c = search needs
+
+returns-8 : tie.Need-returns-8
+returns-8 c = loaded (now (c .before .before .before .before .before .before .before .before .before .before .before .before .before .before .before .before .before .before .before .args .file)) (now (c .before .before .before .before .before .before .before .before .before .before .before .before .before .before .before .before .before .before .before .args .words)) (c .before .before .before .before .before .before .before .before .before .before .before .before .before .before .before .before .if1 .left) (c .before .before .before .before .before .before .before .before .before .before .before .before .before .before .before .if2 .left) (c .before .before .before .before .before .before .before .before .before .before .before .before .before .before .if3 .left) _ _ (c .before .before .before .before .before .before .before .before .before .before .before .before .before .eight .ensures) (c .before .before .before .before .before .before .before .before .before .before .before .before .eight2 .ensures) _ (c .before .before .before .before .before .before .before .before .before .before .before .trailer-fits .ensures) (c .before .before .before .before .before .before .before .before .before .before .if4 .left) _ (c .before .before .before .before .before .before .before .before .stores-all .ensures) (c .before .before .before .before .before .before .before .if5 .left) (c .before .before .before .before .before .before .if6 .left) (c .before .before .before .before .before .if7 .left) _ (c .before .before .fill .ensures)
+
+pub load-spec : {M : Type 1} → statement M
+load-spec =
+    tie.close
+    (tie.spec
+    returns
+    returns-2
+    returns-3
+    eight-requires
+    sub-eight
+    eight-requires-2
+    trailer-fits-requires
+    returns-4
+    sub-stores-all
+    part-stores-all-start
+    part-stores-all-end
+    stores-all-requires
+    returns-5
+    returns-6
+    add-if7
+    returns-7
+    sub-fill
+    part-fill-start
+    part-fill-end
+    fill-requires
+    same-length
+    returns-8)
