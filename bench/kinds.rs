@@ -1,5 +1,6 @@
 // Stores of one kind of entries, or of a mixture, as full as they get; the same in each run.
-use crate::built::{Built, INT};
+#![cfg_attr(not(all(search, catalogue)), allow(dead_code))]
+use crate::built::{head, Built, INT};
 use crate::random::Random;
 
 const SEED: u64 = 0x9e37_79b9_7f4a_7c15;
@@ -31,6 +32,19 @@ pub fn ints(len: usize) -> Built {
     })
 }
 
+// The hash of crates/distinct, which the loader looks for copies with, one word further.
+fn mix(h: u64, w: u64) -> u64 {
+    let t = h.wrapping_add(w);
+    (t % (1 << 32) * 2_654_435_761).wrapping_add(t / (1 << 32) * 2_246_822_519)
+}
+
+// Ints that all have one hash there: the upper end takes back what the lower one has put in.
+pub fn ints_of_one_hash(len: usize) -> Built {
+    full(len, 3, |b, k| {
+        b.int(k, mix(mix(0, head(5, 1, 0)), k).wrapping_neg());
+    })
+}
+
 // Each with the name and the Int that its fields have.
 pub fn structs(len: usize) -> Built {
     let mut random = Random(SEED);
@@ -44,6 +58,12 @@ pub fn long_names(len: usize) -> Built {
     let mut random = Random(SEED);
     full(len, 1 + 15, |b, k| {
         b.name(&text(k, 16 + random.below(105)));
+    })
+}
+
+pub fn short_names(len: usize) -> Built {
+    full(len, 1 + 1, |b, k| {
+        b.name(&text(k, 8));
     })
 }
 

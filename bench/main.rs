@@ -7,13 +7,15 @@ mod beside;
 #[cfg(opened)]
 mod built;
 mod calls;
+#[cfg(all(catalogue, opened, told, lists))]
+mod catalogue;
 mod clock;
 mod functions;
 #[cfg(all(opened, told, lists))]
 mod growth;
 #[cfg(all(search, opened, told, lists))]
 mod heads;
-#[cfg(all(search, opened, told, lists))]
+#[cfg(all(any(search, catalogue), opened, told, lists))]
 mod kinds;
 #[cfg(all(opened, lists))]
 mod lists;
@@ -43,7 +45,7 @@ mod stores;
 mod told;
 mod towers;
 
-const PARTS: [&str; 10] = ["makers", "operations", "opened", "told", "lists", "beside", "towers", "search", "heads", "growth"];
+const PARTS: [&str; 11] = ["makers", "operations", "opened", "told", "lists", "beside", "towers", "search", "heads", "catalogue", "growth"];
 
 fn run(part: &str, oracle: Option<&str>) {
     match part {
@@ -74,6 +76,10 @@ fn run(part: &str, oracle: Option<&str>) {
         "heads" => heads::table(),
         #[cfg(not(all(search, opened, told, lists)))]
         "heads" => eprintln!("the search before and after: left out, its library was not built, or the library has not all calls"),
+        #[cfg(all(catalogue, opened, told, lists))]
+        "catalogue" => catalogue::table(),
+        #[cfg(not(all(catalogue, opened, told, lists)))]
+        "catalogue" => eprintln!("saving and loading: left out, the library has no such calls"),
         #[cfg(all(opened, told, lists))]
         "growth" => growth::measure(oracle),
         #[cfg(not(all(opened, told, lists)))]

@@ -1,10 +1,10 @@
 #!/bin/sh
 # run.sh [PART..]: builds the static libraries, the benchmark and the oracle, and runs the named parts, or all but the last: makers, operations, opened, told, lists,
-# beside, towers, search, heads, growth. It needs rustc beside the Rattle kit, cargo for the oracle, and nm and objcopy for an old library.
-#   OLD=ARCHIVE   an older liblattice_c.a, measured beside the new one
+# beside, towers, search, heads, catalogue, growth. It needs rustc beside the Rattle kit, cargo for the oracle, and nm and objcopy for an old library.
+#   OLD=ARCHIVE   an older liblattice_c.a, measured beside the new one by `beside` and `catalogue`
 #   ONE_WORD=1    the old library's functions return one word, the answer or 2 to the 63 and the refusal's number, and are lent none
 #   NEW=ARCHIVE   a liblattice_c.a that is built already, to be measured in the place of one built here
-#   WORDS="N .."  the lengths of the lists that `opened`, `told` and `growth` measure, in the place of their own; MEMORY=N the words of their memory of answers
+#   WORDS="N .."  the lengths of the lists that `opened`, `told`, `catalogue` and `growth` measure, in the place of their own; MEMORY=N the words of their memory of answers
 here=$(cd "$(dirname "$0")" && pwd) || exit 2
 # what is named from where the caller stands, from anywhere
 whole() {
@@ -49,6 +49,13 @@ if ! command -v nm >/dev/null || defined "$libs/libnew.a" | grep -qx ferigulan_o
     flags="$flags --cfg lists"
 else
     echo "run.sh: the library has no ferigulan_opened_meet_list, the table of lists is left out" >&2
+fi
+
+# and whether it saves and loads
+if ! command -v nm >/dev/null || defined "$libs/libnew.a" | grep -qx ferigulan_load; then
+    flags="$flags --cfg catalogue"
+else
+    echo "run.sh: the library has no ferigulan_load, the table of saving and loading is left out" >&2
 fi
 
 # whether a part is to be run: all but growth are where none is named

@@ -13,15 +13,16 @@
  * WHAT A FUNCTION RETURNS AND WRITES
  *
  * - It returns 0 (FERIGULAN_ACCEPTED), or the number of the refusal that applies; if there are several, the first in
- *   the order 1, 13, 2, 3 and so on to 12. Behind "Refused:" each function below has the numbers that it can return.
+ *   the order 1, 13, 14, 15, 2, 3 and so on to 12. Behind "Refused:" each function below has the numbers that it can
+ *   return.
  * - Its answer goes to *answer: a handle, a number, or 1 for yes and 0 for no. A signed number (the ends, value and
  *   mask of an Int, the size of a Float) is its two's complement word, a Float's constant its bits.
  * - A function that answers in one of two ways tells the way in *which.
- * - Refused, it leaves every word of the store and of an output as it was, and *answer and *which. The index and the
- *   memory of an opened store may have changed, where they are not const.
+ * - Refused, it leaves every word of the store and of an output as it was, every byte of a file, and *answer and
+ *   *which. The index and the memory of an opened store may have changed, where they are not const.
  * - Lists that are lent as const are never written. Of a list that is not const, a function writes what its comment
  *   says; to append is to write behind the used words, and word 0, which counts them. All other used words keep, so
- *   that a handle stays what it is; ferigulan_fresh alone writes the whole list anew.
+ *   that a handle stays what it is; ferigulan_fresh and ferigulan_load alone write the whole list anew.
  * - It uses no memory but what it is lent and the stack, no static variables, and never calls back.
  *
  * WHAT THE CALLER PROMISES
@@ -30,7 +31,7 @@
  *
  * - Each pointer is valid for its length during the call, and aligned: for words 8 bytes. A length of 0 may come with
  *   any aligned pointer that is not NULL.
- * - A length counts elements (words, or the bytes of a name), not bytes.
+ * - A length counts elements: words, or the bytes of a name, a label or a file.
  * - What a function may write overlaps nothing else that the same call is lent.
  * - While a call may write a list, no other thread uses that list. What is const is not written, so several threads may
  *   make plain calls at a time that take one list as const. Opened calls are all lent the memory to write, so that on
@@ -67,23 +68,32 @@ extern "C" {
 #define FERIGULAN_INDEX_LENGTH(n) (2 * (size_t)(n) + (size_t)(n) / 64 + 1)
 #define FERIGULAN_MEMORY_LENGTH(n) (6 * (size_t)(n))
 
-/* What a function returns: 0, or the row of document 01's table "Calls turned back" that applies. Row 13 is document
-   02's. */
+/* How many bytes the label of a saved store has at most, and the file of the longest store with it. */
+#define FERIGULAN_LONGEST_LABEL 255
+#define FERIGULAN_LONGEST_FILE FERIGULAN_FILE_LENGTH(FERIGULAN_LONGEST_LABEL, FERIGULAN_MOST_WORDS)
+
+/* How many bytes the file of a store has: with a label of k bytes, and so many words used, which word 0 tells. */
+#define FERIGULAN_FILE_LENGTH(k, used) ((size_t)(k) + 8 * ((size_t)(used) - FERIGULAN_FEWEST_WORDS) + 16)
+
+/* What a function returns: 0, or the row of document 01's table "Calls turned back" that applies. Rows 13 to 15 are
+   document 02's. */
 enum ferigulan_refusals {
     FERIGULAN_ACCEPTED = 0,
     FERIGULAN_NOT_WELL_FORMED = 1, /* store length out of limits, or not well formed */
     FERIGULAN_NO_ENTRY = 2, /* handle starts no entry */
     FERIGULAN_WRONG_KIND = 3, /* entry of a kind the call does not take */
     FERIGULAN_BAD_VALUE = 4, /* a float size, a size's bits, a field list's length, an alias, a flag */
-    FERIGULAN_TOO_MANY = 5, /* over 255 name bytes, elements or fields */
+    FERIGULAN_TOO_MANY = 5, /* over 255 name bytes, elements or fields; over 255 bytes of a label */
     FERIGULAN_TOO_DEEP = 6, /* depth over 32 */
     FERIGULAN_FORWARD_REFERENCE = 7, /* fields wanted of a forward reference */
     FERIGULAN_INDEX_TOO_LARGE = 8, /* offset index above the field count */
     FERIGULAN_NO_LOG_SIZE = 9, /* no log size */
     FERIGULAN_BODY_WITHOUT_NIL = 10, /* array body a pointer without nil */
     FERIGULAN_OUTPUT_TOO_SHORT = 11, /* output shorter than the answer; of ferigulan_open, index too short */
-    FERIGULAN_NO_ROOM = 12, /* the entries to append do not fit */
-    FERIGULAN_LIST_TOO_LONG = 13 /* over 4,096 handles to merge */
+    FERIGULAN_NO_ROOM = 12, /* the entries to append, or a loaded store, do not fit */
+    FERIGULAN_LIST_TOO_LONG = 13, /* over 4,096 handles to merge */
+    FERIGULAN_BAD_TRAILER = 14, /* a file's trailer is missing, or does not fit the length */
+    FERIGULAN_BAD_WORDS = 15 /* a file's words, behind the fresh ones, form no store, or one with two equal entries */
 };
 
 /* The kinds of entries: what ferigulan_kind answers, but for NAME, which is no type. */
@@ -157,6 +167,27 @@ uint32_t ferigulan_find_entry(const uint64_t *words, size_t n, const uint64_t *e
 /* Writes a fresh store into the n words, whatever they were: 94 words, and 0 behind them. Tests the length alone, and
    answers nothing. Refused: 1, where n is not 94 to 1,048,576. */
 uint32_t ferigulan_fresh(uint64_t *words, size_t n);
+
+/*
+ * A saved store, a file of bytes: a label of up to 255 bytes, which may be any; the used words from 94 on, eight bytes
+ * each, the lowest first; and a trailer of two such words, the label's length and the number of the words. Equal labels
+ * and equal used words give equal files, in lists of whatever lengths.
+ */
+
+/* Writes the file of the store in the n words, with the k bytes of the label, into the m bytes, and answers its length,
+   which is FERIGULAN_FILE_LENGTH(k, words[0]). It reads the words and the label; the bytes behind the file keep.
+   Refused, and then every byte keeps: 1; 5, where the label is over 255 bytes; 11, where the file is longer than m. */
+uint32_t ferigulan_save(const uint64_t *words, size_t n, const uint8_t *label, size_t k, uint8_t *file, size_t m,
+    uint64_t *answer);
+
+/* Fills the n words with the store that the m bytes were written from, and 0 behind it, whatever the words were, and
+   answers the label's length: the label is the file's first so many bytes. It takes just the files that ferigulan_save
+   makes of stores that calls alone have made, and reads them from wherever they stand, at any alignment. The store goes
+   on as the one that was saved: every handle is what it was. Refused, and then every word keeps, in this order: 1,
+   where n is not 94 to 1,048,576, which is all that is tested of the words; 14, where the trailer is missing or does
+   not fit the length; 15, where the words form no store of any allowed length behind the fresh ones, or one with two
+   equal entries; 5, where the label is over 255 bytes; 12, where the store has more than n words. */
+uint32_t ferigulan_load(uint64_t *words, size_t n, const uint8_t *file, size_t m, uint64_t *answer);
 
 /*
  * ---- plain calls: on any words whatever. Each tests all of them first, and is refused with 1 where they are not those

@@ -3,7 +3,7 @@
 # for C), on the reading of document 01 in oracle/reading and, as far as it can hold the types, on the original Rust. After each call the replies, every
 # word of list and output, and guard words around them are compared. On a difference it prints a short script that shows it, and exits with 1.
 # linked.sh --planted [SEED]: plants mistakes between the library and the comparison, one after the other, and shows that each is found.
-# linked.sh --lists N [SEED] [--plant NAME]: what lists.sh runs.
+# linked.sh --lists N [SEED] [--plant NAME]: what lists.sh runs. linked.sh --damage [SEED] --golden FILE [--plant NAME]: what damage.sh runs.
 # FERIGULAN_LIB names another folder with liblattice_c.a than target/staticlib; ORIGINAL another folder of the original than ../shared/docs/src.
 here=$(cd "$(dirname "$0")" && pwd) || exit 2
 top=$(dirname "$here")
@@ -11,10 +11,10 @@ FERIGULAN_LIB=${FERIGULAN_LIB:-$top/target/staticlib}
 export FERIGULAN_LIB
 mode=linked
 case "${1-}" in
---planted | --lists) mode=${1#--} && shift ;;
+--planted | --lists | --damage) mode=${1#--} && shift ;;
 esac
 case "$mode ${1-}" in
-planted*) ;;
+planted* | damage*) ;;
 *' ' | *' '*[!0-9]*) sed -n '2,7s/^# //p' "$0" >&2 && exit 2 ;;
 esac
 [ -r "$FERIGULAN_LIB/liblattice_c.a" ] || {

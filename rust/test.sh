@@ -1,5 +1,5 @@
 #!/bin/sh
-# rust/test.sh: builds the archive, the Rust crate, the C example and all their tests, and runs them, one line a step. Needs the Rattle kit (`rt`), cargo, gcc, g++ and
+# rust/test.sh: builds the archive, the Rust crate, the C examples and all their tests, and runs them, one line a step. Needs the Rattle kit (`rt`), cargo, gcc, g++ and
 # valgrind. All that is built goes to target/. With FERIGULAN_LIB, a folder that has liblattice_c.a, that archive is taken, and none is built.
 top=$(cd "$(dirname "$0")/.." && pwd) || exit 2
 cd "$top" || exit 2
@@ -85,7 +85,7 @@ same() {
     return 1
 }
 
-step "the crate, its program, examples and tests, without a warning" cargo_in build --all-targets
+step "the crate, its programs, examples and tests, without a warning" cargo_in build --all-targets
 step "the crate's tests" cargo_in test --all-targets
 step "the examples in its documentation" cargo_in test --doc
 step "its documentation, without a warning" cargo_in doc --no-deps
@@ -104,13 +104,17 @@ in_c() { gcc -std=c99 -Wall -Wextra -pedantic -Werror -I include "$@"; }
 in_cpp() { g++ -x c++ -Wall -Wextra -pedantic -Werror -I include "$@"; }
 header_alone() {
     echo '#include "ferigulan.h"' >"$logs/alone.c"
+    # the length of the longest file, as the crate has it
+    echo 'typedef char longest_file[FERIGULAN_LONGEST_FILE == 8388127 ? 1 : -1];' >>"$logs/alone.c"
     in_c -fsyntax-only "$logs/alone.c" && in_cpp -fsyntax-only "$logs/alone.c"
 }
-c_example() { in_c examples/merge.c "$archive" -o "$build/merge_c" && same examples/merge.out "$build/merge_c"; }
-cpp_example() { in_cpp examples/merge.c -x none "$archive" -o "$build/merge_cpp" && same examples/merge.out "$build/merge_cpp"; }
+c_example() { in_c "examples/$1.c" "$archive" -o "$build/$1_c" && same "examples/$1.out" "$build/$1_c"; }
+cpp_example() { in_cpp "examples/$1.c" -x none "$archive" -o "$build/$1_cpp" && same "examples/$1.out" "$build/$1_cpp"; }
 step "include/ferigulan.h stands alone, in C99 and in C++" header_alone
-step "examples/merge.c in C99 prints what it should" c_example
-step "examples/merge.c in C++ prints what it should" cpp_example
+for example in merge catalogue; do
+    step "examples/$example.c in C99 prints what it should" c_example "$example"
+    step "examples/$example.c in C++ prints what it should" cpp_example "$example"
+done
 
 # ---- the scripts of tests/, which the gate runs through `calls`
 
@@ -121,8 +125,8 @@ step "the scripts of tests/ print through the crate what they print through call
 
 # The stacks for the longer lists take too long here; and a process that is to end by a signal is none for valgrind.
 under_valgrind() {
-    CARGO_TARGET_X86_64_UNKNOWN_LINUX_GNU_RUNNER="valgrind -q --error-exitcode=1" cargo_in test --test every_call --test values --test opened --test reading --test find_entry --test stack -- \
-        --skip 65_536 --skip 1_048_576 --skip ends_the_process
+    CARGO_TARGET_X86_64_UNKNOWN_LINUX_GNU_RUNNER="valgrind -q --error-exitcode=1" cargo_in test --test every_call --test values --test opened --test reading --test find_entry --test catalogue --test stack -- \
+        --skip 65_536 --skip 1_048_576 --skip largest_file --skip long_files --skip ends_the_process
 }
 step "the tests under valgrind" under_valgrind
 step "the deepest calls, each with the stack that README.md states" cargo_in test --release --test stack

@@ -3,8 +3,11 @@
 
 mod by_c;
 mod by_crate;
+mod bytes;
+mod catalogues;
 mod cell;
 mod damage;
+mod damaged_files;
 mod door;
 mod entries;
 mod filled;
@@ -116,6 +119,8 @@ pub struct Settings<'o> {
     pub plant: Option<&'o str>,
     /// Where the script of a difference is put.
     pub folder: Option<&'o str>,
+    /// The golden file of a catalogue.
+    pub golden: Option<&'o str>,
 }
 
 /// `oracle linked`: at least n calls. Says whether all sides agree; the first difference is printed with the shortest script found.
@@ -126,6 +131,26 @@ pub fn compare(n: u64, calls: &str, settings: &Settings) -> io::Result<bool> {
 /// `oracle lists`: at least n merges of lists, and the same types again in other orders: likewise.
 pub fn merge(n: u64, settings: &Settings) -> io::Result<bool> {
     run(Goal::merges(n), Menus::of_merges().map_err(io::Error::other)?, settings)
+}
+
+/// `oracle damage`: good files of catalogues with each byte changed, cut at each length, and files by chance. Says whether both sides agree; the
+/// first difference is printed.
+pub fn damage(settings: &Settings) -> io::Result<bool> {
+    let golden = settings.golden.ok_or_else(|| io::Error::other("--golden names no file"))?;
+    let golden = std::fs::read(golden).map_err(|why| io::Error::other(format!("{golden}: {why}")))?;
+    let plant = settings.plant.map(named).transpose()?;
+    let difference = damaged_files::run(&damaged_files::Settings { seed: settings.seed, golden: &golden, plant })?;
+    match difference {
+        Some(script) => {
+            println!("a difference");
+            print_script(&script, settings.folder)?;
+            Ok(false)
+        }
+        None => {
+            println!("0 differences");
+            Ok(true)
+        }
+    }
 }
 
 fn run(goal: Goal, mut menus: Menus, settings: &Settings) -> io::Result<bool> {

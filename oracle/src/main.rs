@@ -12,6 +12,7 @@ mod generate;
 mod linked;
 mod measure;
 mod random;
+mod rebuilt;
 mod replay;
 mod rows;
 mod script;
@@ -40,10 +41,12 @@ oracle linked N [SEED] [--calls NAMES] [--plant NAME] [--folder FOLDER]
                                             runs N calls or more on the linked library, on the reading and on the Rust
 oracle lists N [SEED] [--plant NAME] [--folder FOLDER]
                                             runs N merges of lists or more likewise, of the same types in one order and another
+oracle damage [SEED] --golden FILE [--plant NAME] [--folder FOLDER]
+                                            loads damaged files of catalogues on the linked library and on the reading
 oracle planted [SEED] [--calls NAMES]       shows that planted mistakes are found
 NAMES: names of calls separated by commas, 'lattice' for kind, meet and the other calls of the lattice, 'others' for the calls from
 make_init to ary_scale, 'lists' for the merges of lists, 'dump' for the store's words at the end of each list, 'all'. The makers are always
-used, and 'find_entry' by linked alone, with 'all' too. --opened opens the stores.";
+used, and 'find_entry', 'save' and 'load' by linked alone, with 'all' too. --opened opens the stores.";
 
 /// What is compared where no calls are named, and what a sample has: dumps make long lines.
 const COMPARED: &str = "all";
@@ -92,7 +95,7 @@ fn run(words: &[String]) -> Result<bool, Box<dyn Error>> {
             let opened = options.program(options.other.as_ref().map_or(&options.program, |_| &options.other))?;
             Ok(both_ways::compare(&plain, &opened, n.parse()?, number(seed, 1)?, &options.menu(COMPARED)?)?)
         }
-        ("linked" | "lists" | "planted", _) => linked(mode, &plain, &options),
+        ("linked" | "lists" | "damage" | "planted", _) => linked(mode, &plain, &options),
         _ => Err(USAGE.into()),
     }
 }
@@ -101,11 +104,13 @@ fn run(words: &[String]) -> Result<bool, Box<dyn Error>> {
 fn linked(mode: &str, plain: &[String], options: &Options) -> Result<bool, Box<dyn Error>> {
     let calls = options.calls.as_deref().unwrap_or(COMPARED);
     let settings = |seed: &[String]| -> Result<linked::Settings, Box<dyn Error>> {
-        Ok(linked::Settings { seed: number(seed, 1)?, plant: options.plant.as_deref(), folder: options.folder.as_deref() })
+        let [plant, folder, golden] = [&options.plant, &options.folder, &options.golden].map(Option::as_deref);
+        Ok(linked::Settings { seed: number(seed, 1)?, plant, folder, golden })
     };
     match (mode, plain) {
         ("linked", [n, seed @ ..]) => Ok(linked::compare(n.parse()?, calls, &settings(seed)?)?),
         ("lists", [n, seed @ ..]) => Ok(linked::merge(n.parse()?, &settings(seed)?)?),
+        ("damage", seed) => Ok(linked::damage(&settings(seed)?)?),
         ("planted", seed) => Ok(linked::planted(number(seed, 1)?, calls)?),
         _ => Err(USAGE.into()),
     }
@@ -123,6 +128,7 @@ struct Options {
     other: Option<String>,
     folder: Option<String>,
     plant: Option<String>,
+    golden: Option<String>,
     opened: bool,
 }
 
@@ -152,6 +158,7 @@ fn split_options(words: &[String]) -> Result<(Vec<String>, Options), Box<dyn Err
             "--other" => &mut options.other,
             "--folder" => &mut options.folder,
             "--plant" => &mut options.plant,
+            "--golden" => &mut options.golden,
             "--opened" => {
                 options.opened = true;
                 continue;

@@ -36,6 +36,14 @@ const SHAPES: &[Shape] = &[
     Shape("close", 0, 0, false),
     // The search for an entry by its words: document 02, Slip 2.
     Shape("find_entry", 1, ANY, false),
+    // The saved catalogue: document 02, Slip 3. The number of `save` is the length of the output, and stands behind the label.
+    Shape("save", 1, 1, true),
+    Shape("load", 0, 0, true),
+    Shape("reload", 0, 0, false),
+    Shape("file", 0, 0, false),
+    Shape("fpoke", 2, 2, false),
+    Shape("fcut", 1, 1, false),
+    Shape("fadd", 0, 0, true),
     // The makers.
     Shape("kind", 1, 1, false),
     Shape("get_bool", 1, 1, false),
@@ -116,9 +124,13 @@ pub fn without_comment(line: &str) -> &str {
 }
 
 fn read_call(line: &str) -> Option<Call> {
-    let mut words = line.split(' ');
-    let name = words.next()?;
+    let (name, rest) = line.split_once(' ').map_or((line, None), |(name, rest)| (name, Some(rest)));
     let Shape(name, least, most, has_text) = SHAPES.iter().find(|shape| shape.0 == name)?;
+    let mut words: Vec<&str> = rest.into_iter().flat_map(|rest| rest.split(' ')).collect();
+    if has_text_first(name) && words.len() > 1 {
+        words.rotate_right(1);
+    }
+    let mut words = words.into_iter();
     let count = if *has_text { *most } else { ANY };
     let numbers = words.by_ref().take(count).map(read_number).collect::<Option<Vec<_>>>()?;
     let text = match words.next() {
@@ -127,6 +139,11 @@ fn read_call(line: &str) -> Option<Call> {
     };
     let fits = *least <= numbers.len() && numbers.len() <= *most && words.next().is_none();
     fits.then_some(Call { name, numbers, text })
+}
+
+/// Whether the text of a call stands before its number.
+fn has_text_first(name: &str) -> bool {
+    name == "save"
 }
 
 /// Decimal digits, `-` before them for the two's complement, or `0x` before hex digits.
@@ -168,17 +185,27 @@ impl Call {
             _ => Some(self.clone()),
         }
     }
+
+    fn write_numbers(&self, f: &mut std::fmt::Formatter<'_>) -> std::fmt::Result {
+        self.numbers.iter().try_for_each(|number| write!(f, " {number}"))
+    }
+
+    fn write_text(&self, f: &mut std::fmt::Formatter<'_>) -> std::fmt::Result {
+        if !self.text.is_empty() {
+            f.write_str(" ")?;
+        }
+        self.text.iter().try_for_each(|byte| write!(f, "{byte:02x}"))
+    }
 }
 
 impl std::fmt::Display for Call {
     fn fmt(&self, f: &mut std::fmt::Formatter<'_>) -> std::fmt::Result {
         f.write_str(self.name)?;
-        for number in &self.numbers {
-            write!(f, " {number}")?;
+        if has_text_first(self.name) {
+            self.write_text(f)?;
+            return self.write_numbers(f);
         }
-        if !self.text.is_empty() {
-            f.write_str(" ")?;
-        }
-        self.text.iter().try_for_each(|byte| write!(f, "{byte:02x}"))
+        self.write_numbers(f)?;
+        self.write_text(f)
     }
 }

@@ -1,6 +1,7 @@
 //! A lent list, and the calls on it one after the other: row 1, the other rows, the Rust, and then row 12 or the answer.
 
 use crate::ask::{ask, Clock, Told};
+use crate::rebuilt::entry_maker;
 use crate::rows::refusal;
 use crate::script::{read_line, Call, Line};
 use crate::store::{Store, LONGEST, SHORTEST};
@@ -27,6 +28,8 @@ pub enum Answer {
     Filled(Vec<u64>, usize),
     /// The entry that was looked for, if there is one, and how many were not passed over.
     Searched(Option<u64>, u64),
+    /// A file that was written, and the length of the output. All bytes behind the file are what they were.
+    Saved(Vec<u8>, usize),
     /// No call. The line itself is printed after it.
     Malformed,
     /// The Rust cannot be asked, for this reason: not to be compared.
@@ -53,6 +56,11 @@ impl fmt::Display for Answer {
                 let kept = std::iter::repeat_n(&KEPT, length - words.len());
                 words.iter().chain(kept).try_for_each(|word| write!(f, " {word}"))
             }
+            Answer::Saved(file, length) => {
+                write!(f, "{} : ", file.len())?;
+                let kept = std::iter::repeat_n(&KEPT_BYTE, length - file.len());
+                file.iter().chain(kept).try_for_each(|byte| write!(f, "{byte:02x}"))
+            }
             Answer::Searched(Some(handle), count) => write!(f, "{handle} {count}"),
             Answer::Searched(None, count) => write!(f, "absent {count}"),
             Answer::Malformed => f.write_str("?"),
@@ -74,6 +82,9 @@ const MOST_WORDS: u64 = 65_536;
 /// It has room for outputs of this many, each of which holds this number before the call.
 pub const MOST_OUTPUT: u64 = 4096;
 pub const KEPT: u64 = 7777;
+
+/// The output of a file holds this before the call.
+pub const KEPT_BYTE: u8 = 0x77;
 
 pub const ROOM_OF_CALLS: Room = Room { words: MOST_WORDS, output: MOST_OUTPUT };
 
@@ -159,6 +170,11 @@ impl<'a, 't> Session<'a, 't> {
             ("kept", []) => self.all_words().zip(self.kept.as_ref()).map_or_else(lost, |(now, kept)| Answer::Flag(now == *kept)),
             // it finds its types by a hash, so that there is no count to compare
             ("find_entry", _) => Answer::NotHeld("the Rust has no such search".to_string()),
+            ("save" | "file" | "fpoke" | "fcut" | "fadd", _) => Answer::NotHeld("the Rust has no catalogue".to_string()),
+            ("load" | "reload", _) => {
+                self.lent = Lent::Lost(self.length(), None);
+                lost()
+            }
             ("meet_rep", _) => call.written_out().map_or(Answer::Malformed, |list| self.call(&list)),
             _ => self.call(call),
         }
@@ -233,6 +249,22 @@ impl<'a, 't> Session<'a, 't> {
         }
         self.lent = Lent::Lost(self.length(), words);
         Answer::Accepted
+    }
+
+    /// The store that was loaded into a list, made anew by the Rust: its makers have to make each entry, and each as a new one. Says where
+    /// they do not; what the Rust cannot hold is lost.
+    pub fn load(&mut self, words: &[u64]) -> Result<(), u64> {
+        self.lend(words.len() as u64, 0);
+        self.fresh();
+        let mut at = SHORTEST as u64;
+        while let Some(call) = entry_maker(words, at) {
+            match self.run(&call) {
+                Answer::Number(handle) if handle == at => at = self.store().map_or(0, |store| store.words.len() as u64),
+                Answer::NotHeld(_) => return Ok(()),
+                _ => return Err(at),
+            }
+        }
+        Ok(())
     }
 
     /// A call of the documents: refused by its own rows, or answered by the Rust.

@@ -38,6 +38,13 @@ fn tower(store: &mut Store<'_>) -> Result<Handle, Refusal> {
     Ok(top)
 }
 
+/// A file without a label: two words that are 0, which start at byte 0, and their number.
+const EMPTY_NAMES: [u8; 32] = {
+    let mut file = [0; 32];
+    file[24] = 2;
+    file
+};
+
 /// Says what a call was refused with.
 fn told<T: std::fmt::Debug>(call: &str, answer: Result<T, Refusal>) {
     match answer {
@@ -60,6 +67,8 @@ fn refused(store: &mut Store<'_>, counter: Handle, forward: Handle, deepest: Han
     told("0 words for the offsets of $TOP", store.offsets(fresh::STRUCT_TOP, &mut []));
     told("one more Int", store.get_int(9));
     told("4,097 places", store.meet_list(&[counter; 4_097]));
+    told("a file of 15 bytes", Store::load_from(&mut [0; 94], &[0; 15]));
+    told("a file with the empty name twice", Store::load_from(&mut [0; 96], &EMPTY_NAMES));
 }
 
 fn main() -> Result<(), Refusal> {

@@ -7,10 +7,11 @@ use std::collections::BTreeMap;
 use std::ffi::c_void;
 use std::hint::black_box;
 
-use ferigulan::{calls, index_len, OpenedStore};
+use ferigulan::{calls, file_length, index_len, OpenedStore, LONGEST_LABEL};
 
 #[path = "../tests/common/mod.rs"]
 mod common;
+use common::files::{file, ints};
 use common::towers::{deep, memory_lengths, TOWERS};
 
 const PAINT: u64 = 0xa5a5_a5a5_5a5a_5a5a;
@@ -79,14 +80,28 @@ fn ignore<T>(answer: T) {
     black_box(answer);
 }
 
+/// A full store with the longest label, saved and loaded; and the largest file there is, which a list of this length may be too short for.
+fn measure_files(stack: &mut Stack, needs: &mut Table, length: usize) {
+    let label = [0; LONGEST_LABEL];
+    let (mut words, full) = (vec![0; length], file(&label, &ints(length)));
+    note(needs, "load", length, stack.used_by(|| ignore(calls::load(&mut words, &full))));
+    let mut bytes = vec![0; file_length(label.len(), words[0] as usize)];
+    note(needs, "save", length, stack.used_by(|| ignore(calls::save(&words, &label, &mut bytes))));
+    let largest = file(&label, &ints(1_048_576));
+    note(needs, "load, largest file", length, stack.used_by(|| ignore(calls::load(&mut words, &largest))));
+}
+
 fn measure(stack: &mut Stack, needs: &mut Needs, length: usize) {
     let mut index = vec![0; index_len(length)];
     let mut words = vec![0; length];
     note(&mut needs.plain, "fresh", length, stack.used_by(|| calls::fresh(&mut words).expect("the length is right")));
     note(&mut needs.plain, "well_formed", length, stack.used_by(|| assert!(calls::well_formed(&words))));
     note(&mut needs.plain, "find_entry", length, stack.used_by(|| ignore(calls::find_entry(&words, &[0; 4]))));
+    measure_files(stack, &mut needs.plain, length);
     for shape in TOWERS {
         let mut deep = deep(length, shape);
+        let file = saved(deep.words());
+        note(&mut needs.plain, "load", length, stack.used_by(|| ignore(calls::load(&mut words, &file))));
         let mut memory = vec![0; memory_lengths(length)[0]];
         note(&mut needs.opened, "open", length, stack.used_by(|| deep.opened(&mut index, &mut memory, |_| ())));
         for call in deep.calls() {
@@ -100,6 +115,12 @@ fn measure(stack: &mut Stack, needs: &mut Needs, length: usize) {
             }
         }
     }
+}
+
+fn saved(words: &[u64]) -> Vec<u8> {
+    let mut file = vec![0; file_length(0, words[0] as usize)];
+    calls::save(words, &[], &mut file).expect("a deep store");
+    file
 }
 
 fn print(title: &str, lengths: &[usize], needs: &Table) {

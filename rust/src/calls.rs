@@ -1,6 +1,6 @@
 //! The calls as functions over lent words, whatever the words are.
 //!
-//! Every one of them but [`fresh`] and [`well_formed`] tests the whole list first, and is refused with
+//! Every one of them but [`fresh`], [`load`] and [`well_formed`] tests the whole list first, and is refused with
 //! [`NotWellFormed`](Refusal::NotWellFormed) where the words are not those of a store. [`Store`](crate::Store) has the same calls as
 //! methods, on words that are known to be one.
 //!
@@ -69,6 +69,61 @@ pub fn well_formed(words: &[u64]) -> bool {
 /// ```
 pub fn find_entry(words: &[u64], entry: &[u64]) -> Result<Search, Refusal> {
     sys::find_entry(words, entry).map(Told::told)
+}
+
+/// Writes the file of a store into `file`, with a label of at most 255 bytes, and answers how many bytes that are; those behind it keep.
+///
+/// The length is [`file_length`](crate::file_length) of the label's and of word 0. Equal labels and equal used words give equal files, in
+/// lists of whatever lengths.
+///
+/// Refused with [`NotWellFormed`](Refusal::NotWellFormed), [`TooMany`](Refusal::TooMany) where the label is longer, and
+/// [`OutputTooShort`](Refusal::OutputTooShort); then no byte has changed.
+///
+/// ```
+/// use ferigulan::{calls, Refusal};
+///
+/// let mut words = [0; 100];
+/// calls::fresh(&mut words)?;
+/// let mut file = [7; 18];
+/// // a label of a byte, no words beyond the fresh ones, and the trailer: the words start at byte 1, and there are 0
+/// assert_eq!(calls::save(&words, b"a", &mut file)?, 17);
+/// assert_eq!(file, *b"a\x01\0\0\0\0\0\0\0\0\0\0\0\0\0\0\0\x07");
+/// assert_eq!(calls::save(&words, b"abc", &mut file), Err(Refusal::OutputTooShort));
+/// # Ok::<(), Refusal>(())
+/// ```
+pub fn save(words: &[u64], label: &[u8], file: &mut [u8]) -> Result<usize, Refusal> {
+    sys::save(words, label, file).map(Told::told)
+}
+
+/// Fills the words with the store that a file was written from, and 0 behind it, whatever they were, and answers the label's length: the
+/// label is the file's first so many bytes.
+///
+/// It takes just the files that [`save`] makes of stores that calls alone have made. The store goes on as the one that was saved: every
+/// handle is what it was.
+///
+/// Refused, in this order, with [`NotWellFormed`](Refusal::NotWellFormed) where there are fewer than 94 words or more than 1,048,576, which
+/// is all that is tested of them; [`BadTrailer`](Refusal::BadTrailer); [`BadWords`](Refusal::BadWords); [`TooMany`](Refusal::TooMany) where
+/// the label has more than 255 bytes; and [`NoRoom`](Refusal::NoRoom) where the words are too few for the store. Then no word has changed.
+///
+/// ```
+/// use ferigulan::{calls, Refusal};
+///
+/// let mut words = [0; 100];
+/// calls::fresh(&mut words)?;
+/// let three = calls::get_int(&mut words, 3)?;
+/// let mut file = [0; 64];
+/// let length = calls::save(&words, b"lift", &mut file)?;
+///
+/// let mut others = [7; 200];
+/// let label = calls::load(&mut others, &file[..length])?;
+/// assert_eq!(&file[..label], b"lift");
+/// assert_eq!(calls::int_value(&others, three)?, Some(3));
+/// assert_eq!(others[97..], [0; 103]);
+/// assert_eq!(calls::load(&mut others, &file), Err(Refusal::BadTrailer));
+/// # Ok::<(), Refusal>(())
+/// ```
+pub fn load(words: &mut [u64], file: &[u8]) -> Result<usize, Refusal> {
+    sys::load(words, file).map(Told::told)
 }
 
 macro_rules! plain_calls {

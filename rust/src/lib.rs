@@ -39,6 +39,9 @@
 //! The search for an entry by its words, [`find_entry`](Store::find_entry), is no call, and is there in the same three forms. It tells
 //! besides how many entries it did not pass over.
 //!
+//! A store is saved with [`save_into`](Store::save_into), into bytes that the caller lends and writes wherever they are kept, and
+//! loaded with [`load_from`](Store::load_from), years later too. [`calls`] has both on any words whatever.
+//!
 //! # Linking
 //!
 //! A program that has this crate among its dependencies, by its path, links the archive by that alone:
@@ -70,6 +73,7 @@ compile_error!("ferigulan is for x86-64 alone: its archive is built for no other
 mod table;
 
 pub mod calls;
+mod catalogue;
 mod field;
 pub mod fresh;
 mod handle;
@@ -82,6 +86,7 @@ mod store;
 mod sys;
 mod word;
 
+pub use catalogue::{file_length, LONGEST_FILE, LONGEST_LABEL};
 pub use field::Field;
 pub use handle::Handle;
 pub use kind::Kind;

@@ -2,7 +2,7 @@ use core::fmt;
 
 use crate::sys::{self, OpenedLists};
 use crate::word::{argument, word, Told};
-use crate::{Handle, Kind, Reading, Refusal, Search};
+use crate::{calls, Handle, Kind, Reading, Refusal, Search};
 
 /// A store that was opened: its calls answer and leave in the words just what [`Store`](crate::Store)'s do, without reading all of them.
 ///
@@ -122,6 +122,12 @@ impl<'s> OpenedStore<'s> {
     /// and leaves the index alone, which does not know how many entries of a head there are.
     pub fn find_entry(&self, entry: &[u64]) -> Search {
         Search::in_store(self.words(), entry)
+    }
+
+    /// Writes the store's file: see [`Store::save_into`](crate::Store::save_into). It reads all of the store's words, as that does, and leaves
+    /// the index and the memory alone, which are in no file. A store that was loaded is opened anew.
+    pub fn save_into(&self, label: &[u8], file: &mut [u8]) -> Result<usize, Refusal> {
+        calls::save(self.words(), label, file)
     }
 }
 

@@ -3,10 +3,11 @@ use core::fmt;
 
 macro_rules! refusals {
     ($($name:ident = $number:literal, $condition:literal;)*) => {
-        /// Why a call is turned back: the rows of document 01's table "Calls turned back", and row 13, which document 02 adds.
+        /// Why a call is turned back: the rows of document 01's table "Calls turned back", and rows 13 to 15, which document 02 adds.
         ///
-        /// The first that applies is given, and only then; they are tested in the order 1, 13, 2, 3 and so on up to 12. A refused call has
-        /// changed no word of the store, nor of an output. Displayed, a refusal is that row's condition in the documents' words.
+        /// The first that applies is given, and only then; they are tested in the order 1, 13, 14, 15, 2, 3 and so on up to 12. A refused
+        /// call has changed no word of the store, nor of an output, nor a byte of a file. Displayed, a refusal is that row's condition in
+        /// the documents' words.
         ///
         /// ```
         /// use ferigulan::{Refusal, Store};
@@ -23,7 +24,7 @@ macro_rules! refusals {
         }
 
         impl Refusal {
-            /// The refusal with this row's number, if it is one of 1 to 13.
+            /// The refusal with this row's number, if it is one of 1 to 15.
             pub const fn from_number(number: u32) -> Option<Refusal> {
                 match number {
                     $($number => Some(Refusal::$name),)*
@@ -54,10 +55,12 @@ refusals! {
     OutputTooShort = 11, "output shorter than the answer";
     NoRoom = 12, "the entries to append do not fit";
     ListTooLong = 13, "list over 4,096 handles";
+    BadTrailer = 14, "trailer missing or not fitting the length";
+    BadWords = 15, "words that behind the fresh ones form no store of any allowed length, or one with two equal entries";
 }
 
 impl Refusal {
-    /// The row's number, from 1 to 13.
+    /// The row's number, from 1 to 15.
     pub const fn number(self) -> u8 {
         self as u8
     }

@@ -6,7 +6,7 @@ use crate::{calls, sys, Handle, Kind, OpenedStore, Reading, Refusal, Search};
 /// A store of types, in words that the caller lends.
 ///
 /// The words are borrowed as long as the store lives, so that nobody else writes them, and they are always well formed: [`Store::fresh`]
-/// makes them so, [`Store::from_words`] tests it, and every call keeps it. So no method is ever refused with
+/// and [`Store::load_from`] make them so, [`Store::from_words`] tests it, and every call keeps it. So no method is ever refused with
 /// [`NotWellFormed`](Refusal::NotWellFormed). A refused call has changed no word.
 ///
 /// Every method still reads the whole list, as the calls on any words do; [`Store::open`] spares that.
@@ -66,6 +66,57 @@ impl<'a> Store<'a> {
         } else {
             Err(Refusal::NotWellFormed)
         }
+    }
+
+    /// The store that a file was written from, in these words, whatever they were, and the file's label: see [`calls::load`].
+    ///
+    /// It goes on as the store that was saved: every handle is what it was, and the next entry is appended where that one would have
+    /// appended it. The words may be more or fewer than they were, as long as the used ones fit.
+    ///
+    /// Refused as [`calls::load`] is; then no word has changed.
+    ///
+    /// ```
+    /// use ferigulan::{file_length, Refusal, Store};
+    ///
+    /// let mut words = [0; 200];
+    /// let mut store = Store::fresh(&mut words)?;
+    /// let counter = store.make_int(0, 7)?;
+    /// let mut file = [0; file_length(4, 97)];
+    /// let length = store.save_into(b"lift", &mut file)?;
+    ///
+    /// let mut others = [7; 1000];
+    /// let (mut loaded, label) = Store::load_from(&mut others, &file[..length])?;
+    /// assert_eq!(label, b"lift");
+    /// assert_eq!(loaded.make_int(0, 7)?, counter);
+    /// assert_eq!(loaded.get_int(8)?, store.get_int(8)?);
+    /// assert_eq!(Store::load_from(&mut others, &file[1..]).unwrap_err(), Refusal::BadTrailer);
+    /// # Ok::<(), Refusal>(())
+    /// ```
+    pub fn load_from<'f>(words: &'a mut [u64], file: &'f [u8]) -> Result<(Store<'a>, &'f [u8]), Refusal> {
+        let label = calls::load(words, file)?;
+        Ok((Store { words }, &file[..label]))
+    }
+
+    /// Writes the store's file, with a label of at most 255 bytes, and answers how many bytes that are; those behind it keep. See
+    /// [`calls::save`].
+    ///
+    /// Refused with [`TooMany`](Refusal::TooMany) where the label is longer, and with [`OutputTooShort`](Refusal::OutputTooShort); then no
+    /// byte has changed.
+    ///
+    /// ```
+    /// use ferigulan::{file_length, Refusal, Store};
+    ///
+    /// let mut words = [0; 200];
+    /// let mut store = Store::fresh(&mut words)?;
+    /// store.make_int(0, 7)?;
+    /// let mut file = vec![0; file_length(7, store.used())];
+    /// assert_eq!(store.save_into(b"station", &mut file)?, file.len());
+    /// assert_eq!(store.save_into(b"stations", &mut file), Err(Refusal::OutputTooShort));
+    /// assert_eq!(store.save_into(&[0; 256], &mut file), Err(Refusal::TooMany));
+    /// # Ok::<(), Refusal>(())
+    /// ```
+    pub fn save_into(&self, label: &[u8], file: &mut [u8]) -> Result<usize, Refusal> {
+        calls::save(self.words, label, file)
     }
 
     /// All the words, also those that are not used yet.

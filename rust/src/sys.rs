@@ -20,6 +20,8 @@ extern "C" {
     fn ferigulan_well_formed(words: *const u64, n: usize) -> bool;
     fn ferigulan_find_entry(words: *const u64, n: usize, entry: *const u64, k: usize, which: *mut u64, count: *mut u64, answer: *mut u64) -> u32;
     fn ferigulan_fresh(words: *mut u64, n: usize) -> u32;
+    fn ferigulan_save(words: *const u64, n: usize, label: *const u8, k: usize, file: *mut u8, m: usize, answer: *mut u64) -> u32;
+    fn ferigulan_load(words: *mut u64, n: usize, file: *const u8, m: usize, answer: *mut u64) -> u32;
     fn ferigulan_kind(words: *const u64, n: usize, h: u64, answer: *mut u64) -> u32;
     fn ferigulan_get_bool(words: *const u64, n: usize, value: u64, answer: *mut u64) -> u32;
     fn ferigulan_get_int(words: *mut u64, n: usize, value: u64, answer: *mut u64) -> u32;
@@ -130,7 +132,7 @@ fn accepted<T>(status: u32, told: T) -> Result<T, Refusal> {
     }
 }
 
-// The archive is proved to return 0 to 13: only one that is not this crate's can do otherwise.
+// The archive is proved to return 0 to 15: only one that is not this crate's can do otherwise.
 #[cold]
 fn unknown(status: u32) -> ! {
     panic!("the archive returned {status}, which is no refusal: it is not the one that this crate was made for")
@@ -179,7 +181,7 @@ pub(crate) fn fields_of(words: &[u64]) -> &[Field] {
     unsafe { core::slice::from_raw_parts(words.as_ptr().cast(), length) }
 }
 
-// ---- the three functions that are no calls on a store
+// ---- the functions that are no calls of the table
 
 pub(crate) fn well_formed(words: &[u64]) -> bool {
     // SAFETY: the words are a slice, borrowed through the call, which only reads them.
@@ -199,6 +201,23 @@ pub(crate) fn fresh(words: &mut [u64]) -> Result<(), Refusal> {
     // SAFETY: the words are a slice, borrowed for writing through the call.
     let status = unsafe { ferigulan_fresh(words.as_mut_ptr(), words.len()) };
     accepted(status, ())
+}
+
+/// How many bytes the file has.
+pub(crate) fn save(words: &[u64], label: &[u8], file: &mut [u8]) -> Result<u64, Refusal> {
+    let mut answer = 0;
+    // SAFETY: two slices, borrowed through the call, which only reads them, one that is borrowed for writing, and a local variable.
+    let status =
+        unsafe { ferigulan_save(words.as_ptr(), words.len(), label.as_ptr(), label.len(), file.as_mut_ptr(), file.len(), &mut answer) };
+    accepted(status, answer)
+}
+
+/// How many bytes the label has.
+pub(crate) fn load(words: &mut [u64], file: &[u8]) -> Result<u64, Refusal> {
+    let mut answer = 0;
+    // SAFETY: a slice, borrowed for writing through the call, one that it only reads, and a local variable.
+    let status = unsafe { ferigulan_load(words.as_mut_ptr(), words.len(), file.as_ptr(), file.len(), &mut answer) };
+    accepted(status, answer)
 }
 
 // ---- opened stores

@@ -39,7 +39,7 @@ impl Told<u64> for u64 {
     }
 }
 
-// How many words were filled: no more than the output's length.
+// How many words or bytes were filled, no more than the output's length; or the length of a label, which the file holds.
 impl Told<u64> for usize {
     fn told(word: u64) -> usize {
         word as usize

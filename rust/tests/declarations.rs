@@ -37,6 +37,7 @@ fn as_passed(argument: &str) -> Vec<String> {
         "&[u64]" => &["*const u64", "usize"],
         "&mut [u64]" => &["*mut u64", "usize"],
         "&[u8]" => &["*const u8", "usize"],
+        "&mut [u8]" => &["*mut u8", "usize"],
         "&mut u64" => &["*mut u64"],
         "u64" => &["u64"],
         other => panic!("'{other}' is no type that a function of the archive is lent"),
@@ -94,6 +95,7 @@ fn in_rust(c: &str) -> String {
         "const uint64_t *" => "*const u64",
         "uint64_t *" => "*mut u64",
         "const uint8_t *" => "*const u8",
+        "uint8_t *" => "*mut u8",
         "uint64_t" => "u64",
         "uint32_t" => "u32",
         "size_t" => "usize",
@@ -140,8 +142,8 @@ const CRATE: &str = "src/sys.rs";
 const HEADER: &str = "../include/ferigulan.h";
 
 #[test]
-fn the_archive_has_98_functions() {
-    assert_eq!(of_the_archive(&read(ARCHIVE)).len(), 98);
+fn the_archive_has_100_functions() {
+    assert_eq!(of_the_archive(&read(ARCHIVE)).len(), 100);
 }
 
 #[test]
@@ -180,6 +182,7 @@ fn a_changed_argument_is_seen() {
     assert_eq!(seen(CRATE, of_the_crate, "a: u64, which: *mut u64, answer", "a: u64, answer"), 1);
     assert_eq!(seen(HEADER, of_the_header, "ferigulan_isa(const uint64_t *words", "ferigulan_isa(uint64_t *words"), 1);
     assert_eq!(seen(HEADER, of_the_header, "uint64_t len_alias, ", ""), 1);
+    assert_eq!(seen(HEADER, of_the_header, "uint8_t *file, size_t m,", "const uint8_t *file, size_t m,"), 1);
     assert_eq!(seen(HEADER, of_the_header, "bool ferigulan_well_formed", "uint32_t ferigulan_well_formed"), 1);
 }
 

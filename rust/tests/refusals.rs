@@ -11,7 +11,7 @@ type Refusals = BTreeMap<String, BTreeSet<Refusal>>;
 
 /// A refusal by the name of its case.
 fn named(name: &str) -> Refusal {
-    let all = (1..=13).filter_map(Refusal::from_number);
+    let all = (1..=15).filter_map(Refusal::from_number);
     all.into_iter().find(|refusal| format!("{refusal:?}") == name).unwrap_or_else(|| panic!("{name} is no refusal"))
 }
 
@@ -27,7 +27,7 @@ fn in_the_table() -> Refusals {
     entries.collect()
 }
 
-/// Of the comments that have "Refused: 2, 3." before a function, but for fresh and open.
+/// Of the comments that have "Refused: 2, 3." before a function, but for those that are no calls of the table.
 fn in_the_header() -> Refusals {
     let header = include_str!("../../include/ferigulan.h");
     let comments = header.split("/*").filter_map(|part| part.split_once("*/"));
@@ -39,7 +39,7 @@ fn in_the_header() -> Refusals {
         let rows = rows.split(',').map_while(|row| row.trim().parse().ok()).filter_map(Refusal::from_number);
         Some((name.to_string(), rows.collect()))
     });
-    calls.filter(|(name, _)| name != "fresh" && name != "open").collect()
+    calls.filter(|(name, _)| !["fresh", "open", "find_entry", "save", "load"].contains(&name.as_str())).collect()
 }
 
 fn that_are_given() -> Refusals {

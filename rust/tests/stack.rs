@@ -4,9 +4,10 @@ use std::env;
 use std::process::Command;
 use std::thread;
 
-use ferigulan::{calls, fresh, index_len, Refusal, Store};
+use ferigulan::{calls, file_length, fresh, index_len, Refusal, Store, LONGEST_LABEL};
 
 mod common;
+use common::files::{file, ints};
 use common::towers::{deep, memory_lengths, Tower, TOWERS};
 
 const KIB: usize = 1024;
@@ -30,7 +31,10 @@ enough! {
 }
 
 fn enough(length: usize, bytes: usize) {
-    let all = move || TOWERS.into_iter().for_each(|shape| run(length, shape));
+    let all = move || {
+        TOWERS.into_iter().for_each(|shape| run(length, shape));
+        full_file(length, length);
+    };
     let thread = thread::Builder::new().stack_size(bytes).spawn(all).expect("a thread");
     thread.join().expect("the thread's calls end");
 }
@@ -55,6 +59,13 @@ fn a_refused_list_needs_little() {
     assert!(words == before, "a refusal changes no word");
 }
 
+// What a load needs goes by the file as well as by the list: it tests all of the file before it sees that the list is too short.
+#[test]
+fn the_largest_file_and_a_short_list() {
+    let load = || full_file(1_048_576, 94);
+    thread::Builder::new().stack_size(336 * KIB).spawn(load).expect("a thread").join().expect("the load ends");
+}
+
 /// Set for the process that is to end.
 const TOO_LITTLE: &str = "FERIGULAN_TOO_LITTLE_STACK";
 
@@ -70,9 +81,28 @@ fn too_little_stack_ends_the_process() {
     assert!(!output.status.success() && message.contains("has overflowed its stack"), "{}: {message}", output.status);
 }
 
-/// Every call on one tower, plain and opened, and the search for an entry.
+/// Loads the file of a full store of this many words, with the longest label, into a list, and saves it where it fits.
+fn full_file(used: usize, length: usize) {
+    let words = ints(used);
+    let (used, file) = (94 + words.len(), file(&[b'x'; LONGEST_LABEL], &words));
+    let mut list = vec![0; length];
+    let loaded = calls::load(&mut list, &file);
+    assert_eq!(loaded, if used <= length { Ok(LONGEST_LABEL) } else { Err(Refusal::NoRoom) });
+    if loaded.is_ok() {
+        assert!(saved(&list) == file, "another file");
+    }
+}
+
+fn saved(words: &[u64]) -> Vec<u8> {
+    let mut file = vec![0; file_length(LONGEST_LABEL, words[0] as usize)];
+    assert_eq!(calls::save(words, &[b'x'; LONGEST_LABEL], &mut file), Ok(file.len()));
+    file
+}
+
+/// Every call on one tower, plain and opened, the search for an entry, and saving and loading.
 fn run(length: usize, shape: Tower) {
     let mut deep = deep(length, shape);
+    assert_eq!(calls::load(&mut vec![0; length], &saved(deep.words())), Ok(LONGEST_LABEL));
     assert_eq!(calls::find_entry(deep.words(), &[0; 4]).map(|search| search.handle), Ok(None));
     let (mut index, mut memory) = (vec![0; index_len(length)], vec![0; memory_lengths(length)[0]]);
     for call in deep.calls() {

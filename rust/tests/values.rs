@@ -1,7 +1,7 @@
 //! The types that are the crate's own: handles, kinds, refusals and fields.
 use std::error::Error;
 
-use ferigulan::{fresh, index_len, memory_len, Field, Handle, Kind, Refusal, Store};
+use ferigulan::{file_length, fresh, index_len, memory_len, Field, Handle, Kind, Refusal, Store, LONGEST_FILE};
 
 #[test]
 fn handles_are_words() {
@@ -82,13 +82,13 @@ fn kinds_have_numbers() {
 
 #[test]
 fn refusals_have_numbers_and_words() {
-    for number in 1..=13 {
-        let refusal = Refusal::from_number(number).expect("there are thirteen");
+    for number in 1..=15 {
+        let refusal = Refusal::from_number(number).expect("there are fifteen");
         assert_eq!(u32::from(refusal.number()), number);
         assert!(!refusal.to_string().is_empty());
     }
     assert_eq!(Refusal::from_number(0), None);
-    assert_eq!(Refusal::from_number(14), None);
+    assert_eq!(Refusal::from_number(16), None);
     let error: Box<dyn Error> = Refusal::NoRoom.into();
     assert_eq!(format!("{error:>33}"), " the entries to append do not fit");
 }
@@ -109,6 +109,8 @@ fn lengths_of_the_lists() {
     assert_eq!(index_len(94), 190);
     assert_eq!(index_len(1_048_576), 2 * 1_048_576 + 16_384 + 1);
     assert_eq!(memory_len(1_000), 6_000);
+    assert_eq!((file_length(0, 94), file_length(255, 97)), (16, 255 + 24 + 16));
+    assert_eq!(LONGEST_FILE, 255 + 8 * (1_048_576 - 94) + 16);
 }
 
 #[test]

@@ -3,9 +3,11 @@
 //! where the two differ, one of them reads a document wrongly.
 //!
 //! The modules go in document 01's order: the store (`entry`, `fresh`, `row_one`, `store`, `making`, `types`), the calls turned back
-//! (`refusals`), and then the calls; document 02's search for an entry is in `search`. Sentences in quotes are a document's, 01's where no slip is named.
+//! (`refusals`), and then the calls; document 02's search for an entry is in `search`, its saved catalogue in `catalogue`. Sentences in
+//! quotes are a document's, 01's where no slip is named.
 
 mod call;
+mod catalogue;
 mod dual;
 mod entry;
 mod finals;
@@ -48,4 +50,15 @@ pub fn answer(words: &mut [u64], call: &Call, output: &mut [u64]) -> Reply {
         Some(kinds) => Store::new(words, &mut Marks::new(kinds)).answer(call, output),
         None => Reply::Refused(1),
     }
+}
+
+/// Document 02, Slip 3: writes the store and a label as a file. Afterwards the output holds what the slip says; the answer is the file's
+/// length.
+pub fn save(words: &[u64], label: &[u8], output: &mut [u8]) -> Reply {
+    catalogue::save(words, label, output).map_or_else(Reply::Refused, Reply::Number)
+}
+
+/// Document 02, Slip 3: fills the words, whatever they hold, with the store of a file. The answer is the label's length.
+pub fn load(words: &mut [u64], file: &[u8]) -> Reply {
+    catalogue::load(words, file).map_or_else(Reply::Refused, Reply::Number)
 }

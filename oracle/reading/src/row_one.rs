@@ -6,8 +6,10 @@ use crate::kind::{self, Kinds, NO_ENTRY};
 use crate::refusals::{alias_is_accepted, flag_is_accepted, float_is_accepted};
 
 /// "A lent list of 64-bit words, 94 to 1,048,576 of them."
+pub const LONGEST: usize = 1_048_576;
+
 pub fn length_is_right(words: &[u64]) -> bool {
-    (94..=1_048_576).contains(&words.len())
+    (94..=LONGEST).contains(&words.len())
 }
 
 /// For each used word the kind of the entry that starts there, or `NO_ENTRY`; None where row 1 applies.

@@ -54,6 +54,8 @@ extern "C" {
         answer: *mut u64,
     ) -> u32;
     fn ferigulan_open(words: *const u64, n: usize, index: *mut u64, i: usize, memory: *mut u64, m: usize) -> u32;
+    fn ferigulan_save(words: *const u64, n: usize, label: *const u8, k: usize, file: *mut u8, m: usize, answer: *mut u64) -> u32;
+    fn ferigulan_load(words: *mut u64, n: usize, file: *const u8, m: usize, answer: *mut u64) -> u32;
 }
 
 #[rustfmt::skip]
@@ -135,6 +137,25 @@ impl Door for ByC<'_> {
         let mut cell = Cell::new();
         let (status, shape) = run(self, call, output, &cell.lend());
         cell.reply(status, shape)
+    }
+
+    /// There is one function for lent words and opened stores: it reads the words alone.
+    fn save(&mut self, label: &[u8], file: &mut [u8]) -> Result<Reply, String> {
+        let mut cell = Cell::new();
+        let (words, answer) = (self.words(), cell.lend().answer);
+        // SAFETY: slices with their lengths, of which the last is written, and a word of the cell, which overlaps nothing.
+        let status =
+            unsafe { ferigulan_save(words.as_ptr(), words.len(), label.as_ptr(), label.len(), file.as_mut_ptr(), file.len(), answer) };
+        cell.reply(status, One(Number))
+    }
+
+    fn load(&mut self, file: &[u8]) -> Result<Reply, String> {
+        let ByC::Plain(words) = self else { unreachable!("a list is not opened for a load") };
+        let mut cell = Cell::new();
+        let answer = cell.lend().answer;
+        // SAFETY: slices with their lengths, of which the first is written, and a word of the cell, which overlaps nothing.
+        let status = unsafe { ferigulan_load(words.as_mut_ptr(), words.len(), file.as_ptr(), file.len(), answer) };
+        cell.reply(status, One(Number))
     }
 
     fn words(&self) -> &[u64] {

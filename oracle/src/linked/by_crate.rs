@@ -87,6 +87,14 @@ impl Door for Plain<'_> {
         })
     }
 
+    fn save(&mut self, label: &[u8], file: &mut [u8]) -> Result<Reply, String> {
+        Ok(length(calls::save(self.0, label, file)))
+    }
+
+    fn load(&mut self, file: &[u8]) -> Result<Reply, String> {
+        Ok(length(calls::load(self.0, file)))
+    }
+
     fn words(&self) -> &[u64] {
         self.0
     }
@@ -105,6 +113,14 @@ impl Door for OpenedStore<'_> {
             Call::FindEntry(entry) => searched(self.find_entry(entry)),
             call => asked!(call, output, method),
         })
+    }
+
+    fn save(&mut self, label: &[u8], file: &mut [u8]) -> Result<Reply, String> {
+        Ok(length(calls::save(OpenedStore::words(self), label, file)))
+    }
+
+    fn load(&mut self, _: &[u8]) -> Result<Reply, String> {
+        unreachable!("a list is not opened for a load")
     }
 
     fn words(&self) -> &[u64] {
@@ -139,6 +155,10 @@ fn flag(answer: Result<bool, Refusal>) -> Reply {
 
 fn perhaps<T>(answer: Result<Option<T>, Refusal>, reply: impl FnOnce(T) -> Reply) -> Reply {
     told(answer, |found| found.map_or(Reply::Absent, reply))
+}
+
+fn length(answer: Result<usize, Refusal>) -> Reply {
+    told(answer, |length| Reply::Number(length as u64))
 }
 
 fn searched(search: Search) -> Reply {

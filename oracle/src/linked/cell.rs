@@ -58,8 +58,8 @@ impl Cell {
         }
         let (which, count, answer) = (cell.which, cell.count, cell.answer);
         match (status, shape) {
-            (1..=13, _) if [which, count, answer] == [BEFORE; 3] => Ok(Reply::Refused(status as u8)),
-            (1..=13, _) => {
+            (1..=15, _) if [which, count, answer] == [BEFORE; 3] => Ok(Reply::Refused(status as u8)),
+            (1..=15, _) => {
                 Err(format!("it refused the call with {status}, and wrote the words for the answer: {which}, {count}, {answer}"))
             }
             (0, Shape::Search) if (which, answer) == (0, BEFORE) => Ok(Reply::Searched(None, count)),

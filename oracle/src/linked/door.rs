@@ -7,6 +7,12 @@ pub trait Door {
     /// What the library replies; or what it did that no call may do.
     fn answer(&mut self, call: &Call, output: &mut [u64]) -> Result<Reply, String>;
 
+    /// Writes the list's store and a label as a file: likewise.
+    fn save(&mut self, label: &[u8], file: &mut [u8]) -> Result<Reply, String>;
+
+    /// Loads a file into the list, which is not open: likewise.
+    fn load(&mut self, file: &[u8]) -> Result<Reply, String>;
+
     fn words(&self) -> &[u64];
 
     /// The words to be written by a planted mistake, where that can be done.

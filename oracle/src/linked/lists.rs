@@ -1,5 +1,6 @@
 //! Which lists are made, and how they are run: all by the seed of the list.
 
+use super::catalogues::with_catalogues;
 use super::damage::{damaged, opening};
 use super::planted::Plant;
 use super::searches::with_searches;
@@ -19,6 +20,8 @@ pub struct Menus {
     damaged: usize,
     /// Whether entries are looked for among the calls.
     searches: bool,
+    /// Whether files are written and loaded among them.
+    catalogues: bool,
 }
 
 /// A list to be run.
@@ -38,8 +41,9 @@ impl Menus {
         };
         let short = Lists { room: ROOM, length: short_length, ..SHORT };
         let long = Lists { length: long_length, are_filled: true, most_calls: 1500, ..short };
-        let searches = names.split(',').any(|name| ["all", "find_entry"].contains(&name));
-        Ok(Menus { short: menu(short)?, long: menu(long)?, damaged: 35, searches })
+        let has = |words: &[&str]| names.split(',').any(|name| words.contains(&name));
+        let (searches, catalogues) = (has(&["all", "find_entry"]), has(&["all", "save", "load"]));
+        Ok(Menus { short: menu(short)?, long: menu(long)?, damaged: 35, searches, catalogues })
     }
 
     /// Lists of calls most of which merge the same types again and again, in stores that calls alone have made.
@@ -47,6 +51,7 @@ impl Menus {
         let mut menus = Menus::read("all")?;
         menus.damaged = 0;
         menus.searches = false;
+        menus.catalogues = false;
         for menu in [&mut menus.short, &mut menus.long] {
             menu.weigh("meet_list", 400);
             menu.lists.merged_again = 75;
@@ -69,6 +74,10 @@ impl Menus {
         };
         let steps = match self.searches {
             true => with_searches(steps, &mut random),
+            false => steps,
+        };
+        let steps = match self.catalogues {
+            true => with_catalogues(steps, &mut random),
             false => steps,
         };
         Made { steps, way: Way { by, holds, plant } }

@@ -1,10 +1,11 @@
 //! A lent list as the reading has it, and what steps refer to.
 
+use super::catalogues;
 use super::entries::Entries;
-use super::typed::{answer, output, typed};
+use super::typed::{answer, loaded, output, saved, typed};
 use crate::generate::{ends_soon, MOST_VISITS};
 use crate::script::Call;
-use crate::session::Answer;
+use crate::session::{Answer, KEPT_BYTE};
 use crate::steps::{Arg, Outcomes, Step};
 use reading::Held;
 
@@ -20,16 +21,35 @@ pub struct Model {
     holds: bool,
     /// Whether the words are not what calls alone have left: poked, or never a store.
     pub is_damaged: bool,
+    /// Whether a file was loaded, and calls alone have changed the words since then.
+    pub is_loaded: bool,
     pub entries: Entries,
     pub outcomes: Outcomes,
-    /// The output of the last call.
+    /// The output of the last call, and that of the last file.
     pub output: Vec<u64>,
+    pub bytes: Vec<u8>,
+    /// The file that was last written: the empty one before.
+    pub file: Vec<u8>,
+    /// Whether it brought back the store, when a step last wrote one.
+    pub file_is_good: bool,
 }
 
 impl Model {
     pub fn new(holds: bool) -> Model {
         let words = Words::Plain(vec![]);
-        Model { words, holds, is_damaged: true, entries: Entries::default(), outcomes: Outcomes::default(), output: vec![] }
+        let (entries, outcomes) = (Entries::default(), Outcomes::default());
+        Model {
+            words,
+            holds,
+            is_damaged: true,
+            is_loaded: false,
+            entries,
+            outcomes,
+            output: vec![],
+            bytes: vec![],
+            file: vec![],
+            file_is_good: false,
+        }
     }
 
     pub fn words(&self) -> &[u64] {
@@ -54,7 +74,7 @@ impl Model {
 
     /// Another list, or the same with other words.
     fn lend(&mut self, words: Vec<u64>) -> Answer {
-        self.is_damaged = true;
+        (self.is_damaged, self.is_loaded) = (true, false);
         self.entries = Entries::default();
         self.entries.read_on(&words);
         self.words = Words::Plain(words);
@@ -97,6 +117,9 @@ impl Model {
                 self.lend(words)
             }
             ("check", []) => Answer::Flag(self.is_well_formed()),
+            ("save", [length]) => self.save(&call.text, *length as usize),
+            ("load", []) => self.load(&call.text),
+            ("reload", []) => self.load(&self.file.clone()),
             _ => self.call(call),
         }
     }
@@ -107,6 +130,28 @@ impl Model {
         self.lend(words);
         self.is_damaged = reply != reading::Reply::Done;
         answer(&reading::Call::Fresh, reply, &[])
+    }
+
+    /// An accepted file is kept.
+    fn save(&mut self, label: &[u8], length: usize) -> Answer {
+        let mut output = vec![KEPT_BYTE; length];
+        let reply = reading::save(self.words(), label, &mut output);
+        let answer = saved(reply, &output);
+        if let Answer::Saved(file, _) = &answer {
+            self.file.clone_from(file);
+        }
+        self.bytes = output;
+        answer
+    }
+
+    fn load(&mut self, file: &[u8]) -> Answer {
+        let before = (self.is_damaged, self.is_loaded);
+        let mut words = self.take_words();
+        let reply = reading::load(&mut words, file);
+        self.lend(words);
+        let is_refused = matches!(reply, reading::Reply::Refused(_));
+        (self.is_damaged, self.is_loaded) = if is_refused { before } else { (false, true) };
+        loaded(reply)
     }
 
     fn call(&mut self, call: &Call) -> Answer {
@@ -140,6 +185,9 @@ impl Model {
             appended.drain(..appended.len().saturating_sub(1));
         }
         self.outcomes.note(step.id, answer, appended);
+        if step.name == "save_about" {
+            self.file_is_good = catalogues::is_good(self);
+        }
     }
 
     /// Whether a walk over what a call is given takes too many visits: shared parts are visited again and again, by the original and by the

@@ -1,6 +1,8 @@
 //! Mistakes planted between the library and the comparison, to show that it finds them. The library itself stays as it is: each mistake asks it
 //! something else, or changes what it has answered or written.
 
+mod catalogue;
+
 use super::door::Door;
 use super::entries::Entries;
 use reading::{Call, Reply};
@@ -11,12 +13,24 @@ pub struct Plant {
     pub name: &'static str,
     pub what: &'static str,
     answer: fn(&mut dyn Door, &Call, &mut [u64]) -> Answered,
+    save: fn(&mut dyn Door, &[u8], &mut [u8]) -> Answered,
+    load: fn(&mut dyn Door, &[u8]) -> Answered,
     /// Whether a store that is opened again has the memory of answers of the time before.
     pub keeps_memory: bool,
 }
 
 const fn plant(name: &'static str, what: &'static str, answer: fn(&mut dyn Door, &Call, &mut [u64]) -> Answered) -> Plant {
-    Plant { name, what, answer, keeps_memory: false }
+    Plant { name, what, answer, save: |door, label, file| door.save(label, file), load: |door, file| door.load(file), keeps_memory: false }
+}
+
+/// A mistake of the writer of files alone.
+const fn save_plant(name: &'static str, what: &'static str, save: fn(&mut dyn Door, &[u8], &mut [u8]) -> Answered) -> Plant {
+    Plant { save, ..plant(name, what, |door, call, output| door.answer(call, output)) }
+}
+
+/// A mistake of the loader alone.
+const fn load_plant(name: &'static str, what: &'static str, load: fn(&mut dyn Door, &[u8]) -> Answered) -> Plant {
+    Plant { load, ..plant(name, what, |door, call, output| door.answer(call, output)) }
 }
 
 pub const PLANTS: &[Plant] = &[
@@ -41,6 +55,16 @@ pub const PLANTS: &[Plant] = &[
     plant("one-short", "a search does not count the entry that it finds", one_short),
     plant("behind-the-found", "a search goes on to count behind the entry that it finds", behind_the_found),
     plant("last-equal", "a search finds the last equal entry, and counts up to it", last_equal),
+    save_plant("label-left-out", "the writer leaves the label out of the length", catalogue::label_left_out),
+    save_plant("past-the-file", "the writer writes a byte past its file", catalogue::past_the_file),
+    save_plant("long-label", "the writer tests the output before the label", catalogue::long_label),
+    load_plant("writes-first", "the loader writes the fresh words before it looks at those of the file", catalogue::writes_first),
+    load_plant("wrapped-sum", "the loader adds the trailer up modulo 2 to the 64", catalogue::wrapped_sum),
+    load_plant("words-first", "the loader tests the words before the trailer: 14 after 15", catalogue::words_first),
+    load_plant("equal-entries", "the loader lets two equal entries in", catalogue::equal_entries),
+    load_plant("room-first", "the loader tests the list's length before the label's: 5 after 12", catalogue::room_first),
+    load_plant("rest-kept", "the loader leaves the list's rest as it was", catalogue::rest_kept),
+    load_plant("wants-a-store", "the loader refuses a list that is no store before", catalogue::wants_a_store),
 ];
 
 impl Plant {
@@ -50,6 +74,14 @@ impl Plant {
 
     pub fn answer(&self, door: &mut dyn Door, call: &Call, output: &mut [u64]) -> Result<Reply, String> {
         (self.answer)(door, call, output)
+    }
+
+    pub fn save(&self, door: &mut dyn Door, label: &[u8], file: &mut [u8]) -> Answered {
+        (self.save)(door, label, file)
+    }
+
+    pub fn load(&self, door: &mut dyn Door, file: &[u8]) -> Answered {
+        (self.load)(door, file)
     }
 }
 

@@ -12,14 +12,16 @@ pub struct Circumstances {
     pub length: usize,
     pub is_open: bool,
     pub is_damaged: bool,
+    /// Whether the store was loaded, and changed by calls alone since then.
+    pub is_loaded: bool,
     pub is_filling: bool,
     pub by: By,
     /// Whether the original answered too.
     pub has_original: bool,
 }
 
-/// The refusals are 1 to 13; 0 stands for an accepted call.
-const ROWS: usize = 14;
+/// The refusals are 1 to 15; 0 stands for an accepted call.
+const ROWS: usize = 16;
 
 /// The last lengths of the classes that lists are counted in.
 const CLASSES: &[usize] = &[93, 94, 400, 4_096, 65_535, 262_143, 524_288, 1_048_576, usize::MAX];
@@ -79,6 +81,9 @@ pub struct Tally {
     row_one: u64,
     by_c: u64,
     with_original: u64,
+    /// Calls on stores that were loaded.
+    loaded: u64,
+    loaded_with_original: u64,
     /// Of the damaged ones, those that are well formed and on an opened store.
     damaged_opened: u64,
     /// The merges of lists on stores that calls alone have made.
@@ -104,7 +109,8 @@ impl Tally {
             self.searches.add(found.is_some(), *count, told);
         }
         self.calls += 1;
-        self.counts.entry(call.name).or_default()[row as usize] += 1;
+        let name = if call.name == "reload" { "load" } else { call.name };
+        self.counts.entry(name).or_default()[row as usize] += 1;
         let class = CLASSES.iter().position(|last| told.length <= *last).unwrap_or(0);
         let class = &mut self.classes[class];
         *(if told.is_open { &mut class.opened } else { &mut class.plain }) += 1;
@@ -114,6 +120,8 @@ impl Tally {
         self.row_one += u64::from(row == 1);
         self.by_c += u64::from(told.by == By::C);
         self.with_original += u64::from(told.has_original);
+        self.loaded += u64::from(told.is_loaded);
+        self.loaded_with_original += u64::from(told.is_loaded && told.has_original);
     }
 
     /// How many of a hundred calls.
@@ -129,6 +137,8 @@ impl Tally {
         line("  of these well formed, and on an opened store", self.damaged_opened);
         line("on words that row 1 refuses", self.row_one);
         line("answered by the original too (the reading answers all)", self.with_original);
+        line("on stores that were loaded, and changed by calls alone since then", self.loaded);
+        line("  of these answered by the original too", self.loaded_with_original);
         line("by the functions as C declares them (the others by the crate)", self.by_c);
         println!(
             "besides: {} lists, {} openings, {} tests of row 1 alone, {} calls that filled long lists",

@@ -1,6 +1,7 @@
 //! A list of steps on the library, on the reading and, as far as it can hold the types, on the original: after each call the replies, all words of
 //! the list and of the output, and the guard words around what the library was lent are compared.
 
+mod catalogue;
 mod opening;
 
 use super::by_c::ByC;
@@ -186,19 +187,16 @@ impl<'s, 'a, 't> Trial<'s, 'a, 't> {
 
     /// One call on all sides.
     fn call(&mut self, call: &Call, door: &mut dyn Door, guards: &[&[u64]], is_open: bool) -> Result<(), Difference> {
+        match call.name {
+            "save" => return self.save(call, door, guards, is_open),
+            "load" | "reload" => return self.load(call, door, guards),
+            _ => {}
+        }
         self.calls += 1;
         let is_filling = matches!(self.rest, Unfolded::Filling(_));
         let original = Some(self.original.run(call)).filter(|answer| !matches!(answer, Answer::NotHeld(_)));
         let reading = self.model.run(call);
-        let length = self.model.words().len();
-        let told = Circumstances {
-            length,
-            is_open,
-            is_damaged: self.model.is_damaged,
-            is_filling,
-            by: self.way.by,
-            has_original: original.is_some(),
-        };
+        let told = Circumstances { is_filling, has_original: original.is_some(), ..self.circumstances(is_open) };
         self.tally.add(call, &reading, &told);
         self.write_down(call, reading);
         let mut output = Guarded::filled(output_length(call), KEPT);
@@ -215,6 +213,19 @@ impl<'s, 'a, 't> Trial<'s, 'a, 't> {
         }
         self.compare_words(door.words(), output.words())?;
         self.compare_with_the_law(call, is_open)
+    }
+
+    /// What a call is made on that the reading alone answers.
+    fn circumstances(&self, is_open: bool) -> Circumstances {
+        Circumstances {
+            length: self.model.words().len(),
+            is_open,
+            is_damaged: self.model.is_damaged,
+            is_loaded: self.model.is_loaded,
+            is_filling: false,
+            by: self.way.by,
+            has_original: false,
+        }
     }
 
     /// Lists of the same types have to give one handle, in a store that calls alone have made.
@@ -268,6 +279,7 @@ fn is_for_the_list(call: &Call, is_open: bool) -> bool {
     match call.name {
         "list" | "poke" | "open" | "close" => true,
         "fresh" => is_open || !call.numbers.is_empty(),
+        "load" | "reload" => is_open,
         _ => false,
     }
 }

@@ -97,3 +97,23 @@ pub fn answer(call: &Call, reply: Reply, output: &[u64]) -> Answer {
         Reply::Filled(n) => Answer::Filled(output[..output.len().min(n as usize)].to_vec(), output.len()),
     }
 }
+
+/// What a line would tell of a reply to the writer of a file, with the output behind it.
+pub fn saved(reply: Reply, output: &[u8]) -> Answer {
+    match reply {
+        Reply::Number(n) => match output.get(..n as usize) {
+            Some(file) => Answer::Saved(file.to_vec(), output.len()),
+            None => Answer::Number(n),
+        },
+        other => loaded(other),
+    }
+}
+
+/// What a line would tell of a reply to the loader.
+pub fn loaded(reply: Reply) -> Answer {
+    match reply {
+        Reply::Refused(row) => Answer::Refused(row),
+        Reply::Number(n) => Answer::Number(n),
+        other => unreachable!("a loader answers {other:?}"),
+    }
+}

@@ -1,7 +1,8 @@
 //! The calls that a step is. Most steps are one; `put W..` is the pokes that put an entry of these words behind the used ones, `fill SEED WORDS`
 //! many makers, and `raise WORDS` the pokes that fill a list at once: with empty names, which are zero words, and an Int behind them. `meet_rep`
-//! is one with its list written out, and `search` one for an entry that is there (searches.rs).
+//! is one with its list written out, `search` one for an entry that is there (searches.rs), and steps with files are the calls of catalogues.rs.
 
+use super::catalogues;
 use super::model::Model;
 use super::searches::search;
 use super::typed::{output_length, typed};
@@ -14,6 +15,9 @@ use std::collections::VecDeque;
 
 /// A list may be a word too long, to be refused, and an output as long as a list.
 pub const ROOM: Room = Room { words: LONGEST as u64 + 1, output: LONGEST as u64 };
+
+/// The largest file with the longest label, and some bytes more.
+const MOST_BYTES: u64 = 8 * LONGEST as u64 + 1000;
 
 pub enum Unfolded {
     Calls(VecDeque<Call>),
@@ -30,6 +34,9 @@ impl Unfolded {
         match (step.name, &numbers[..]) {
             ("put", entry) => return Unfolded::Calls(pokes(model.used(), entry, model)),
             ("search", numbers) => return Unfolded::Calls([search(numbers, model)].into()),
+            ("save_about" | "list_about" | "reload_about" | "load_broken", numbers) => {
+                return Unfolded::Calls(catalogues::calls(step.name, numbers, &step.text, model).into())
+            }
             ("raise", [words]) => return Unfolded::Calls(pokes(*words as usize, &[5 + 256, 0, 7], model)),
             _ => {}
         }
@@ -72,6 +79,9 @@ fn can_run(call: &Call, model: &Model) -> bool {
         ("list" | "fresh", [n, ..]) => *n <= ROOM.words,
         ("poke", [at, _]) => *at < model.words().len() as u64,
         ("open", [memory, more]) => *memory <= 8 * ROOM.words && *more as i64 <= LONGEST as i64,
+        ("save", [length]) => *length <= MOST_BYTES,
+        ("load", _) => catalogues::can_load(&call.text),
+        ("reload", _) => catalogues::can_load(&model.file),
         ("fresh" | "check" | "open" | "close", _) => true,
         _ => typed(call).is_some() && output_length(call) as u64 <= ROOM.output && !model.is_long_walk(call),
     }

@@ -49,7 +49,7 @@ fn argument(word: &str) -> &str {
 fn each_line_that_help_names_is_a_call() {
     let help = ferigulan(&["help", "script"], "").text();
     let usages: Vec<&str> = help.lines().filter(|line| line.starts_with("  ")).map(|line| line[..33].trim()).collect();
-    assert_eq!(usages.len(), 62);
+    assert_eq!(usages.len(), 70);
     let lines = usages.iter().map(|usage| usage.replace("HEX", "61").replace("W..", "1 5 0 0").replace("H..", "5 6"));
     let lines = lines.map(|line| line.split(' ').map(argument).collect::<Vec<_>>().join(" "));
     let ran = ferigulan(&["run"], lines.collect::<Vec<_>>().join("\n"));

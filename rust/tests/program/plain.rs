@@ -49,7 +49,7 @@ const NAMES: &str =
     "list fresh poke peek dump dumpall check open close kind get_bool int float tuple str struct fref ptr mem ary meet isa \
     dual join glb lub is_final make_ro make_init make_zero non_zero is_high is_high_or_constant is_constant is_fref \
     log_size min max value mask sz is_f32 float_value reading name fields find find_alias is_ary offset offsets ary_base \
-    ary_scale meet_list meet_rep keep kept find_entry get_int foo";
+    ary_scale meet_list meet_rep keep kept find_entry save load reload file fadd fpoke fcut get_int foo";
 
 fn random_number(random: &mut Random) -> String {
     const HANDLES: [u64; 24] = [1, 3, 5, 6, 7, 8, 9, 12, 15, 18, 20, 22, 25, 40, 55, 58, 61, 64, 76, 85, 88, 94, 97, 100];
@@ -91,7 +91,7 @@ fn random_line(random: &mut Random) -> String {
         "ary" => 4,
         "dual" | "kind" | "glb" => 1,
         "meet" | "isa" | "join" | "ptr" | "meet_rep" => 2,
-        "keep" | "kept" => 0,
+        "keep" | "kept" | "load" | "reload" | "file" | "fadd" | "save" => 0,
         "struct" => 5,
         "find_entry" => random.of(&[0, 0, 0, 1, 3]),
         _ => random.below(4),
@@ -101,7 +101,10 @@ fn random_line(random: &mut Random) -> String {
         line += random.of(&ENTRIES);
     }
     (0..count).for_each(|_| line += &format!(" {}", random_number(random)));
-    if name == "str" || name == "ary" {
+    if name == "save" {
+        line += random.of(&["", " 16", " 300", " 61 17", " 6162 700", " 61 0", " 6 20", " 61 62 30", "  16", " 65536", " 65537"]);
+    }
+    if ["str", "ary", "load", "fadd"].contains(&name) {
         line += random.of(&["", " ", " 61", " 6", " 6G", " 61 62", "  61"]);
     }
     line += random.of(&["", "", "", "", "", "", " ", ";", "  ; c", "\r", "\0"]);

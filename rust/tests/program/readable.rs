@@ -312,3 +312,37 @@ fn the_example_reads_well() {
     assert_eq!(ran.text(), MERGE);
     assert_eq!((ran.status, ran.err.as_str()), (0, ""));
 }
+
+#[test]
+fn files_are_saved_and_loaded() {
+    expect(&[
+        ("fresh 100", "ok"),
+        ("int 3", "94 3"),
+        ("save 6162 43", "42 : 61620501000000000000030000000000000003000000000000000200000000000000030000000000000077"),
+        ("file", "616205010000000000000300000000000000030000000000000002000000000000000300000000000000"),
+        ("save 39", "-11 output shorter than the answer"),
+        ("list 200 7", "ok"),
+        ("reload", "2 the label \"ab\"; 97 words used"),
+        ("int 3", "94 3"),
+        ("open", "ok"),
+        ("save 16", "-11 output shorter than the answer"),
+        ("reload", "2 the label \"ab\"; 97 words used"),
+        ("int 4", "97 4"),
+        ("fpoke 0 255", "ok"),
+        ("reload", "2 the label \"\\xffb\"; 97 words used"),
+        ("fcut 41", "ok"),
+        ("reload", "-14 trailer missing or not fitting the length"),
+        ("fadd 00", "ok"),
+        ("reload", "2 the label \"\\xffb\"; 97 words used"),
+        ("fpoke 42 0", "?"),
+        ("fpoke 0 256", "?"),
+        ("fpoke 10 1", "ok"),
+        ("reload", "2 the label \"\\xffb\"; 97 words used"),
+        ("max 94", "=3"),
+        ("min 94", "=1"),
+        ("load 00000000000000000000000000000000", "0 the label \"\"; 94 words used"),
+        ("load", "-14 trailer missing or not fitting the length"),
+        ("list 93", "ok"),
+        ("load", "-1 store length out of limits, or not well formed"),
+    ]);
+}

@@ -1,7 +1,7 @@
 //! A lent list on which each call is run in both ways, plain and held, and asked for what every call must keep.
 #![allow(dead_code)]
 
-use reading::{answer, well_formed, Call, Held, Reply};
+use reading::{answer, load, save, well_formed, Call, Held, Reply};
 
 pub struct List {
     pub words: Vec<u64>,
@@ -41,6 +41,44 @@ impl List {
                 assert!(held.words() == self.words && held_output == output, "{call:?} held leaves other words");
                 assert!(well_formed(held.words()));
             }
+        }
+    }
+
+    /// Writes a file. Checked besides: what a refusal and the bytes past the file must keep; the same bytes again the second time.
+    pub fn save(&mut self, label: &[u8], output: &mut [u8]) -> Reply {
+        let before = output.to_vec();
+        let reply = save(&self.words, label, output);
+        let written = match reply {
+            Reply::Number(length) => length as usize,
+            _ => 0,
+        };
+        assert!(output[written..] == before[written..], "a writer changes a byte past its file");
+        let after = output.to_vec();
+        assert_eq!(save(&self.words, label, output), reply);
+        assert!(output == after, "a writer writes other bytes the second time");
+        reply
+    }
+
+    /// Loads a file. Checked besides: a refusal changes nothing; what is filled is a store, and the same the second time.
+    pub fn load(&mut self, file: &[u8]) -> Reply {
+        let before = self.words.clone();
+        let reply = load(&mut self.words, file);
+        match reply {
+            Reply::Refused(_) => assert!(self.words == before, "a refused load changes a word"),
+            _ => assert!(well_formed(&self.words), "what is loaded is no store"),
+        }
+        let after = self.words.clone();
+        assert_eq!(load(&mut self.words, file), reply);
+        assert!(self.words == after, "a load changes a word the second time");
+        reply
+    }
+
+    /// The file of these words under a label.
+    pub fn file(&mut self, label: &[u8]) -> Vec<u8> {
+        let mut output = vec![7; label.len() + 8 * self.words.len()];
+        match self.save(label, &mut output) {
+            Reply::Number(length) => output[..length as usize].to_vec(),
+            other => panic!("a writer answers {other:?}"),
         }
     }
 

@@ -1,5 +1,7 @@
 //! The script language: one call a line.
 
+mod catalogue;
+
 use crate::common::List;
 use reading::{well_formed, Call, Reply};
 
@@ -8,6 +10,8 @@ pub struct Script {
     words: Vec<u64>,
     /// The list as `keep` found it; the empty one before.
     kept: Vec<u64>,
+    /// The file that was last written; the empty one before.
+    pub file: Vec<u8>,
 }
 
 /// "Numbers are decimal (a negative one stands for its two's complement word) or 0x hex".
@@ -32,7 +36,8 @@ impl Script {
     /// The answer that a line prints.
     pub fn run(&mut self, line: &str) -> String {
         let (call, rest) = line.split_once(' ').unwrap_or((line, ""));
-        self.on_the_list(call, rest).or_else(|| self.call(call, rest)).unwrap_or_else(|| format!("? {line}"))
+        let answer = self.on_the_list(call, rest).or_else(|| self.on_the_file(call, rest)).or_else(|| self.call(call, rest));
+        answer.unwrap_or_else(|| format!("? {line}"))
     }
 
     /// The lines that are no calls on types.
@@ -95,9 +100,7 @@ impl Script {
 
     fn reply(&mut self, call: &Call, length: u64) -> Option<String> {
         let mut output = vec![7777; length as usize];
-        let mut list = List { words: std::mem::take(&mut self.words) };
-        let reply = list.call_with(call, &mut output);
-        self.words = list.words;
+        let reply = self.on_words(|list| list.call_with(call, &mut output));
         Some(match reply {
             Reply::Refused(row) => format!("-{row}"),
             Reply::Done => "ok".to_string(),
@@ -113,6 +116,14 @@ impl Script {
             Reply::Searched(Some(handle), count) => format!("{handle} {count}"),
             Reply::Searched(None, count) => format!("absent {count}"),
         })
+    }
+
+    /// The words as a list that checks what a call must keep.
+    fn on_words(&mut self, call: impl FnOnce(&mut List) -> Reply) -> Reply {
+        let mut list = List { words: std::mem::take(&mut self.words) };
+        let reply = call(&mut list);
+        self.words = list.words;
+        reply
     }
 }
 

@@ -95,6 +95,11 @@ comment. Numbers are decimal, a negative one for its two's complement word, or
 fields, four numbers each: name, type, alias, final; of find_entry they are an
 entry's words, its head first. A line has fewer than 262,144 bytes.
 
+A file is a store's label, its words from 94 on, eight bytes each, and two
+words more: where they start, and how many they are. save prints its length,
+and then all OUTLEN bytes, which hold 77 where nothing was written; the file is
+kept. load and reload tell the label's length. 'catalogue' shows files.
+
 ";
 
 pub fn script() -> String {

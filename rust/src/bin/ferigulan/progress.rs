@@ -1,5 +1,5 @@
 //! How far a long run is, on standard error: only where that is a terminal and the answers go elsewhere.
-use crate::spell::grouped;
+use crate::spelling::grouped;
 use std::io::{self, IsTerminal, Write};
 use std::time::{Duration, Instant};
 

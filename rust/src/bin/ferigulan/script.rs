@@ -1,6 +1,6 @@
 //! A script of calls: its lines, and the words, numbers and texts of a line, read just as the program `calls` reads them.
 use crate::names;
-use crate::spell::grouped;
+use crate::spelling::grouped;
 use std::io::{self, BufRead, BufReader, Read};
 
 /// A line of this many bytes, its end not counted, is too long to be one. It also bounds the numbers and the bytes of a text in a line.
@@ -79,7 +79,7 @@ fn cut(line: &[u8]) -> usize {
 /// How many numbers stand before the text, for the calls that take one.
 fn numbers_before_text(name: &[u8]) -> Option<usize> {
     match name {
-        b"str" => Some(0),
+        b"str" | b"load" | b"fadd" => Some(0),
         b"ary" => Some(4),
         _ => None,
     }
@@ -91,6 +91,9 @@ fn words(call: &[u8], numbers: &mut Vec<u64>, text: &mut Vec<u8>) -> Result<(), 
         [.., b'\r'] => return Err("the line ends in a carriage return".to_string()),
         _ => (),
     }
+    if name(call) == b"save" {
+        return save_words(call, numbers, text);
+    }
     let before = numbers_before_text(name(call));
     let most = before.map_or(usize::MAX, |k| k + 2);
     let mut words = call.splitn(most, |byte| *byte == b' ').skip(1);
@@ -101,6 +104,21 @@ fn words(call: &[u8], numbers: &mut Vec<u64>, text: &mut Vec<u8>) -> Result<(), 
         Some(word) => read_text(word, text).ok_or_else(|| no_text(word)),
         None => Ok(()),
     }
+}
+
+/// The words of `save`: a number, and before it a text where there are two.
+fn save_words(call: &[u8], numbers: &mut Vec<u64>, text: &mut Vec<u8>) -> Result<(), String> {
+    let words: Vec<&[u8]> = call.split(|byte| *byte == b' ').skip(1).collect();
+    let (label, length) = match words[..] {
+        [length] => (None, length),
+        [label, length] => (Some(label), length),
+        _ => return Ok(()),
+    };
+    if let Some(label) = label {
+        read_text(label, text).ok_or_else(|| no_text(label))?;
+    }
+    numbers.push(number(length).ok_or_else(|| no_number(length))?);
+    Ok(())
 }
 
 /// The number that a word says: decimal digits; `-` before them for the two's complement; `0x` before hex digits.

@@ -1,25 +1,28 @@
 //! A run of a script: the list that it lends to calls, and the lines about that list itself.
+use crate::kept::Kept;
 use crate::page::Page;
 use crate::script::{Line, Said, Script};
-use crate::spell::{grouped, Answer};
+use crate::spell::Answer;
+use crate::spelling::grouped;
 use crate::table::{self, Lent, Usage};
 use crate::wrong::LONGEST;
 use crate::{usage, Failure};
-use ferigulan::{calls, index_len, memory_len, OpenedStore, Store};
+use ferigulan::{calls, index_len, memory_len, OpenedStore, Store, LONGEST_FILE};
 use std::io::Read;
 
-/// How many words a list and an output may have.
+/// How many words a list and an output may have, and how many bytes a file.
 #[derive(Clone, Copy)]
 pub struct Limits {
     pub words: u64,
     pub output: u64,
+    pub file: u64,
 }
 
 /// The room that the program `calls` has.
-pub const SHORT: Limits = Limits { words: 65_536, output: 4_096 };
+pub const SHORT: Limits = Limits { words: 65_536, output: 4_096, file: 65_536 };
 
 /// As many words as a store may have.
-pub const LONG: Limits = Limits { words: LONGEST as u64, output: LONGEST as u64 };
+pub const LONG: Limits = Limits { words: LONGEST as u64, output: LONGEST as u64, file: LONGEST_FILE as u64 };
 
 /// The lines about the list.
 pub const LINES: &[Usage] = &[
@@ -35,8 +38,16 @@ pub const LINES: &[Usage] = &[
     Usage { name: "find_entry", arguments: "W..", call: "find_entry", does: "looks for an entry by its words" },
     Usage { name: "keep", arguments: "", call: "", does: "remembers the list, all its words" },
     Usage { name: "kept", arguments: "", call: "", does: "whether the list is as it was then" },
+    Usage { name: "save", arguments: "OUTLEN", call: "", does: "the store's file, into OUTLEN bytes; kept" },
+    Usage { name: "save", arguments: "HEX OUTLEN", call: "save", does: "the same with a label" },
+    Usage { name: "load", arguments: "HEX", call: "load", does: "fills the list from a file's bytes" },
+    Usage { name: "reload", arguments: "", call: "", does: "fills the list from the kept file" },
+    Usage { name: "file", arguments: "", call: "", does: "the kept file" },
+    Usage { name: "fadd", arguments: "HEX", call: "", does: "adds bytes to its end" },
+    Usage { name: "fpoke", arguments: "I B", call: "", does: "sets its byte I to B" },
+    Usage { name: "fcut", arguments: "N", call: "", does: "cuts it to at most N bytes" },
     Usage { name: "open", arguments: "", call: "open", does: "opens the store: the same answers, sooner" },
-    Usage { name: "close", arguments: "", call: "", does: "closes it; so do poke, list and fresh" },
+    Usage { name: "close", arguments: "", call: "", does: "closes it; so do poke, list, fresh and load" },
 ];
 
 /// What a line gives: nothing where it is empty, an answer, or why it is no call.
@@ -54,13 +65,13 @@ pub struct Session {
     memory: Vec<u64>,
     /// Lent to a call that fills one.
     output: Vec<u64>,
-    /// The list as it is remembered: the empty one, with which a script begins, until it says otherwise.
-    kept: Vec<u64>,
+    kept: Kept,
 }
 
 impl Session {
     pub fn new(limits: Limits) -> Session {
-        Session { limits, words: Vec::new(), index: Vec::new(), memory: Vec::new(), output: Vec::new(), kept: Vec::new() }
+        let kept = Kept::new(limits.file);
+        Session { limits, words: Vec::new(), index: Vec::new(), memory: Vec::new(), output: Vec::new(), kept }
     }
 
     /// Runs a script to its end.
@@ -107,10 +118,10 @@ impl Session {
 
     /// Answers a line on the list as it is, the plain way.
     fn answer(&mut self, said: Said, text: &[u8]) -> Result<Option<Answer>, String> {
-        if let Some(answer) = self.change(said)? {
+        if let Some(answer) = self.change(said, text)? {
             return Ok(Some(answer));
         }
-        if let Some(answer) = look(&self.words, said, &mut self.kept)? {
+        if let Some(answer) = look(&self.words, said, text, &mut self.kept)? {
             return Ok(Some(answer));
         }
         let mut lent = Lent { text, output: &mut self.output, most_output: self.limits.output };
@@ -118,7 +129,7 @@ impl Session {
     }
 
     /// The lines that write the list by themselves.
-    fn change(&mut self, said: Said) -> Result<Option<Answer>, String> {
+    fn change(&mut self, said: Said, text: &[u8]) -> Result<Option<Answer>, String> {
         match said {
             ("list", &[n]) => self.list(n, 0)?,
             ("list", &[n, value]) => self.list(n, value)?,
@@ -131,6 +142,8 @@ impl Session {
                 let at = place(&self.words, i)?;
                 self.words[at] = value;
             }
+            ("load", []) => return self.kept.load(&mut self.words, Some(text)).map(Some),
+            ("reload", []) => return self.kept.load(&mut self.words, None).map(Some),
             ("close", []) => (),
             _ => return Ok(None),
         }
@@ -176,19 +189,22 @@ fn reply(line: &Line, answer: impl FnOnce(Said) -> Result<Option<Answer>, String
 
 /// Whether an opened store is one no longer at this line.
 fn ends_opened(line: &Line) -> bool {
-    matches!(line.said(), Ok(Some(("list", [_] | [_, _]) | ("fresh", [] | [_]) | ("poke", [_, _]) | ("open" | "close", []))))
+    matches!(
+        line.said(),
+        Ok(Some(("list", [_] | [_, _]) | ("fresh", [] | [_]) | ("poke", [_, _]) | ("open" | "close" | "load" | "reload", [])))
+    )
 }
 
 /// Answers a line on an opened store.
-fn answer_opened(store: &mut OpenedStore, said: Said, lent: &mut Lent, kept: &mut Vec<u64>) -> Result<Option<Answer>, String> {
-    if let Some(answer) = look(store.words(), said, kept)? {
+fn answer_opened(store: &mut OpenedStore, said: Said, lent: &mut Lent, kept: &mut Kept) -> Result<Option<Answer>, String> {
+    if let Some(answer) = look(store.words(), said, lent.text, kept)? {
         return Ok(Some(answer));
     }
     table::opened(store, said.0, said.1, lent)
 }
 
-/// The lines that read the list.
-fn look(words: &[u64], said: Said, kept: &mut Vec<u64>) -> Result<Option<Answer>, String> {
+/// The lines that read the list, and those about what is kept.
+fn look(words: &[u64], said: Said, text: &[u8], kept: &mut Kept) -> Result<Option<Answer>, String> {
     Ok(Some(match said {
         ("peek", &[i]) => Answer::Number(words[place(words, i)?]),
         ("dump", []) => Answer::Used,
@@ -196,12 +212,7 @@ fn look(words: &[u64], said: Said, kept: &mut Vec<u64>) -> Result<Option<Answer>
         ("check", []) => Answer::Flag(calls::well_formed(words)),
         // an entry has a word at least, its head
         ("find_entry", entry @ [_, ..]) => calls::find_entry(words, entry).map_or_else(Answer::Refused, Answer::Search),
-        ("keep", []) => {
-            words.clone_into(kept);
-            Answer::Accepted
-        }
-        ("kept", []) => Answer::Flag(words == kept),
-        _ => return Ok(None),
+        _ => return kept.answer(words, said, text),
     }))
 }
 

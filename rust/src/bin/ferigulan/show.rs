@@ -1,9 +1,7 @@
 //! A dumped store as a list of its entries. That the words are well formed is the library's answer (row 1); the rest is for people, and
 //! outside what is proved.
-use crate::entries::{kind_name, Entry};
-use crate::readable::readable;
+use crate::rows::{columns, title};
 use crate::script::{number, shown};
-use crate::spell::row;
 use crate::walk::{walk, Step};
 use crate::wrong::{fresh_words, in_list, used, SHORTEST};
 use crate::Failure;
@@ -80,7 +78,7 @@ fn wrong_in_list(words: &[u64], out: &mut impl Write) -> io::Result<()> {
 
 /// The entries from a handle on, up to the first that cannot be read; below each what is wrong with it.
 fn rows(words: &[u64], from: u64, out: &mut impl Write) -> io::Result<()> {
-    writeln!(out, "{:>7}  {:<6}  {:>5}  {:>3}  {:<32}  words after the head", "handle", "kind", "depth", "n", "type")?;
+    writeln!(out, "{}", title())?;
     for Step { entry, wrong, is_sound } in walk(words) {
         if let Some(entry) = entry.filter(|entry| entry.handle >= from) {
             writeln!(out, "{}", columns(words, &entry, is_sound))?;
@@ -91,12 +89,4 @@ fn rows(words: &[u64], from: u64, out: &mut impl Write) -> io::Result<()> {
         }
     }
     Ok(())
-}
-
-/// An entry, with its type if no part of it is wrong.
-fn columns(words: &[u64], entry: &Entry, is_sound: bool) -> String {
-    let ty = if is_sound { readable(words, entry.handle) } else { "?".to_string() };
-    let after = row(entry.words);
-    let columns = format!("{:>7}  {:<6}  {:>5}  {:>3}  {ty:<32}  {after}", entry.handle, kind_name(entry.kind), entry.depth, entry.n);
-    columns.trim_end().to_string()
 }

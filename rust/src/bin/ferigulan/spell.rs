@@ -1,9 +1,10 @@
 //! Answers: as the program `calls` prints them, and what they mean to a reader.
 use crate::entries::kind_name;
+use crate::names::quoted;
 use crate::readable::{constant, float_size, readable};
+use crate::spelling::{grouped, hex, row};
 use crate::wrong::used;
-use ferigulan::{Handle, Kind, Reading, Refusal, Search};
-use std::fmt::Write;
+use ferigulan::{Handle, Kind, Reading, Refusal, Search, LONGEST_LABEL};
 
 /// What a line of the script answers.
 pub enum Answer {
@@ -24,6 +25,12 @@ pub enum Answer {
     Search(Search),
     /// How many words of the output were filled.
     Filled(usize),
+    /// How long the file is that was written, and all bytes of its output.
+    Saved(usize, Vec<u8>),
+    /// The label of the file that was loaded.
+    Loaded(Vec<u8>),
+    /// The kept file.
+    File(Vec<u8>),
     /// The used words of the list.
     Used,
     /// All words of the list.
@@ -65,6 +72,9 @@ impl Answer {
             Answer::Search(Search { handle: None, count }) => format!("absent {count}"),
             Answer::Filled(n) if output.is_empty() => format!("{n} :"),
             Answer::Filled(n) => format!("{n} : {}", row(output)),
+            Answer::Saved(n, output) => format!("{n} : {}", hex(output)),
+            Answer::Loaded(label) => label.len().to_string(),
+            Answer::File(bytes) => hex(bytes),
             Answer::Used => row(&words[..used(words)]),
             Answer::All => row(words),
         }
@@ -87,8 +97,9 @@ impl Answer {
                 format!("{}, with {}", readable(words, handle.word()), compared(*count))
             }
             Answer::Search(Search { handle: None, count }) => compared(*count),
+            Answer::Loaded(label) => format!("the label {}; {} words used", quoted(label, LONGEST_LABEL), used(words)),
             Answer::Accepted | Answer::Number(_) | Answer::Signed(_) | Answer::Absent => String::new(),
-            Answer::Filled(_) | Answer::Used | Answer::All => String::new(),
+            Answer::Filled(_) | Answer::Saved(..) | Answer::File(_) | Answer::Used | Answer::All => String::new(),
         }
     }
 }
@@ -97,22 +108,4 @@ impl Answer {
 fn compared(count: u64) -> String {
     let entries = if count == 1 { "entry" } else { "entries" };
     format!("{} {entries} not passed over", grouped(count))
-}
-
-/// Words in a row, a space between two.
-pub fn row(words: &[u64]) -> String {
-    let mut out = String::new();
-    for (i, word) in words.iter().enumerate() {
-        let space = if i > 0 { " " } else { "" };
-        let _ = write!(out, "{space}{word}");
-    }
-    out
-}
-
-/// A number with a comma after each thousand.
-pub fn grouped(n: u64) -> String {
-    if n < 1000 {
-        return n.to_string();
-    }
-    format!("{},{:03}", grouped(n / 1000), n % 1000)
 }

@@ -1,6 +1,7 @@
 //! The lines that are calls: each with its numbers, the call of the library, and how it answers.
 use crate::script::LONGEST;
-use crate::spell::{self, grouped, Answer};
+use crate::spell::{self, Answer};
+use crate::spelling::grouped;
 use ferigulan::{calls, Handle, OpenedStore};
 
 /// A line as it is written, and the library's call.

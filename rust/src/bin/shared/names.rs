@@ -41,12 +41,17 @@ fn printed(c: char, also: &[char]) -> String {
         out.push(c);
     } else if c.is_ascii_control() {
         let _ = write!(out, "\\x{:02x}", u32::from(c));
-    } else if c.is_ascii() || c.escape_debug().count() == 1 {
+    } else if is_printed(c) {
         out.push(c);
     } else {
         out.extend(c.escape_unicode());
     }
     out
+}
+
+/// Whether a terminal shows a character as it stands.
+pub fn is_printed(c: char) -> bool {
+    !c.is_ascii_control() && (c.is_ascii() || c.escape_debug().count() == 1)
 }
 
 /// A name by itself, between quotes.

@@ -1,7 +1,7 @@
 //! What is wrong with words that are not well formed, in document 01's words. The verdict itself is the library's (row 1); this says why,
 //! and is outside what is proved.
 use crate::entries::{counts, kind_name, Entry};
-use crate::spell::grouped;
+use crate::spelling::grouped;
 use ferigulan::{calls, Kind};
 use std::fmt;
 
@@ -13,8 +13,8 @@ const LARGEST_ALIAS: u64 = 4_294_967_295;
 
 /// What is wrong, and at which word if it is one.
 pub struct Wrong {
-    at: Option<usize>,
-    what: String,
+    pub at: Option<usize>,
+    pub what: String,
 }
 
 impl fmt::Display for Wrong {

@@ -1,0 +1,4 @@
+pub mod Longer
+pub mod Small
+pub mod Accepted
+pub mod Round
