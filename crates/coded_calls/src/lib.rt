@@ -6,7 +6,8 @@ ghost use mathlib.Core.Path.{_≡_};
 ghost use mathlib.Core.List.{[]};
 ghost use lib.ListN.{length};
 ghost use Rattle.makers.specs.Makers.{freshCall};
-ghost use Rattle.every_call.specs.Run.{run, meet-list};
+ghost use Rattle.every_call.specs.Run.{run, meet-list, save};
+ghost use Rattle.catalogue.specs.Catalogue.{saveOutput, loadCall};
 ghost use Rattle.making.specs.Making.{appended};
 ghost use Rattle.asking.specs.Asking.{askedFilling, asked, outputOf};
 ghost use Rattle.opened.specs.OpenStore.{OpenStore, openReply};
@@ -46,6 +47,21 @@ pub fn fill(words: &[u64], filling: Filling, s: u64, output: &mut [u64], answer:
     ensures { λ _. ⌜ now (output .exit) ≡ outputOf filling s (now (words .entry)) (now (output .entry)) ⌝ }
 {
     codes::of_answer(plain::fill(&*words, filling, s, output), answer)
+}
+
+// The writer of a saved catalogue; its answer is the file's length.
+pub fn save(words: &[u64], label: &[u8], file: &mut [u8], answer: &mut u64) -> u32
+    ensures { λ r. ⌜ Coded (run (save (now (label .entry)) (length (now (file .entry)))) (now (words .entry))) r (now (words .entry)) (now (answer .entry)) (now (answer .exit)) ⌝ }
+    ensures { λ _. ⌜ now (file .exit) ≡ saveOutput (now (label .entry)) (now (words .entry)) (now (file .entry)) ⌝ }
+{
+    codes::of_answer(catalogue::save(&*words, &*label, file), answer)
+}
+
+// The loader; its answer is the label's length.
+pub fn load(words: &mut [u64], file: &[u8], answer: &mut u64) -> u32
+    ensures { λ r. ⌜ Coded (loadCall (now (file .entry)) (now (words .entry))) r (now (words .exit)) (now (answer .entry)) (now (answer .exit)) ⌝ }
+{
+    codes::of_answer(catalogue::load(words, &*file), answer)
 }
 
 pub fn fresh(words: &mut [u64]) -> u32

@@ -1,4 +1,4 @@
--- Demand 3, the theorem: every list of calls from every fresh store has the laws of specs/Demand3.antt. Assumes nothing.
+-- Demand 3, the theorem: every list of calls from every fresh store, and from every loaded one, has the laws of specs/Demand3.antt. Assumes nothing.
 use mathlib.Core.Path.{_≡_, refl, sym, ap, _∙_}
 use mathlib.Core.Logic.{_⊎_, inl, inr, ⊎-elim, ⊎-map, _↔_}
 use mathlib.Core.Bool.{Bool, true, false}
@@ -15,7 +15,6 @@ use Rattle.wellformed.specs.Entry.{all}
 use Rattle.call.specs.Handles.{typesRows}
 use Rattle.words.specs.Columns.{kindOn}
 use Rattle.call.specs.Adds.{Adds}
-use Rattle.makers.specs.Makers.{freshCall}
 use Rattle.parts.specs.Parts.{Good, All}
 use Rattle.parts.proofs.Good.{well-good, good-adds, part-below, Answers}
 use Rattle.meet.specs.Meet.{meetOf, isaOf}
@@ -44,7 +43,7 @@ use Rattle.meaning.proofs.ReadOnly.{ro-above}
 use Rattle.meaning.proofs.Joins.{join-right}
 use Rattle.every_call.specs.Run.{Call, meet, meet-list, isa, join, dual, glb, lub, make-ro, run, allTyped}
 use Rattle.demand3.specs.Demand3.{reaches, leaves, Gave, finalWords, Isa, Plain, In, Bracketing, Bracketings, single, pair, whole, none, more, Member, Members, AllPlain, SameSet, Empty, Laws, Demand3}
-use Rattle.demand3.proofs.Runs.{Store, Later, fresh-store, leaves-store, gave-at}
+use Rattle.demand3.proofs.Runs.{Store, Later, start-store, leaves-store, gave-at}
 use Rattle.demand3.proofs.Accepted.{accepted}
 use Rattle.demand3.proofs.Reaching.{no-mem, no-fre}
 use Rattle.demand3.proofs.Lists.{Among, top-tree, list-bound}
@@ -421,4 +420,4 @@ module _ (cs : List Call) (typed : allTyped cs ≡ true) (ws : List ℕ) (s : St
 
 -- the calls are what the functions' contracts say
 pub demand3 : Demand3
-demand3 ws ok cs typed = laws cs typed (freshCall ws .words) (fresh-store ws ok)
+demand3 ws start cs typed = laws cs typed ws (start-store ws start)

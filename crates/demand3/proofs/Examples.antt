@@ -81,7 +81,7 @@ back x = ⊎-elim (λ e. inr e) (λ e. inl e)
 -- the theorem on this list says of the two bracketings what they compute to
 pub agree : _≡_ {A = ℕ} 100 100
 unfolding one other freshCall
-agree = demand3 lent refl calls calls-typed .meets-agree one other (λ x i. ⊎-elim (λ (e : x ≡ 94). rw e (computed .5)) (λ (e : x ≡ 97). rw e (computed .6)) i) (λ x. (turned x, back x))
+agree = demand3 start (inl (lent, refl, refl)) calls calls-typed .meets-agree one other (λ x i. ⊎-elim (λ (e : x ≡ 94). rw e (computed .5)) (λ (e : x ≡ 97). rw e (computed .6)) i) (λ x. (turned x, back x))
 
 -- ---- "0..7 join 4..9 = 4..7": 0..7 is 94, 4..9 is 97, and 4..7 is 109 in both orders, behind the two duals and their meet; "dual of 88 = 91"; the lub of 88 is 85, whose glb is 88
 
@@ -116,7 +116,7 @@ others-plain = (
 pub others-hold : Isa run others start 109 94 × (_≡_ {A = ℕ} 88 88) × Isa run others start 85 88 × Isa run others start 85 88
 unfolding freshCall
 others-hold =
-    let laws = demand3 lent refl others others-typed in
+    let laws = demand3 start (inl (lent, refl, refl)) others others-typed in
     let p : Bracketing run others start join 109 = pair (single 94) (single 97) (others-gave .0) in (
       laws .joins-below p (λ x i. ⊎-elim (λ (e : x ≡ 94). rw e (others-plain .0)) (λ (e : x ≡ 97). rw e (others-plain .1)) i) 94 (inl refl),
       laws .dual-back 88 91 88 (others-plain .2) (others-gave .2) (others-gave .3),
@@ -142,7 +142,7 @@ finals-gave = (inr (inr (inl (refl, refl))), record { type = refl; memory = refl
 
 pub finals-hold : Isa run finals start 96 101
 unfolding freshCall
-finals-hold = demand3 lent refl finals finals-typed .read-only-above 96 101 (finals-gave .1) (finals-gave .0)
+finals-hold = demand3 start (inl (lent, refl, refl)) finals finals-typed .read-only-above 96 101 (finals-gave .1) (finals-gave .0)
 
 -- ---- a meet that keeps its first argument has not the laws
 

@@ -1,8 +1,8 @@
--- What every list of calls keeps, from a fresh store on: the store is well formed, no two of its entries are equal, the ends of its Ints are
+-- What every list of calls keeps, from a fresh or a loaded store on: the store is well formed, no two of its entries are equal, the ends of its Ints are
 -- 64-bit words, and what stood in its table still stands. Assumes nothing.
 use mathlib.Core.Path.{_≡_, sym, _∙_}
 use mathlib.Core.Bool.{true}
-use mathlib.Core.Logic.{⊎-elim}
+use mathlib.Core.Logic.{_⊎_, ⊎-elim}
 use mathlib.Core.List.{List, [], _∷_, _++_, append-nil, append-assoc}
 use Prim.Native.Nat.{ℕ}
 use borrow.Author.Tests.{leb-true}
@@ -11,13 +11,16 @@ use lib.ListN.{length}
 use Rattle.words.specs.Table.{Row, entries, Own}
 use Rattle.wellformed.specs.Form.{rightLength, wellFormed, usedWords}
 use Rattle.wellformed.proofs.Bools.{and-left, and-right}
-use Rattle.call.specs.Call.{handle}
+use Rattle.call.specs.Call.{handle, number}
 use Rattle.call.specs.Keep.{Ends}
 use Rattle.makers.specs.Makers.{freshCall}
 use Rattle.kept.proofs.Fresh.{fresh-call, fresh-own, fresh-ends}
+use Rattle.catalogue.specs.Catalogue.{loadCall}
+use Rattle.loaded.specs.Loaded.{AreBytes}
+use Rattle.loaded.proofs.Round.{just-saved, taken-ends}
 use Rattle.every_call.specs.Run.{Call, run, typed, allTyped}
 use Rattle.every_call.proofs.Keeps.{run-keeps}
-use Rattle.demand3.specs.Demand3.{leaves, Gave}
+use Rattle.demand3.specs.Demand3.{leaves, Gave, FreshStore, LoadedStore}
 
 -- ---- the stores that calls make from a fresh one
 
@@ -33,6 +36,20 @@ fresh-store ws ok =
     let low = leb-true _ _ (and-left (leb 94 (length ws)) (leb (length ws) 1048576) ok) in
     let high = leb-true _ _ (and-right (leb 94 (length ws)) (leb (length ws) 1048576) ok) in
     record { well = fresh-call ws low high; own = rw ok (fresh-own (length ws)); ends = rw ok (fresh-ends (length ws)) }
+
+-- what an accepted load leaves
+pub loaded-store : (f ws : List ℕ) (l : ℕ) → AreBytes f → loadCall f ws .reply ≡ number l → Store (loadCall f ws .words)
+loaded-store f ws l bytes took =
+    let k = just-saved f ws l bytes took in
+    record { well = k .well; own = k .own; ends = taken-ends f ws l k }
+
+-- so a list starts from a store
+pub start-store : (ws : List ℕ) → FreshStore ws ⊎ LoadedStore ws → Store ws
+start-store ws start =
+    ⊎-elim
+    (λ (a : FreshStore ws). rw (a .2) (fresh-store (a .0) (a .1)))
+    (λ (b : LoadedStore ws). rw (b .5) (loaded-store (b .0) (b .1) (b .2) (b .3) (b .4)))
+    start
 
 pub run-store : (c : Call) → typed c ≡ true → (ws : List ℕ) → Store ws → Store (run c ws .words)
 run-store c t ws s =

@@ -171,7 +171,7 @@ regrouped x = (
 )
 
 laws : Laws run calls start
-laws = demand3 lent refl calls calls-typed
+laws = demand3 start (inl (lent, refl, refl)) calls calls-typed
 
 -- ---- meets
 

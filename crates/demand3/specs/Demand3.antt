@@ -1,7 +1,7 @@
--- Demand 3: the laws of every list of calls from a fresh store. The statement is `Demand3`, at the end; proofs/Demand3.antt proves it. `Call` and `run` (every_call/specs/Run.antt) are
+-- Demand 3: the laws of every list of calls from a fresh store, or from a loaded one. The statement is `Demand3`, at the end; proofs/Demand3.antt proves it. `Call` and `run` (every_call/specs/Run.antt) are
 -- those that the contracts of the functions cite: "the makers of `Types`, meet, isa, dual, join, glb, lub, is_final and make_ro .. Each other call that takes a store joins the list when it
 -- lands".
--- The quoted words are document 01's, "Demand 3's list", unless another place is named. The merge of a whole list is document 02's Slip 1.
+-- The quoted words are document 01's, "Demand 3's list", unless another place is named. The merge of a whole list is document 02's Slip 1, a loaded store its Slip 3.
 use mathlib.Core.Path.{_≡_}
 use mathlib.Core.Bool.{Bool, true, false, _||_}
 use mathlib.Core.Logic.{_⊎_, _↔_}
@@ -13,10 +13,12 @@ use Rattle.words.specs.Kinds.{Fref, Mem}
 use Rattle.words.specs.Words.{sizeOf}
 use Rattle.wellformed.specs.Entry.{typesIn, all}
 use Rattle.wellformed.specs.Form.{rightLength, usedWords}
-use Rattle.call.specs.Call.{Outcome, handle, flag}
+use Rattle.call.specs.Call.{Outcome, handle, number, flag}
 use Rattle.call.specs.Handles.{typesRows}
 use Rattle.words.specs.Columns.{word, kindOn}
 use Rattle.makers.specs.Makers.{freshCall}
+use Rattle.catalogue.specs.Catalogue.{loadCall}
+use Rattle.loaded.specs.Loaded.{AreBytes}
 use Rattle.every_call.specs.Run.{Call, meet, meet-list, isa, join, dual, glb, lub, make-ro, run, allTyped}
 
 -- ---- reaching: "A type reaches its own kind and all that its parts reach". `u` is the used words.
@@ -134,7 +136,16 @@ module _ (does : Call → List ℕ → Outcome) where
       pub glb-above : (t h : ℕ) → Plain t → Gave cs ws (glb t) h → Isa t h
       pub read-only-above : (t h : ℕ) → Plain t → Gave cs ws (make-ro t) h → Isa t h
 
--- demand 3: "The list starts from a fresh store of any length row 1 allows". ws is the lent list that `fresh` fills, cs the calls, "with any arguments": the ends of an Int are 64-bit
--- words and a text is bytes, all else is any numbers at all.
+-- ---- where a list starts
+
+-- "The list starts from a fresh store of any length row 1 allows": ws is what `fresh` leaves in some lent list vs
+abbrev pub FreshStore : List ℕ → Type 0
+FreshStore ws = (vs : List ℕ) × (rightLength vs ≡ true) × (ws ≡ freshCall vs .words)
+
+-- document 02, Slip 3: "A loaded store counts as grown from a fresh one: demand 3's lists may start from it, and do not contain the load." ws is what an accepted load of the bytes f leaves in some lent list vs
+abbrev pub LoadedStore : List ℕ → Type 0
+LoadedStore ws = (f vs : List ℕ) × (l : ℕ) × AreBytes f × (loadCall f vs .reply ≡ number l) × (ws ≡ loadCall f vs .words)
+
+-- demand 3: of every list of calls cs, "with any arguments", from every such store. The ends of an Int are 64-bit words, and a text is bytes; all else is any numbers at all.
 abbrev pub Demand3 : Type 0
-Demand3 = (ws : List ℕ) → rightLength ws ≡ true → (cs : List Call) → allTyped cs ≡ true → Laws run cs (freshCall ws .words)
+Demand3 = (ws : List ℕ) → FreshStore ws ⊎ LoadedStore ws → (cs : List Call) → allTyped cs ≡ true → Laws run cs ws

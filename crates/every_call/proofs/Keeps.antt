@@ -31,7 +31,7 @@ use Rattle.finals.specs.Final.{isFinalOf}
 use Rattle.make_ro.specs.ReadOnly.{makeRoOf}
 use Rattle.make_ro.proofs.Nice.{make-ro-nice}
 use Rattle.every_call.specs.Ty.{meetCall, isaCall, walkCall, joinCall, isFinalCall, makeRoCall}
-use Rattle.every_call.specs.Run.{Call, kind, get-bool, get-int, make-int, get-float, make-float, get-tuple, get-str, get-struct, make-ary, make-struct-fref, get-mem-ptr, get-mem, meet, meet-list, isa, join, dual, glb, lub, is-final, make-ro, make-init, make-zero, non-zero, is-high, is-high-or-constant, is-constant, is-fref, log-size, int-min, int-max, int-value, int-mask, float-sz, float-is-f32, float-value, float-reading, struct-name, struct-fields, find, find-alias, is-ary, offset, offsets, ary-base, ary-scale, run, typed}
+use Rattle.every_call.specs.Run.{Call, kind, get-bool, get-int, make-int, get-float, make-float, get-tuple, get-str, get-struct, make-ary, make-struct-fref, get-mem-ptr, get-mem, meet, meet-list, isa, join, dual, glb, lub, is-final, make-ro, make-init, make-zero, non-zero, is-high, is-high-or-constant, is-constant, is-fref, log-size, int-min, int-max, int-value, int-mask, float-sz, float-is-f32, float-value, float-reading, struct-name, struct-fields, find, find-alias, is-ary, offset, offsets, ary-base, ary-scale, save, run, typed}
 use Rattle.every_call.proofs.Parts.{one-part, two-parts}
 use Rattle.every_call.proofs.MeetList.{meet-list-keeps}
 use Rattle.every_call.proofs.NonZero.{non-zero-keeps}
@@ -129,3 +129,4 @@ run-keeps (offset s i) k = ask-keeps _ _
 run-keeps (offsets s n) k = ask-keeps _ _
 run-keeps (ary-base s) k = ask-keeps _ _
 run-keeps (ary-scale s) k = ask-keeps _ _
+run-keeps (save label n) k = ask-keeps _ _

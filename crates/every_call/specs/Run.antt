@@ -7,6 +7,7 @@ use lib.Dec.{ltb}
 use Rattle.wellformed.specs.Entry.{all}
 use Rattle.call.specs.Call.{Outcome}
 use Rattle.makers.specs.Makers.{kindCall, getBoolCall, getIntCall, makeIntCall, getFloatCall, makeFloatCall, getTupleCall, getStrCall, getStructCall, makeAryCall, makeStructFrefCall, getMemPtrCall, getMemCall}
+use Rattle.catalogue.specs.Catalogue.{saveCall}
 use Rattle.every_call.specs.Ty.{meetCall, isaCall, joinCall, dualCall, glbCall, lubCall, isFinalCall, makeRoCall}
 use Rattle.every_call.specs.MeetList.{meetListCall}
 use Rattle.every_call.specs.Others.{makeInitCall, makeZeroCall, nonZeroCall, isHighCall, isHighOrConstantCall, isConstantCall, isFrefCall, logSizeCall, intMinCall, intMaxCall, intValueCall, intMaskCall, floatSzCall, floatIsF32Call, floatValueCall, floatReadingCall, structNameCall, structFieldsCall, findCall, findAliasCall, isAryCall, offsetCall, offsetsCall, aryBaseCall, aryScaleCall}
@@ -61,6 +62,8 @@ pub data Call : Type 0 where
   offsets : ℕ → ℕ → Call
   ary-base : ℕ → Call
   ary-scale : ℕ → Call
+  -- document 02, Slip 3: the writer, with a label, for an output of so many bytes
+  save : List ℕ → ℕ → Call
 
 -- what a call answers and leaves of the words; for meet what `merge` says, so that the laws of demand 3 can be asked of another meet too
 abbrev pub runWith : (ℕ → ℕ → List ℕ → Outcome) → Call → List ℕ → Outcome
@@ -111,6 +114,7 @@ runWith merge (offset s i) = offsetCall s i
 runWith merge (offsets s n) = offsetsCall s n
 runWith merge (ary-base s) = aryBaseCall s
 runWith merge (ary-scale s) = aryScaleCall s
+runWith merge (save label n) = saveCall label n
 
 -- "The laws are to be laws of demand 2's meet" ("The buyer's note"): the meet is the one that the contract of `ty::meet` cites
 abbrev pub run : Call → List ℕ → Outcome
@@ -122,11 +126,11 @@ run = runWith meetCall
 abbrev pub isWord : ℕ → Bool
 isWord n = ltb n (2 ^ 64)
 
--- "Only `get_str` and `make_ary` take bytes"
+-- "Only `get_str` and `make_ary` take bytes", and, with document 02, the writer, whose label is
 abbrev pub areBytes : List ℕ → Bool
 areBytes = all (λ b. ltb b 256)
 
--- the ends of an Int are words, and the elements of a text are bytes; all other numbers are any at all
+-- the ends of an Int are words, and the elements of a text and of a label are bytes; all other numbers are any at all
 abbrev pub typed : Call → Bool
 typed (kind h) = true
 typed (get-bool value) = true
@@ -175,6 +179,7 @@ typed (offset s i) = true
 typed (offsets s n) = true
 typed (ary-base s) = true
 typed (ary-scale s) = true
+typed (save label n) = areBytes label
 
 -- so of every call of a list
 unfoldable pub allTyped : List Call → Bool

@@ -15,8 +15,9 @@ ghost use Rattle.wellformed.specs.Form.{wellFormed};
 ghost use Rattle.entry_search.specs.EntrySearch.{entrySearch};
 ghost use Rattle.entry_search.specs.CodedSearch.{CodedSearch};
 ghost use Rattle.makers.specs.Makers.{freshCall};
+ghost use Rattle.catalogue.specs.Catalogue.{saveOutput, loadCall};
 ghost use Rattle.every_call.specs.Others.{structFieldsOutput, offsetsOutput};
-ghost use Rattle.every_call.specs.Run.{run, kind, get-bool, get-int, make-int, get-float, make-float, get-tuple, get-str, get-struct, make-ary, make-struct-fref, get-mem-ptr, get-mem, meet, meet-list, isa, dual, join, glb, lub, is-final, make-ro, make-init, make-zero, non-zero, is-high, is-high-or-constant, is-constant, is-fref, log-size, int-min, int-max, int-value, int-mask, float-sz, float-is-f32, float-value, float-reading, struct-name, struct-fields, find, find-alias, is-ary, offset, offsets, ary-base, ary-scale};
+ghost use Rattle.every_call.specs.Run.{run, kind, get-bool, get-int, make-int, get-float, make-float, get-tuple, get-str, get-struct, make-ary, make-struct-fref, get-mem-ptr, get-mem, meet, meet-list, isa, dual, join, glb, lub, is-final, make-ro, make-init, make-zero, non-zero, is-high, is-high-or-constant, is-constant, is-fref, log-size, int-min, int-max, int-value, int-mask, float-sz, float-is-f32, float-value, float-reading, struct-name, struct-fields, find, find-alias, is-ary, offset, offsets, ary-base, ary-scale, save};
 ghost use Rattle.opened.specs.OpenStore.{OpenStore, openReply};
 ghost use Rattle.codes.specs.Code.{status, CodedDone, Coded, CodedWhich, CodedOpening};
 
@@ -46,6 +47,28 @@ pub extern "C" fn ferigulan_fresh(words: &mut [u64]) -> u32
     ensures { λ r. ⌜ CodedDone (freshCall (now (words .entry))) r (now (words .exit)) ⌝ }
 {
     coded_calls::fresh(words)
+}
+
+// The writer of a saved catalogue. The file goes to the front of `file`, and its length to `answer`.
+#[no_mangle]
+pub extern "C" fn ferigulan_save(
+    words: &[u64],
+    label: &[u8],
+    file: &mut [u8],
+    answer: &mut u64,
+) -> u32
+    ensures { λ r. ⌜ Coded (run (save (now (label .entry)) (length (now (file .entry)))) (now (words .entry))) r (now (words .entry)) (now (answer .entry)) (now (answer .exit)) ⌝ }
+    ensures { λ _. ⌜ now (file .exit) ≡ saveOutput (now (label .entry)) (now (words .entry)) (now (file .entry)) ⌝ }
+{
+    coded_calls::save(&*words, &*label, file, answer)
+}
+
+// The loader, into words that may hold anything. The label's length goes to `answer`.
+#[no_mangle]
+pub extern "C" fn ferigulan_load(words: &mut [u64], file: &[u8], answer: &mut u64) -> u32
+    ensures { λ r. ⌜ Coded (loadCall (now (file .entry)) (now (words .entry))) r (now (words .exit)) (now (answer .entry)) (now (answer .exit)) ⌝ }
+{
+    coded_calls::load(words, &*file, answer)
 }
 
 #[no_mangle]

@@ -1,11 +1,9 @@
 -- A store in a longer list, with zeros behind it. Assumes nothing.
 use mathlib.Core.Path.{_≡_, refl, sym, ap, _∙_}
-use mathlib.Core.Bool.{Bool, true, false, _&&_}
+use mathlib.Core.Bool.{true}
 use mathlib.Core.List.{List, [], _∷_, _++_}
 use Prim.Native.Nat.{ℕ, zero, suc, _+_, _-_, _≤_, _<_}
 use native.Mathlib.Omega.{arith}
-use borrow.Author.Tests.{eqb-true}
-use lib.Dec.{eqb}
 use lib.ListN.{length, take, drop, getD, replicate, length-append, length-drop, length-replicate, take-append-drop, List·getD-append}
 use lib.Seq.{take-all, take-at, drop-at, drop-drop, getD-take, take-append-le, drop-append-le, length-take-le}
 use Rattle.words.specs.Table.{entries}
@@ -14,24 +12,16 @@ use Rattle.words.proofs.Walk.{take-slice}
 use Rattle.bitset.specs.Bitset.{nowhere}
 use Rattle.wellformed.specs.Fresh.{freshWords}
 use Rattle.wellformed.specs.Form.{allZero, wellFormed, usedWords, behindFresh}
-use Rattle.wellformed.proofs.Bools.{and-left, and-right}
 use Rattle.wellformed.proofs.Before.{Tests, tests, passes}
 use Rattle.wellformed.proofs.Tail.{fresh-length, behind-length, behind-used}
 use Rattle.call.proofs.Agree.{rows-same}
+use Rattle.call.proofs.Zeros.{all-zero}
 use Rattle.call.proofs.Sound.{in-used}
 
 zeros : (n : ℕ) → allZero (replicate n 0) ≡ true
 unfolding allZero
 zeros zero = refl
 zeros (suc n) = zeros n
-
--- a list of zeros
-pub zeros-are : (l : List ℕ) → allZero l ≡ true → l ≡ replicate (length l) 0
-unfolding allZero
-zeros-are [] h = refl
-zeros-are (x ∷ l) h =
-    let e : x ≡ 0 = eqb-true x 0 (and-left (eqb x 0) (allZero l) h) in
-    rw e (ap (λ (r : List ℕ). 0 ∷ r) (zeros-are l (and-right (eqb x 0) (allZero l) h)))
 
 module _ (ks : List ℕ) (j : ℕ) where
   used-longer : getD (behindFresh ks ++ replicate j 0) 0 0 ≡ length (behindFresh ks)
@@ -99,4 +89,4 @@ pub store-parts : (ws : List ℕ) → wellFormed ws ≡ true → ws ≡ usedWord
 store-parts ws ok =
     let t = tests ws ok in
     let n : length (drop (getD ws 0 0) ws) ≡ length ws - getD ws 0 0 = length-drop (getD ws 0 0) ws in
-    sym (take-append-drop (getD ws 0 0) ws) ∙ ap (λ (l : List ℕ). usedWords ws ++ l) (zeros-are (drop (getD ws 0 0) ws) (t .zeros) ∙ ap (λ (k : ℕ). replicate k 0) n)
+    sym (take-append-drop (getD ws 0 0) ws) ∙ ap (λ (l : List ℕ). usedWords ws ++ l) (all-zero (drop (getD ws 0 0) ws) (t .zeros) ∙ ap (λ (k : ℕ). replicate k 0) n)

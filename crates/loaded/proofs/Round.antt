@@ -25,7 +25,7 @@ use Rattle.catalogue_file.proofs.Spelled.{behind}
 use Rattle.catalogue_file.proofs.Read.{file-start, file-words, file-label, file-trailed, whole, label-length, written-so}
 use Rattle.catalogue.specs.Catalogue.{formsStore, loadRows, loadedStore, loadCall}
 use Rattle.loaded.specs.Loaded.{AreWords, AreBytes, RoundTrip, SameStore, Taken, JustSaved, EqualBytes}
-use Rattle.loaded.proofs.Longer.{used-words, any-length, used-behind, later-behind, store-parts}
+use Rattle.loaded.proofs.Longer.{used-words, length-longer, any-length, used-behind, later-behind, store-parts}
 use Rattle.loaded.proofs.Small.{below-take, loaded-small, small-ends}
 use Rattle.loaded.proofs.Accepted.{Took, took, Wrote, wrote}
 
@@ -118,6 +118,7 @@ just-saved f ws l bytes q =
     let d : laterWords (usedWords (loadCall f ws .words)) ≡ wordsIn f = ap laterWords u ∙ later-behind (wordsIn f) in
     let e : take l f ≡ labelIn f = ap (λ (i : ℕ). take i f) (k .label) in
     record {
+      long = rw (k .words) (omega (arith, length-longer (wordsIn f) (length ws - n), k .room));
       well = rw (k .words) (any-length (wordsIn f) (length ws - n) (a .0) m);
       own = rw u (own-is (entries (behindFresh (wordsIn f))) (a .1));
       small = rw (k .words) s;
@@ -133,8 +134,7 @@ taken-ends f ws l k = small-ends (usedWords (loadCall f ws .words)) (below-take 
 -- ---- equal files
 
 pub equal-bytes : EqualBytes
-equal-bytes ws vs label other sw sv ow ov short brief e =
-    (
-      sym (read-label ws label sw ow short) ∙ ap labelIn e ∙ read-label vs other sv ov brief,
-      sym (read-store ws label sw ow short) ∙ ap (λ (f : List ℕ). behindFresh (wordsIn f)) e ∙ read-store vs other sv ov brief,
-    )
+equal-bytes ws vs label other sw sv ow ov short brief e = (
+  sym (read-label ws label sw ow short) ∙ ap labelIn e ∙ read-label vs other sv ov brief,
+  sym (read-store ws label sw ow short) ∙ ap (λ (f : List ℕ). behindFresh (wordsIn f)) e ∙ read-store vs other sv ov brief,
+)

@@ -46,7 +46,7 @@ module _ (b : ℕ) (some : 0 < b) where
   pub below-drop : (n : ℕ) (l : List ℕ) → Below b l → Below b (drop n l)
   below-drop n l p i = rw (getD-drop n l i 0) (p (n + i))
 
-  tested : (l : List ℕ) → all (λ w. ltb w b) l ≡ true → Below b l
+  pub tested : (l : List ℕ) → all (λ w. ltb w b) l ≡ true → Below b l
   unfolding all
   tested [] h i = some
   tested (x ∷ l) h zero = ltb-true x b (and-left (ltb x b) (all (λ w. ltb w b) l) h)

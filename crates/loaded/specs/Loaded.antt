@@ -35,6 +35,7 @@ SameStore =
 
 -- what an accepted load of f into ws left: a store without two equal entries, of which the writer makes f, under f's first l bytes as the label
 pub record Taken (f ws : List ℕ) (l : ℕ) : Type 0 where
+  pub long : length (loadCall f ws .words) ≡ length ws
   pub well : wellFormed (loadCall f ws .words) ≡ true
   pub own : Own (entries (usedWords (loadCall f ws .words)))
   pub small : AreWords (loadCall f ws .words)

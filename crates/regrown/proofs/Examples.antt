@@ -2,7 +2,7 @@
 use mathlib.Core.Path.{_≡_, refl}
 use mathlib.Core.Bool.{true}
 use mathlib.Core.List.{List, [], _∷_, _++_, List·Memᴰ·head, Memᴰ·append-right}
-use Prim.Native.Nat.{ℕ}
+use Prim.Native.Nat.{ℕ, _^_}
 use native.Mathlib.Omega.{arith}
 use Rattle.words.specs.Words.{wordsAfter, sizeOf, fills, eqs}
 use Rattle.words.specs.Columns.{every}
@@ -13,7 +13,9 @@ use Rattle.bitset.specs.Bitset.{nowhere, also}
 use Rattle.wellformed.specs.Fresh.{freshWords}
 use Rattle.wellformed.specs.Entry.{mostOf, namesIn, typesIn, all, deepest, floatOk, zeroFilled, valuesOk, okEntry}
 use Rattle.wellformed.specs.Form.{allZero, headsAt, okRows, okEntries, wellFormed, usedWords}
-use Rattle.regrown.specs.Regrown.{areWords, GrownByCalls}
+use Rattle.loaded.specs.Loaded.{AreWords}
+use Rattle.loaded.proofs.Small.{tested}
+use Rattle.regrown.specs.Regrown.{GrownByCalls}
 use Rattle.regrown.proofs.Regrown.{grown-exactly}
 
 -- the fresh words and a Bot at 94
@@ -24,9 +26,9 @@ pub two-bots-well : wellFormed twoBots ≡ true
 unfolding wellFormed okEntries allZero freshWords eqs fills rows entries sizeOf wordsAfter okRows headsAt nowhere also okEntry mostOf every namesIn typesIn all deepest floatOk zeroFilled valuesOk
 two-bots-well = refl
 
-two-bots-words : areWords twoBots ≡ true
+two-bots-words : AreWords twoBots
 unfolding all freshWords
-two-bots-words = refl
+two-bots-words = tested (2 ^ 64) (omega arith) twoBots refl
 
 pub second-bot : GrownByCalls twoBots → ⊥
 unfolding entries rows sizeOf wordsAfter freshWords firstOf eqs

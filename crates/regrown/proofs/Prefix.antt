@@ -29,25 +29,11 @@ use Rattle.call.proofs.Agree.{heads-same, rows-behind, starts-only, and-starts}
 use Rattle.call.proofs.Sound.{in-used, start-used, make-adds}
 use Rattle.call.proofs.Keep.{well-sound, well-again, used-grown}
 use Rattle.parts.proofs.Good.{well-good}
-use Rattle.every_call.specs.Run.{Call, run, typed, isWord}
-use Rattle.regrown.specs.Regrown.{isMaker, areWords}
+use Rattle.every_call.specs.Run.{Call, run, typed}
+use Rattle.loaded.proofs.Small.{below-take, below-drop}
+use Rattle.regrown.specs.Regrown.{isMaker}
 use Rattle.regrown.proofs.Apart.{headsOf}
 use Rattle.regrown.proofs.Steps.{Maker, step}
-
--- ---- 64-bit words
-
-pub each-word : (ws : List ℕ) → areWords ws ≡ true → (i : ℕ) → word ws i < 2 ^ 64
-unfolding all
-each-word [] a i = omega arith
-each-word (w ∷ ws) a zero = ltb-true w (2 ^ 64) (and-left (isWord w) (areWords ws) a)
-each-word (w ∷ ws) a (suc i) = each-word ws (and-right (isWord w) (areWords ws) a) i
-
--- words of a part of them
-small-front : (n : ℕ) (l : List ℕ) → ((i : ℕ) → word l i < 2 ^ 64) → (i : ℕ) → word (take n l) i < 2 ^ 64
-small-front zero l small i = omega arith
-small-front (suc n) [] small i = omega arith
-small-front (suc n) (x ∷ l) small zero = small 0
-small-front (suc n) (x ∷ l) small (suc i) = small-front n l (λ j. small (suc j)) i
 
 -- ---- the store so far: well formed, as long as ws, and its used words are the first of ws, but for word 0
 
@@ -191,7 +177,7 @@ module _ (ws vs : List ℕ) (ok : wellFormed ws ≡ true) (r : Reached ws vs) (m
   g = make u₁ e₁
 
   e-small : (i : ℕ) → word e₁ i < 2 ^ 64
-  e-small = small-front (n ws vs ok r more) (drop (usedCount vs) ws) (λ i. rw (getD-drop (usedCount vs) ws i 0) (small (usedCount vs + i)))
+  e-small = below-take (2 ^ 64) (omega arith) (n ws vs ok r more) (drop (usedCount vs) ws) (below-drop (2 ^ 64) (omega arith) (usedCount vs) ws small)
 
   fitting : Fitting u₁ e₁
   fitting = record { sized = e-sized ws vs ok r more; ok = e-ok ws vs ok r more; ends = λ _ _. (e-small 1, e-small 2) }

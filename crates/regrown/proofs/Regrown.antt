@@ -17,13 +17,16 @@ use Rattle.wellformed.specs.Form.{wellFormed, usedCount, usedWords}
 use Rattle.wellformed.proofs.Before.{tests}
 use Rattle.wellformed.proofs.Bools.{and-both}
 use Rattle.call.proofs.Zeros.{all-zero}
+use Rattle.call.specs.Call.{Outcome}
 use Rattle.makers.specs.Makers.{freshStore, freshCall}
 use Rattle.kept.proofs.Fresh.{fresh-any}
 use Rattle.every_call.specs.Run.{Call, run, typed, allTyped}
+use Rattle.catalogue.specs.Catalogue.{loadCall}
+use Rattle.loaded.proofs.Round.{round, just-saved}
 use Rattle.demand3.specs.Demand3.{leaves}
 use Rattle.demand3.proofs.Runs.{Store, fresh-store, leaves-store}
-use Rattle.regrown.specs.Regrown.{isMaker, allMakers, Regrown, RegrownFrom, GrownExactly, Grows}
-use Rattle.regrown.proofs.Prefix.{each-word, Reached, onward}
+use Rattle.regrown.specs.Regrown.{isMaker, allMakers, Regrown, RegrownFrom, GrownExactly, TakesJust, Grows}
+use Rattle.regrown.proofs.Prefix.{Reached, onward}
 
 -- ---- the fresh store is where it begins
 
@@ -84,7 +87,7 @@ module _ (ws : List ℕ) (small : (i : ℕ) → word ws i < 2 ^ 64) (ok : wellFo
 -- ---- the theorem
 
 pub regrown : Regrown
-regrown ws words ok own = grows ws (each-word ws words) ok own (usedCount ws) (freshStore (length ws)) (omega arith) (fresh-reached ws ok)
+regrown ws words ok own = grows ws words ok own (usedCount ws) (freshStore (length ws)) (omega arith) (fresh-reached ws ok)
 
 pub regrown-from : RegrownFrom
 unfolding freshCall
@@ -102,4 +105,16 @@ grown-exactly ws words = (
       let t = tests ws (k .0) in
       let g = regrown-from ws ws refl words (k .0) (k .1) in
       (ws, rw (le-leb 94 (length ws) (t .least), le-leb (length ws) 1048576 (t .most)), g .0, g .1, g .3),
+)
+
+-- the loader's files, and the writer's
+pub takes-just : TakesJust
+takes-just f ws bytes right = (
+  λ t.
+      let k = just-saved f ws (t .0) bytes (t .1) in
+      let vs = loadCall f ws .words in
+      (vs, take (t .0) f, k .small, grown-exactly vs (k .small) .1 (k .well, k .own), omega (arith, k .label, k .short), omega (arith, tests vs (k .well) .within, k .long), sym (k .file)),
+  λ w.
+      let s = grown-exactly (w .0) (w .2) .0 (w .3) in
+      (length (w .1), rw (w .6) (ap (λ (o : Outcome). o .reply) (round (w .0) (w .1) (w .2) (s .0) (w .4) (s .1) ws right (w .5)))),
 )

@@ -25,7 +25,8 @@ use Rattle.wellformed.proofs.ByKind.{every-one}
 use Rattle.call.specs.Call.{call, _when_}
 use Rattle.call.specs.Handles.{headAround}
 use Rattle.parts.specs.Parts.{Good}
-use Rattle.names.specs.Name.{packed, nameEntry}
+use Rattle.source.specs.Packed.{packed}
+use Rattle.names.specs.Name.{nameEntry}
 use Rattle.makers.specs.Entries.{intEntry, storedSize, floatEntry, tupleEntry, frefEntry, pointerEntry, memoryEntry, fieldCount, fieldNames, fieldTypes, structEntry}
 use Rattle.makers.specs.Fit.{ValuesFit}
 use Rattle.makers.specs.Makers.{tupleRows, frefRows, partRows, structRows}

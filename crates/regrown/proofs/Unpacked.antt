@@ -11,7 +11,7 @@ use lib.Seq.{take-all, take-at, drop-at}
 use lib.Pow.{pow-add}
 use Rattle.wellformed.specs.Entry.{all}
 use Rattle.wellformed.proofs.Bools.{and-both}
-use Rattle.names.specs.Name.{ofBytes, packed}
+use Rattle.source.specs.Packed.{ofBytes, packed}
 
 -- k bytes of a word, lowest first
 pub bytesIn : ℕ → ℕ → List ℕ

@@ -4,8 +4,10 @@
 
 mod chance;
 mod good;
+mod large;
 mod load;
 
+use super::catalogues::File;
 use super::grouped::grouped;
 use super::planted::Plant;
 use crate::random::Random;
@@ -67,6 +69,8 @@ impl Run<'_> {
         }
         self.begin("files by chance");
         self.by_chance()?;
+        self.begin("files of many entries, with and without two equal ones");
+        self.large()?;
         self.begin("files of the longest store, and longer ones");
         self.longest()
     }
@@ -107,8 +111,27 @@ impl Run<'_> {
         Ok(())
     }
 
+    fn large(&mut self) -> Compared {
+        for cycles in [100, 5000, large::MOST_CYCLES] {
+            let words = large::mixed(cycles);
+            self.load_words(&words)?;
+            for part in 0..large::PARTS {
+                for from in [0, self.random.below(cycles), cycles - 2] {
+                    self.load_words(&large::with_copy(&words, part, from))?;
+                }
+            }
+        }
+        Ok(())
+    }
+
+    /// Words with a trailer that fits, into a list that is just long enough.
+    fn load_words(&mut self, words: &[u64]) -> Compared {
+        let file = File { label: b"large".to_vec(), words: words.to_vec() };
+        self.load_into(&file.bytes(), 94 + words.len())
+    }
+
     fn longest(&mut self) -> Compared {
-        let (longest, longer) = (good::of_names(1_048_482), good::of_names(1_048_483));
+        let (longest, longer) = (large::of_names(1_048_482), large::of_names(1_048_483));
         for length in [1_048_576, 1_048_575, 1_048_577] {
             self.load_into(&longest, length)?;
             self.load_into(&longer, length)?;

@@ -78,13 +78,3 @@ fn some_of_each(words: &mut Vec<u64>) {
     let pointer = make(&Call::GetMemPtr(with_fields, 0));
     make(&Call::GetMem(7, pointer));
 }
-
-/// A file of so many words: names that all differ, of 32 words but for the last.
-pub fn of_names(words: usize) -> Vec<u8> {
-    let name = |i: usize| {
-        let mut name = vec![i as u64; (words - 32 * i).min(32)];
-        name[0] = 8 * (name.len() as u64 - 1) * 65_536;
-        name
-    };
-    File { label: vec![], words: (0..words.div_ceil(32)).flat_map(name).collect() }.bytes()
-}
