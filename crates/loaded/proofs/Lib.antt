@@ -2,3 +2,4 @@ pub mod Longer
 pub mod Small
 pub mod Accepted
 pub mod Round
+pub mod Examples
