@@ -57,12 +57,12 @@ module _ (bs f x : List ℕ) (few : length bs / 8 ≤ 1048482) (is : f ≡ ((94 
 
 -- what `load` gives: its answer, and the words that it leaves
 abbrev pub Loads : List ℕ → List ℕ → Answer → List ℕ → Type 0
-Loads f ws r ws′ = (told r ≡ loadCall f ws .reply) × (ws′ ≡ loadCall f ws .words)
+Loads f ws r ws′ = left (told r) ws′ ≡ loadCall f ws
 
 module _ (f ws : List ℕ) where
   refuses : (n : ℕ) → loadRows f ws ≡ suc n → Loads f ws (Refused (suc n)) ws
   unfolding loadCall
-  refuses n e = (rw e, rw e)
+  refuses n e = rw e
 
   pub list-short : length ws < 94 → Loads f ws (Refused 1) ws
   unfolding loadRows
@@ -82,63 +82,72 @@ module _ (f ws : List ℕ) where
       unfolding trailed
       no-trailer h = no-trail (rw (lt-leb 16 _ h))
 
-      module _ (some : 16 ≤ length f) (s k : ℕ) (is : s ≡ startIn f) (ik : k ≡ countIn f) (t : Bool) (it : t ≡ eqb (s + 8 * k) (length f - 16)) where
-        pub wrong-trailer : not t ≡ true → Loads f ws (Refused 14) ws
-        unfolding trailed
-        wrong-trailer n =
-            let ne : startIn f + 8 * countIn f + 16 ≡ length f → ⊥ = λ e.
-            let q : s + 8 * k ≡ length f - 16 = omega arith in
-            let z : false ≡ true = sym (sym it ∙ not-true t n) ∙ eq-eqb _ _ q in
-            absurd (contra z)
-            in
-            no-trail (rw (le-leb 16 _ some, ne-eqb _ _ ne))
-          where
-            contra : false ≡ true → ⊥
-            contra z = let y : _≡_ {A = ℕ} 0 1 = cc in omega arith
+-- what `load` has read before it looks at the words: the list's length is allowed, the file has a trailer, and these are its words; t tells whether they fit the file's length
+pub record Read (f ws : List ℕ) (s k : ℕ) (t : Bool) : Type 0 where
+  pub long : 94 ≤ length ws
+  pub short : length ws ≤ 1048576
+  pub some : 16 ≤ length f
+  pub start : s ≡ startIn f
+  pub count : k ≡ countIn f
+  pub fits : t ≡ eqb (s + 8 * k) (length f - 16)
 
-        module _ (y : not t ≡ false) where
-          sums : s + 8 * k ≡ length f - 16
-          sums = eqb-true (s + 8 * k) (length f - 16) (sym it ∙ not-false t y)
+module _ (f ws : List ℕ) (s k : ℕ) (t : Bool) (r : Read f ws s k t) where
+  pub wrong-trailer : not t ≡ true → Loads f ws (Refused 14) ws
+  unfolding trailed
+  wrong-trailer n =
+      let ne : startIn f + 8 * countIn f + 16 ≡ length f → ⊥ = λ e.
+      let q : s + 8 * k ≡ length f - 16 = omega arith in
+      let z : false ≡ true = sym (sym (r .fits) ∙ not-true t n) ∙ eq-eqb _ _ q in
+      absurd (contra z)
+      in
+      no-trail f ws (r .long) (r .short) (rw (le-leb 16 _ (r .some), ne-eqb _ _ ne))
+    where
+      contra : false ≡ true → ⊥
+      contra z = let y : _≡_ {A = ℕ} 0 1 = cc in omega arith
 
-          trail : trailed f ≡ true
-          unfolding trailed
-          trail = let e : startIn f + 8 * countIn f + 16 ≡ length f = omega (arith, sums) in rw (le-leb 16 _ some, eq-eqb _ _ e)
+  module _ (y : not t ≡ false) where
+    sums : s + 8 * k ≡ length f - 16
+    sums = eqb-true (s + 8 * k) (length f - 16) (sym (r .fits) ∙ not-false t y)
 
-          pub inside : s ≤ length f - 16
-          inside = omega (arith, sums)
+    trail : trailed f ≡ true
+    unfolding trailed
+    trail = let e : startIn f + 8 * countIn f + 16 ≡ length f = omega (arith, sums) in rw (le-leb 16 _ (r .some), eq-eqb _ _ e)
 
-          pub shorter : 8 * k ≤ length f
-          shorter = omega (arith, sums)
+    pub inside : s ≤ length f - 16
+    inside = omega (arith, sums)
 
-          pub tail-bytes : length (take ((length f - 16) - s) (drop s f)) ≡ 8 * k
-          tail-bytes = omega (arith, sums, length-take ((length f - 16) - s) (drop s f), length-drop s f)
+    pub shorter : 8 * k ≤ length f
+    shorter = omega (arith, sums)
 
-          lent-words : unpacked (take ((length f - 16) - s) (drop s f)) ≡ wordsIn f
-          lent-words =
-              let n : length (take ((length f - 16) - s) (drop s f)) / 8 ≡ k = omega (arith, tail-bytes) in
-              let m : (length f - 16) - s ≡ 8 * k = omega (arith, sums) in
-              rw (n, m, packed-first k (drop s f), ik, is)
+    pub tail-bytes : length (take ((length f - 16) - s) (drop s f)) ≡ 8 * k
+    tail-bytes = omega (arith, sums, length-take ((length f - 16) - s) (drop s f), length-drop s f)
 
-          pub words-size : length (behindFresh (unpacked (take ((length f - 16) - s) (drop s f)))) ≡ 94 + k
-          words-size = omega (arith, tail-length (take ((length f - 16) - s) (drop s f)), tail-bytes)
+    lent-words : unpacked (take ((length f - 16) - s) (drop s f)) ≡ wordsIn f
+    lent-words =
+        let n : length (take ((length f - 16) - s) (drop s f)) / 8 ≡ k = omega (arith, tail-bytes) in
+        let m : (length f - 16) - s ≡ 8 * k = omega (arith, sums) in
+        rw (n, m, packed-first k (drop s f), r .count, r .start)
 
-          module _ (g : Bool) (ig : g ≡ formsStore (unpacked (take ((length f - 16) - s) (drop s f)))) where
-            pub no-store : not g ≡ true → Loads f ws (Refused 15) ws
-            unfolding loadRows
-            no-store n = refuses 14 (rw (le-leb 94 _ long, le-leb _ 1048576 short, trail, ← lent-words, sym ig ∙ not-true g n))
+    pub words-size : length (behindFresh (unpacked (take ((length f - 16) - s) (drop s f)))) ≡ 94 + k
+    words-size = omega (arith, tail-length (take ((length f - 16) - s) (drop s f)), tail-bytes)
 
-            module _ (w : not g ≡ false) where
-              pub long-label : 255 < s → Loads f ws (Refused 5) ws
-              unfolding loadRows
-              long-label h = refuses 4 (rw (le-leb 94 _ long, le-leb _ 1048576 short, trail, ← lent-words, sym ig ∙ not-false g w, ← is, lt-ltb 255 s h))
+    module _ (g : Bool) (ig : g ≡ formsStore (unpacked (take ((length f - 16) - s) (drop s f)))) where
+      pub no-store : not g ≡ true → Loads f ws (Refused 15) ws
+      unfolding loadRows
+      no-store n = refuses f ws 14 (rw (le-leb 94 _ (r .long), le-leb _ 1048576 (r .short), trail, ← lent-words, sym ig ∙ not-true g n))
 
-              module _ (brief : s ≤ 255) where
-                pub no-room : length ws < 94 + k → Loads f ws (Refused 12) ws
-                unfolding loadRows
-                no-room h = refuses 11 (rw (le-leb 94 _ long, le-leb _ 1048576 short, trail, ← lent-words, sym ig ∙ not-false g w, ← is, le-ltb 255 s brief, words-size, lt-ltb _ _ h))
+      module _ (w : not g ≡ false) where
+        pub long-label : 255 < s → Loads f ws (Refused 5) ws
+        unfolding loadRows
+        long-label h = refuses f ws 4 (rw (le-leb 94 _ (r .long), le-leb _ 1048576 (r .short), trail, ← lent-words, sym ig ∙ not-false g w, ← r .start, lt-ltb 255 s h))
 
-                pub loaded : 94 + k ≤ length ws → (ws′ : List ℕ) → ws′ ≡ loadedStore (unpacked (take ((length f - 16) - s) (drop s f))) (length ws) → Loads f ws (Number s) ws′
-                unfolding loadRows loadCall
-                loaded h ws′ e =
-                    let z : loadRows f ws ≡ 0 = rw (le-leb 94 _ long, le-leb _ 1048576 short, trail, ← lent-words, sym ig ∙ not-false g w, ← is, le-ltb 255 s brief, words-size, le-ltb _ _ h) in
-                    (rw (z, ← is), e ∙ rw (z, lent-words))
+        module _ (brief : s ≤ 255) where
+          pub no-room : length ws < 94 + k → Loads f ws (Refused 12) ws
+          unfolding loadRows
+          no-room h = refuses f ws 11 (rw (le-leb 94 _ (r .long), le-leb _ 1048576 (r .short), trail, ← lent-words, sym ig ∙ not-false g w, ← r .start, le-ltb 255 s brief, words-size, lt-ltb _ _ h))
+
+          pub loaded : 94 + k ≤ length ws → (ws′ : List ℕ) → ws′ ≡ loadedStore (unpacked (take ((length f - 16) - s) (drop s f))) (length ws) → Loads f ws (Number s) ws′
+          unfolding loadRows loadCall
+          loaded h ws′ e =
+              let z : loadRows f ws ≡ 0 = rw (le-leb 94 _ (r .long), le-leb _ 1048576 (r .short), trail, ← lent-words, sym ig ∙ not-false g w, ← r .start, le-ltb 255 s brief, words-size, le-ltb _ _ h) in
+              rw (z, e, lent-words, r .start)

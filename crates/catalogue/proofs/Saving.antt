@@ -8,7 +8,7 @@ use borrow.Author.Tests.{lt-ltb, le-ltb, not-true, not-false}
 use lib.ListN.{length, take, drop, getD}
 use Rattle.wellformed.specs.Form.{wellFormed, usedWords}
 use Rattle.wellformed.proofs.Before.{Tests, tests}
-use Rattle.call.specs.Call.{told, ask, outputRows, filledOutput, _when_, _otherwise_}
+use Rattle.call.specs.Call.{left, told, ask, outputRows, filledOutput, _when_, _otherwise_}
 use Rattle.call.specs.declared.Answer.{Answer}
 use Rattle.call.specs.declared.Answer.the-variants.{Number, Refused}
 use Rattle.catalogue_file.specs.File.{fileOf}
@@ -18,7 +18,7 @@ use Rattle.catalogue.specs.Catalogue.{labelRows, saveCall, saveOutput}
 
 -- what `save` gives: its answer, and the output that it leaves
 abbrev pub Saves : List ℕ → List ℕ → List ℕ → Answer → List ℕ → Type 0
-Saves ws label out r out′ = (told r ≡ saveCall label (length out) ws .reply) × (out′ ≡ saveOutput label ws out)
+Saves ws label out r out′ = (left (told r) ws ≡ saveCall label (length out) ws) × (out′ ≡ saveOutput label ws out)
 
 module _ (ws label out : List ℕ) where
   -- the rows of the call, row 1 among them

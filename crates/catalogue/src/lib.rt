@@ -9,14 +9,16 @@ ghost use lib.Dec.{eqb};
 ghost use Rattle.bitset.specs.Bitset.{wordBits};
 ghost use Rattle.source.specs.Source.{unpacked};
 ghost use Rattle.wellformed.specs.Form.{longestAllowed, behindFresh};
-ghost use Rattle.call.specs.Call.{told};
+ghost use Rattle.call.specs.Call.{left, told};
+ghost use Rattle.distinct.specs.Distinct.{mostBits};
 ghost use Rattle.catalogue.specs.Catalogue.{saveCall, saveOutput, formsStore, loadCall, loadedStore};
 
 // ---- the writer
 
 // Saves a store under a label, in an output of bytes.
 pub fn save(words: &[u64], label: &[u8], file: &mut [u8]) -> Answer
-    ensures { λ r. ⌜ (told r ≡ saveCall (now (label .entry)) (length (now (file .entry))) (now (words .entry)) .reply) × (now (file .exit) ≡ saveOutput (now (label .entry)) (now (words .entry)) (now (file .entry))) ⌝ }
+    ensures { λ r. ⌜ left (told r) (now (words .entry)) ≡ saveCall (now (label .entry)) (length (now (file .entry))) (now (words .entry)) ⌝ }
+    ensures { λ _. ⌜ now (file .exit) ≡ saveOutput (now (label .entry)) (now (words .entry)) (now (file .entry)) ⌝ }
 {
     if !wellformed::well_formed(words) {
         return Answer::Refused(1);
@@ -46,7 +48,7 @@ fn trailer_fits(start: u64, count: u64, body: u64) -> bool
 
 // Whether the words in `tail` form a store behind the fresh ones, with no two equal entries.
 fn stores(tail: &[u8], bits: &mut [u64]) -> bool
-    requires { ⌜ (min (length (behindFresh (unpacked (now tail)))) longestAllowed ≤ wordBits * length (now bits)) × (length (now bits) ≤ 16384) ⌝ }
+    requires { ⌜ (min (length (behindFresh (unpacked (now tail)))) longestAllowed ≤ wordBits * length (now bits)) × (length (now bits) ≤ mostBits) ⌝ }
     ensures { λ r. ⌜ r ≡ formsStore (unpacked (now (tail .entry))) ⌝ }
 {
     if !wellformed::verify_tail(tail, bits) {
@@ -108,7 +110,7 @@ fn fill(words: &mut [u64], tail: &[u8])
 
 // Loads a file into a lent list. All is checked before the first word is written.
 pub fn load(words: &mut [u64], file: &[u8]) -> Answer
-    ensures { λ r. ⌜ (told r ≡ loadCall (now (file .entry)) (now (words .entry)) .reply) × (now (words .exit) ≡ loadCall (now (file .entry)) (now (words .entry)) .words) ⌝ }
+    ensures { λ r. ⌜ left (told r) (now (words .exit)) ≡ loadCall (now (file .entry)) (now (words .entry)) ⌝ }
 {
     if words.len() < limits::FRESH_LENGTH {
         return Answer::Refused(1);

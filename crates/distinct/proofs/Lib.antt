@@ -1,3 +1,5 @@
 pub mod Rows
 pub mod Steps
 pub mod Hashes
+pub mod Places
+pub mod Apart

@@ -1,31 +1,20 @@
 -- `Own` as a test, and from "none is like one before it". Assumes nothing.
 use mathlib.Core.Path.{_≡_, refl, sym, ap, _∙_}
-use mathlib.Core.Bool.{Bool, true, false, cond, _&&_}
+use mathlib.Core.Bool.{Bool, true, false}
 use mathlib.Core.Logic.{_⊎_, ⊎-elim}
 use mathlib.Core.List.{List, [], _∷_, List·Memᴰ·head, List·Memᴰ·tail, List·Memᴰ·not-nil, List·Memᴰ·cases-cons}
-use Prim.Native.Nat.{ℕ, zero, suc, pred, _+_, _≤_, _<_}
+use Prim.Native.Nat.{ℕ, zero, suc, pred, _<_}
 use native.Mathlib.Omega.{arith}
 use borrow.Author.Tests.{eqb-true, eq-eqb}
-use lib.Dec.{eqb}
-use lib.ListN.{length, take}
+use lib.ListN.{take}
 use Rattle.words.specs.Words.{sizeOf, eqs}
-use Rattle.words.specs.Table.{Row, rows, entries, firstOf, RowIn, Own}
+use Rattle.words.specs.Table.{Row, rows, firstOf, RowIn, Own}
 use Rattle.words.specs.declared.Found.{Found}
 use Rattle.words.specs.declared.Found.the-variants.{At, Nothing}
 use Rattle.words.proofs.Alike.{eqs-refl, eqs-eq}
+use Rattle.words.proofs.Handles.{rows-bound}
 use Rattle.distinct.specs.Distinct.{foundAt, eachOwn, own}
 use Rattle.wellformed.proofs.Bools.{and-left, and-right}
-
-pub rows-low : (at k : ℕ) (l : List ℕ) (r : Row) → RowIn r (rows at k l) → at ≤ r .at
-unfolding rows
-rows-low at zero [] r m = absurd (List·Memᴰ·not-nil m)
-rows-low at (suc k) [] r m = absurd (List·Memᴰ·not-nil m)
-rows-low at zero (w ∷ l) r m =
-    ⊎-elim
-    (λ (e : r ≡ record { at = at; words = take (sizeOf w) (w ∷ l) }). let q : r .at ≡ at = ap (λ (x : Row). x .at) e in omega arith)
-    (λ (i : RowIn r (rows (suc at) (pred (sizeOf w)) l)). let b = rows-low (suc at) (pred (sizeOf w)) l r i in omega arith)
-    (List·Memᴰ·cases-cons m)
-rows-low at (suc k) (w ∷ l) r m = let b = rows-low (suc at) k l r m in omega arith
 
 -- where none is like one before it, each is the first
 pub apart-own : (at k : ℕ) (l : List ℕ) → ((r : Row) → RowIn r (rows at k l) → (q : Row) → RowIn q (rows at k l) → q .at < r .at → eqs (q .words) (r .words) ≡ false) → Own (rows at k l)
@@ -37,7 +26,7 @@ apart-own at zero (w ∷ l) h r m =
     ⊎-elim
     (λ (e : r ≡ first). rw (e, eqs-refl (take (sizeOf w) (w ∷ l))))
     (λ (i : RowIn r (rows (suc at) (pred (sizeOf w)) l)).
-    let b = rows-low (suc at) (pred (sizeOf w)) l r i in
+    let b = rows-bound (suc at) (pred (sizeOf w)) l r i .0 in
     let d : at < r .at = omega arith in
     let n : eqs (take (sizeOf w) (w ∷ l)) (r .words) ≡ false = h r (List·Memᴰ·tail i) first (List·Memᴰ·head refl) d in
     rw n (apart-own (suc at) (pred (sizeOf w)) l (λ x j q k. h x (List·Memᴰ·tail j) q (List·Memᴰ·tail k)) r i))
@@ -82,20 +71,9 @@ pub is-own : (rs : List Row) → Own rs → own rs ≡ true
 unfolding own
 is-own rs h = each-back rs rs h
 
-pub not-own : (rs : List Row) (q r : Row) → RowIn q rs → RowIn r rs → q .at < r .at → eqs (q .words) (r .words) ≡ true → own rs ≡ false
-not-own rs q r i j l e = go (own rs) refl
+pub not-own : (rs : List Row) (q r : Row) → RowIn q rs → RowIn r rs → (q .at ≡ r .at → ⊥) → eqs (q .words) (r .words) ≡ true → own rs ≡ false
+not-own rs q r i j ne e = go (own rs) refl
   where
     go : (t : Bool) → own rs ≡ t → t ≡ false
-    go true h = let s = own-once rs (own-is rs h) q r i j e in absurd (omega arith)
+    go true h = absurd (ne (own-once rs (own-is rs h) q r i j e))
     go false h = refl
-
-pub rows-high : (at k : ℕ) (l : List ℕ) (r : Row) → RowIn r (rows at k l) → r .at < at + length l
-unfolding rows
-rows-high at zero [] r m = absurd (List·Memᴰ·not-nil m)
-rows-high at (suc k) [] r m = absurd (List·Memᴰ·not-nil m)
-rows-high at zero (w ∷ l) r m =
-    ⊎-elim
-    (λ (e : r ≡ record { at = at; words = take (sizeOf w) (w ∷ l) }). let q : r .at ≡ at = ap (λ (x : Row). x .at) e in omega arith)
-    (λ (i : RowIn r (rows (suc at) (pred (sizeOf w)) l)). let b = rows-high (suc at) (pred (sizeOf w)) l r i in omega arith)
-    (List·Memᴰ·cases-cons m)
-rows-high at (suc k) (w ∷ l) r m = let b = rows-high (suc at) k l r m in omega arith

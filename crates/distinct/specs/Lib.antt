@@ -1,1 +1,3 @@
 pub mod Distinct
+pub mod Filter
+pub mod Blocks

@@ -16,6 +16,6 @@ pub fn fresh(words: &mut [u64]) -> Done
         return Done::Refused(1);
     }
     words::clear(words);
-    makers::headed(words, limits::FRESH_LENGTH as u64, &wellformed::FRESH);
+    words::headed(words, limits::FRESH_LENGTH as u64, &wellformed::FRESH);
     Done::Accepted
 }

@@ -1,10 +1,21 @@
 -- `catalogue::load` meets its contract.
 use denote.Ref.{now}
 use native.Mathlib.Omega.{arith}
-use Rattle.catalogue.proofs.Loading.{list-short, list-long, no-trailer, wrong-trailer, inside, tail-bytes, shorter, words-size, no-store, long-label, no-room, loaded}
+use Rattle.catalogue.proofs.Loading.{Read, list-short, list-long, no-trailer, wrong-trailer, inside, tail-bytes, shorter, words-size, no-store, long-label, no-room, loaded}
 use borrow.Author.Needs.{needs}
 use Rattle.catalogue.proofs.load.Statement.{statement}
 use Rattle.catalogue.proofs.load.Tie as tie
+
+-- what was read once the trailer was tested
+read : (c : tie.After-trailer-fits) → Read (now (c .before .before .before .before .before .before .before .before .args .file)) (now (c .before .before .before .before .before .before .before .before .args .words)) (c .before .before .eight .result) (c .before .eight2 .result) (c .trailer-fits .result)
+read c = record {
+  long = c .before .before .before .before .before .if1 .left;
+  short = c .before .before .before .before .if2 .left;
+  some = c .before .before .before .if3 .left;
+  start = c .before .before .eight .ensures;
+  count = c .before .eight2 .ensures;
+  fits = c .trailer-fits .ensures;
+}
 
 returns : tie.Need-returns
 returns c = list-short (now (c .before .before .before .args .file)) (now (c .before .before .before .args .words)) (c .if1 .taken)
@@ -28,13 +39,13 @@ trailer-fits-requires : tie.Need-trailer-fits-requires
 trailer-fits-requires c κs = search needs
 
 returns-4 : tie.Need-returns-4
-returns-4 c = wrong-trailer (now (c .before .before .before .before .before .before .before .before .before .args .file)) (now (c .before .before .before .before .before .before .before .before .before .args .words)) (c .before .before .before .before .before .before .if1 .left) (c .before .before .before .before .before .if2 .left) (c .before .before .before .before .if3 .left) _ _ (c .before .before .before .eight .ensures) (c .before .before .eight2 .ensures) _ (c .before .trailer-fits .ensures) (c .if4 .taken)
+returns-4 c = wrong-trailer _ _ _ _ _ (read (c .before)) (c .if4 .taken)
 
 sub-stores-all : tie.Need-sub-stores-all
-sub-stores-all c = inside (now (c .before .before .before .before .before .before .before .before .before .args .file)) (now (c .before .before .before .before .before .before .before .before .before .args .words)) (c .before .before .before .before .before .before .if1 .left) (c .before .before .before .before .before .if2 .left) (c .before .before .before .before .if3 .left) _ _ (c .before .before .before .eight .ensures) (c .before .before .eight2 .ensures) _ (c .before .trailer-fits .ensures) (c .if4 .left)
+sub-stores-all c = inside _ _ _ _ _ (read (c .before)) (c .if4 .left)
 
 part-stores-all-start : tie.Need-part-stores-all-start
-part-stores-all-start c = inside (now (c .before .before .before .before .before .before .before .before .before .args .file)) (now (c .before .before .before .before .before .before .before .before .before .args .words)) (c .before .before .before .before .before .before .if1 .left) (c .before .before .before .before .before .if2 .left) (c .before .before .before .before .if3 .left) _ _ (c .before .before .before .eight .ensures) (c .before .before .eight2 .ensures) _ (c .before .trailer-fits .ensures) (c .if4 .left)
+part-stores-all-start c = inside _ _ _ _ _ (read (c .before)) (c .if4 .left)
 
 part-stores-all-end : tie.Need-part-stores-all-end
 part-stores-all-end c = search needs
@@ -43,34 +54,37 @@ stores-all-requires : tie.Need-stores-all-requires
 stores-all-requires c κs = search needs
 
 returns-5 : tie.Need-returns-5
-returns-5 c = no-store (now (c .before .before .before .before .before .before .before .before .before .before .before .before .args .file)) (now (c .before .before .before .before .before .before .before .before .before .before .before .before .args .words)) (c .before .before .before .before .before .before .before .before .before .if1 .left) (c .before .before .before .before .before .before .before .before .if2 .left) (c .before .before .before .before .before .before .before .if3 .left) _ _ (c .before .before .before .before .before .before .eight .ensures) (c .before .before .before .before .before .eight2 .ensures) _ (c .before .before .before .before .trailer-fits .ensures) (c .before .before .before .if4 .left) _ (c .before .stores-all .ensures) (c .if5 .taken)
+returns-5 c = no-store _ _ _ _ _ (read (c .before .before .before .before)) (c .before .before .before .if4 .left) _ (c .before .stores-all .ensures) (c .if5 .taken)
 
 returns-6 : tie.Need-returns-6
-returns-6 c = long-label (now (c .before .before .before .before .before .before .before .before .before .before .before .before .before .args .file)) (now (c .before .before .before .before .before .before .before .before .before .before .before .before .before .args .words)) (c .before .before .before .before .before .before .before .before .before .before .if1 .left) (c .before .before .before .before .before .before .before .before .before .if2 .left) (c .before .before .before .before .before .before .before .before .if3 .left) _ _ (c .before .before .before .before .before .before .before .eight .ensures) (c .before .before .before .before .before .before .eight2 .ensures) _ (c .before .before .before .before .before .trailer-fits .ensures) (c .before .before .before .before .if4 .left) _ (c .before .before .stores-all .ensures) (c .before .if5 .left) (c .if6 .taken)
+returns-6 c = long-label _ _ _ _ _ (read (c .before .before .before .before .before)) (c .before .before .before .before .if4 .left) _ (c .before .before .stores-all .ensures) (c .before .if5 .left) (c .if6 .taken)
 
 add-if7 : tie.Need-add-if7
-add-if7 c = record { fits = omega (arith, words-size (now (c .before .before .before .before .before .before .before .before .before .before .before .before .before .args .file)) (now (c .before .before .before .before .before .before .before .before .before .before .before .before .before .args .words)) (c .before .before .before .before .before .before .before .before .before .before .if1 .left) (c .before .before .before .before .before .before .before .before .before .if2 .left) (c .before .before .before .before .before .before .before .before .if3 .left) _ _ (c .before .before .before .before .before .before .before .eight .ensures) (c .before .before .before .before .before .before .eight2 .ensures) _ (c .before .before .before .before .before .trailer-fits .ensures) (c .before .before .before .before .if4 .left), tail-bytes (now (c .before .before .before .before .before .before .before .before .before .before .before .before .before .args .file)) (now (c .before .before .before .before .before .before .before .before .before .before .before .before .before .args .words)) (c .before .before .before .before .before .before .before .before .before .before .if1 .left) (c .before .before .before .before .before .before .before .before .before .if2 .left) (c .before .before .before .before .before .before .before .before .if3 .left) _ _ (c .before .before .before .before .before .before .before .eight .ensures) (c .before .before .before .before .before .before .eight2 .ensures) _ (c .before .before .before .before .before .trailer-fits .ensures) (c .before .before .before .before .if4 .left), shorter (now (c .before .before .before .before .before .before .before .before .before .before .before .before .before .args .file)) (now (c .before .before .before .before .before .before .before .before .before .before .before .before .before .args .words)) (c .before .before .before .before .before .before .before .before .before .before .if1 .left) (c .before .before .before .before .before .before .before .before .before .if2 .left) (c .before .before .before .before .before .before .before .before .if3 .left) _ _ (c .before .before .before .before .before .before .before .eight .ensures) (c .before .before .before .before .before .before .eight2 .ensures) _ (c .before .before .before .before .before .trailer-fits .ensures) (c .before .before .before .before .if4 .left)) }
+add-if7 c =
+    let r = read (c .before .before .before .before .before) in
+    let y = c .before .before .before .before .if4 .left in
+    record { fits = omega (arith, words-size _ _ _ _ _ r y, tail-bytes _ _ _ _ _ r y, shorter _ _ _ _ _ r y) }
 
 returns-7 : tie.Need-returns-7
-returns-7 c = no-room (now (c .before .before .before .before .before .before .before .before .before .before .before .before .before .before .args .file)) (now (c .before .before .before .before .before .before .before .before .before .before .before .before .before .before .args .words)) (c .before .before .before .before .before .before .before .before .before .before .before .if1 .left) (c .before .before .before .before .before .before .before .before .before .before .if2 .left) (c .before .before .before .before .before .before .before .before .before .if3 .left) _ _ (c .before .before .before .before .before .before .before .before .eight .ensures) (c .before .before .before .before .before .before .before .eight2 .ensures) _ (c .before .before .before .before .before .before .trailer-fits .ensures) (c .before .before .before .before .before .if4 .left) _ (c .before .before .before .stores-all .ensures) (c .before .before .if5 .left) (c .before .if6 .left) (c .if7 .taken)
+returns-7 c = no-room _ _ _ _ _ (read (c .before .before .before .before .before .before)) (c .before .before .before .before .before .if4 .left) _ (c .before .before .before .stores-all .ensures) (c .before .before .if5 .left) (c .before .if6 .left) (c .if7 .taken)
 
 sub-fill : tie.Need-sub-fill
-sub-fill c = inside (now (c .before .before .before .before .before .before .before .before .before .before .before .before .before .before .before .args .file)) (now (c .before .before .before .before .before .before .before .before .before .before .before .before .before .before .before .args .words)) (c .before .before .before .before .before .before .before .before .before .before .before .before .if1 .left) (c .before .before .before .before .before .before .before .before .before .before .before .if2 .left) (c .before .before .before .before .before .before .before .before .before .before .if3 .left) _ _ (c .before .before .before .before .before .before .before .before .before .eight .ensures) (c .before .before .before .before .before .before .before .before .eight2 .ensures) _ (c .before .before .before .before .before .before .before .trailer-fits .ensures) (c .before .before .before .before .before .before .if4 .left)
+sub-fill c = inside _ _ _ _ _ (read (c .before .before .before .before .before .before .before)) (c .before .before .before .before .before .before .if4 .left)
 
 part-fill-start : tie.Need-part-fill-start
-part-fill-start c = inside (now (c .before .before .before .before .before .before .before .before .before .before .before .before .before .before .before .args .file)) (now (c .before .before .before .before .before .before .before .before .before .before .before .before .before .before .before .args .words)) (c .before .before .before .before .before .before .before .before .before .before .before .before .if1 .left) (c .before .before .before .before .before .before .before .before .before .before .before .if2 .left) (c .before .before .before .before .before .before .before .before .before .before .if3 .left) _ _ (c .before .before .before .before .before .before .before .before .before .eight .ensures) (c .before .before .before .before .before .before .before .before .eight2 .ensures) _ (c .before .before .before .before .before .before .before .trailer-fits .ensures) (c .before .before .before .before .before .before .if4 .left)
+part-fill-start c = inside _ _ _ _ _ (read (c .before .before .before .before .before .before .before)) (c .before .before .before .before .before .before .if4 .left)
 
 part-fill-end : tie.Need-part-fill-end
 part-fill-end c = search needs
 
 fill-requires : tie.Need-fill-requires
-fill-requires c κs = (omega (arith, words-size (now (c .before .before .before .before .before .before .before .before .before .before .before .before .before .before .before .before .args .file)) (now (c .before .before .before .before .before .before .before .before .before .before .before .before .before .before .before .before .args .words)) (c .before .before .before .before .before .before .before .before .before .before .before .before .before .if1 .left) (c .before .before .before .before .before .before .before .before .before .before .before .before .if2 .left) (c .before .before .before .before .before .before .before .before .before .before .before .if3 .left) _ _ (c .before .before .before .before .before .before .before .before .before .before .eight .ensures) (c .before .before .before .before .before .before .before .before .before .eight2 .ensures) _ (c .before .before .before .before .before .before .before .before .trailer-fits .ensures) (c .before .before .before .before .before .before .before .if4 .left), c .before .before .if7 .left), c .before .before .before .before .before .before .before .before .before .before .before .before .if2 .left)
+fill-requires c κs = (omega (arith, words-size _ _ _ _ _ (read (c .before .before .before .before .before .before .before .before)) (c .before .before .before .before .before .before .before .if4 .left), c .before .before .if7 .left), c .before .before .before .before .before .before .before .before .before .before .before .before .if2 .left)
 
 same-length : tie.Need-same-length
 same-length c = search needs
 
 returns-8 : tie.Need-returns-8
-returns-8 c = loaded (now (c .before .before .before .before .before .before .before .before .before .before .before .before .before .before .before .before .before .before .before .args .file)) (now (c .before .before .before .before .before .before .before .before .before .before .before .before .before .before .before .before .before .before .before .args .words)) (c .before .before .before .before .before .before .before .before .before .before .before .before .before .before .before .before .if1 .left) (c .before .before .before .before .before .before .before .before .before .before .before .before .before .before .before .if2 .left) (c .before .before .before .before .before .before .before .before .before .before .before .before .before .before .if3 .left) _ _ (c .before .before .before .before .before .before .before .before .before .before .before .before .before .eight .ensures) (c .before .before .before .before .before .before .before .before .before .before .before .before .eight2 .ensures) _ (c .before .before .before .before .before .before .before .before .before .before .before .trailer-fits .ensures) (c .before .before .before .before .before .before .before .before .before .before .if4 .left) _ (c .before .before .before .before .before .before .before .before .stores-all .ensures) (c .before .before .before .before .before .before .before .if5 .left) (c .before .before .before .before .before .before .if6 .left) (c .before .before .before .before .before .if7 .left) _ (c .before .before .fill .ensures)
+returns-8 c = loaded _ _ _ _ _ (read (c .before .before .before .before .before .before .before .before .before .before .before)) (c .before .before .before .before .before .before .before .before .before .before .if4 .left) _ (c .before .before .before .before .before .before .before .before .stores-all .ensures) (c .before .before .before .before .before .before .before .if5 .left) (c .before .before .before .before .before .before .if6 .left) (c .before .before .before .before .before .if7 .left) _ (c .before .before .fill .ensures)
 
 pub load-spec : {M : Type 1} → statement M
 load-spec =
