@@ -5,7 +5,7 @@ ghost use lib.ListN.{length};
 ghost use Rattle.calls.specs.Kept.{Kept};
 use libc::STDIN_FILENO;
 
-// The room that the program has: bytes of a line, and of answers that are not written yet; words of a list, and of its index (opened/specs/OpenStore.antt) and memory where it is open; numbers of a line, bytes of a text, and words of the output that a call may fill; words of a list that is remembered, behind its length.
+// The room that the program has: bytes of a line, and of answers that are not written yet; words of a list, and of its index (opened/specs/OpenStore.antt) and memory where it is open; numbers of a line, bytes of a text, and words of the output that a call may fill; words of a list that is remembered, behind its length; bytes of the file that is kept, and of the output that a list is saved in.
 pub const LINE: usize = 262144;
 
 pub const OUT: usize = 65536;
@@ -23,6 +23,10 @@ pub const TEXT: usize = 131072;
 pub const OUTPUT: usize = 4096;
 
 pub const KEPT: usize = WORDS + 1;
+
+pub const FILE: usize = 65536;
+
+pub const SAVED: usize = FILE;
 
 // What is kept from line to line.
 pub struct State {
@@ -52,7 +56,10 @@ pub fn script(
     text: &mut [u8; TEXT],
     output: &mut [u64; OUTPUT],
     kept: &mut [u64; KEPT],
+    file: &mut [u8; FILE],
+    saved: &mut [u8; SAVED],
 ) {
+    let mut file_size: usize = 0;
     let mut state = State {
         len: 0,
         opened: false,
@@ -73,6 +80,9 @@ pub fn script(
             text,
             output,
             kept,
+            file,
+            &mut file_size,
+            saved,
             state,
         );
         if state.ended {
@@ -93,6 +103,9 @@ fn turn(
     text: &mut [u8; TEXT],
     output: &mut [u64; OUTPUT],
     kept: &mut [u64; KEPT],
+    file: &mut [u8; FILE],
+    file_size: &mut usize,
+    saved: &mut [u8; SAVED],
     state: State,
 ) -> State
     requires { ⌜ Kept state (now words) (now index) (now memory) (length (now out)) × (state .at ≤ length (now input)) ⌝ }
@@ -110,6 +123,9 @@ fn turn(
         text,
         output,
         kept,
+        file,
+        file_size,
+        saved,
         state,
     );
     if end == waiting {
@@ -123,6 +139,9 @@ fn turn(
             text,
             output,
             kept,
+            file,
+            file_size,
+            saved,
             after,
         );
     }
@@ -150,6 +169,9 @@ fn lines(
     text: &mut [u8; TEXT],
     output: &mut [u64; OUTPUT],
     kept: &mut [u64; KEPT],
+    file: &mut [u8; FILE],
+    file_size: &mut usize,
+    saved: &mut [u8; SAVED],
     state: State,
 ) -> State
     requires { ⌜ Kept state (now words) (now index) (now memory) (length (now out)) ⌝ }
@@ -174,6 +196,9 @@ fn lines(
             text,
             output,
             kept,
+            file,
+            file_size,
+            saved,
             s,
         );
         s.at = next;
@@ -228,6 +253,9 @@ fn one(
     text: &mut [u8; TEXT],
     output: &mut [u64; OUTPUT],
     kept: &mut [u64; KEPT],
+    file: &mut [u8; FILE],
+    file_size: &mut usize,
+    saved: &mut [u8; SAVED],
     state: State,
 ) -> State
     requires { ⌜ Kept state (now words) (now index) (now memory) (length (now out)) ⌝ }
@@ -245,10 +273,14 @@ fn one(
         text,
         output,
         kept,
+        file,
+        file_size,
+        saved,
     );
     let len = outcome.len;
     let reply = outcome.reply;
-    let used = output::put(out, state.used, reply, line, &words[0..len], output);
+    let list = &words[0..len];
+    let used = output::put(out, state.used, reply, line, list, output, file, saved);
     State {
         len: len,
         opened: outcome.opened,
@@ -270,6 +302,9 @@ fn last(
     text: &mut [u8; TEXT],
     output: &mut [u64; OUTPUT],
     kept: &mut [u64; KEPT],
+    file: &mut [u8; FILE],
+    file_size: &mut usize,
+    saved: &mut [u8; SAVED],
     state: State,
 ) -> State
     requires { ⌜ Kept state (now words) (now index) (now memory) (length (now out)) ⌝ }
@@ -288,6 +323,9 @@ fn last(
         text,
         output,
         kept,
+        file,
+        file_size,
+        saved,
         state,
     );
     output::flush(out, s.used);

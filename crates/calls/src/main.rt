@@ -11,6 +11,8 @@ fn main() {
     let mut text = [0u8; input::TEXT];
     let mut output = [0u64; input::OUTPUT];
     let mut kept = [0u64; input::KEPT];
+    let mut file = [0u8; input::FILE];
+    let mut saved = [0u8; input::SAVED];
     whole(
         &mut line,
         &mut out,
@@ -21,6 +23,8 @@ fn main() {
         &mut text,
         &mut output,
         &mut kept,
+        &mut file,
+        &mut saved,
     );
 }
 
@@ -35,6 +39,20 @@ fn whole(
     text: &mut [u8; input::TEXT],
     output: &mut [u64; input::OUTPUT],
     kept: &mut [u64; input::KEPT],
+    file: &mut [u8; input::FILE],
+    saved: &mut [u8; input::SAVED],
 ) {
-    input::script(line, out, words, index, memory, numbers, text, output, kept);
+    input::script(
+        line,
+        out,
+        words,
+        index,
+        memory,
+        numbers,
+        text,
+        output,
+        kept,
+        file,
+        saved,
+    );
 }

@@ -1,10 +1,12 @@
 // One line of a script: its words are read, and the call that it names is made. A call is lent the list, which is the first `len` words, and where that is an opened store, its
-// index and its memory. A call that fills an output is lent one beside them. A list that a script has remembered stands in `kept`.
+// index and its memory. A call that fills an output is lent one beside them. A list that a script has remembered stands in `kept`. The file that it keeps is the first `file_size`
+// bytes of `file`, and a list is saved in `saved` first.
 ghost use Prim.Native.Nat.{_≤_};
 ghost use lib.ListN.{length};
 ghost use Rattle.dispatch.specs.Held.{Held};
 use call::Done;
 use call_lines::Shape;
+use file_lines::Filing;
 use list_lines::Order;
 use replies::Reply;
 use script::Answer;
@@ -28,6 +30,9 @@ pub fn line(
     text: &mut [u8],
     output: &mut [u64],
     kept: &mut [u64],
+    file: &mut [u8],
+    file_size: &mut usize,
+    saved: &mut [u8],
 ) -> Outcome
     requires { ⌜ Held len opened (now words) (now index) (now memory) ⌝ }
     ensures { λ r. ⌜ Held (r .len) (r .opened) (now (words .exit)) (now (index .exit)) (now (memory .exit)) ⌝ }
@@ -51,10 +56,13 @@ pub fn line(
         text,
         output,
         kept,
+        file,
+        file_size,
+        saved,
     )
 }
 
-// A line that has a word.
+// A line that has a word: about a file, or else another. One that loads a file closes the list.
 fn spoken(
     line: &[u8],
     words: &mut [u64],
@@ -66,11 +74,68 @@ fn spoken(
     text: &mut [u8],
     output: &mut [u64],
     kept: &mut [u64],
+    file: &mut [u8],
+    file_size: &mut usize,
+    saved: &mut [u8],
 ) -> Outcome
     requires { ⌜ Held len opened (now words) (now index) (now memory) ⌝ }
     ensures { λ r. ⌜ Held (r .len) (r .opened) (now (words .exit)) (now (index .exit)) (now (memory .exit)) ⌝ }
 {
     let stop = script::word_end(line, 0);
+    let filing = file_lines::filing_of(&line[0..stop]);
+    match filing {
+        Filing::Load(loading) => {
+            let list = &mut words[0..len];
+            let reply = file_lines::load(loading, line, stop, list, text, file, *file_size);
+            Outcome {
+                len: len,
+                opened: false,
+                reply: reply,
+            }
+        }
+        Filing::Keep(keeping) => {
+            let list = &words[0..len];
+            let reply = file_lines::keep(keeping, line, stop, list, text, file, file_size, saved);
+            Outcome {
+                len: len,
+                opened: opened,
+                reply: reply,
+            }
+        }
+        Filing::Other => named(
+            line,
+            stop,
+            words,
+            len,
+            index,
+            memory,
+            opened,
+            numbers,
+            text,
+            output,
+            kept,
+        ),
+    }
+}
+
+// A line of a name that ends at `stop`, with numbers behind it, or with numbers and a text.
+fn named(
+    line: &[u8],
+    stop: usize,
+    words: &mut [u64],
+    len: usize,
+    index: &mut [u64],
+    memory: &mut [u64],
+    opened: bool,
+    numbers: &mut [u64],
+    text: &mut [u8],
+    output: &mut [u64],
+    kept: &mut [u64],
+) -> Outcome
+    requires { ⌜ stop ≤ length (now line) ⌝ }
+    requires { ⌜ Held len opened (now words) (now index) (now memory) ⌝ }
+    ensures { λ r. ⌜ Held (r .len) (r .opened) (now (words .exit)) (now (index .exit)) (now (memory .exit)) ⌝ }
+{
     let shape = call_lines::behind(&line[0..stop]);
     match shape {
         Shape::Text(k) => {

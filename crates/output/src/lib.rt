@@ -13,6 +13,8 @@ pub fn put(
     line: &[u8],
     words: &[u64],
     output: &[u64],
+    file: &[u8],
+    saved: &[u8],
 ) -> usize
     requires { ⌜ used ≤ length (now out) ⌝ }
     ensures { λ r. ⌜ r ≤ length (now (out .exit)) ⌝ }
@@ -24,6 +26,8 @@ pub fn put(
         Reply::All => put_words(out, used, words),
         Reply::Output(n, k) => put_output(out, used, n, &output[0..least(k, output.len())]),
         Reply::Search(search) => put_search(out, used, search),
+        Reply::Saved(n, k) => put_saved(out, used, n, &saved[0..least(k, saved.len())]),
+        Reply::File(k) => put_bytes(out, used, &file[0..least(k, file.len())]),
         Reply::Malformed => echo(out, used, &line[0..script::cut(line)]),
     }
 }
@@ -75,13 +79,30 @@ fn put_output(out: &mut [u8], used: usize, n: u64, output: &[u64]) -> usize
     requires { ⌜ used ≤ length (now out) ⌝ }
     ensures { λ r. ⌜ r ≤ length (now (out .exit)) ⌝ }
 {
+    let start = put_before(out, used, n, output.len());
+    put_words(out, start, output)
+}
+
+// A count and an output of bytes behind it.
+fn put_saved(out: &mut [u8], used: usize, n: u64, saved: &[u8]) -> usize
+    requires { ⌜ used ≤ length (now out) ⌝ }
+    ensures { λ r. ⌜ r ≤ length (now (out .exit)) ⌝ }
+{
+    let start = put_before(out, used, n, saved.len());
+    put_bytes(out, start, saved)
+}
+
+// A count and a mark behind it, and a space where the output that follows has something.
+fn put_before(out: &mut [u8], used: usize, n: u64, len: usize) -> usize
+    requires { ⌜ used ≤ length (now out) ⌝ }
+    ensures { λ r. ⌜ r ≤ length (now (out .exit)) ⌝ }
+{
     let count = put_number(out, used, n);
     let mark = add(out, count, b" :");
-    if output.len() == 0 {
-        return end_line(out, mark);
+    if len == 0 {
+        return mark;
     }
-    let space = put_space(out, mark);
-    put_words(out, space, output)
+    put_space(out, mark)
 }
 
 // A handle, or that there is none, and a count behind it; or a refusal.
@@ -127,6 +148,28 @@ fn put_words(out: &mut [u8], used: usize, words: &[u64]) -> usize
         i += 1;
     }
     end_line(out, end)
+}
+
+// Bytes on a line, two hex digits for each.
+fn put_bytes(out: &mut [u8], used: usize, bytes: &[u8]) -> usize
+    requires { ⌜ used ≤ length (now out) ⌝ }
+    ensures { λ r. ⌜ r ≤ length (now (out .exit)) ⌝ }
+{
+    let mut end = used;
+    let mut i: usize = 0;
+    while i < bytes.len() {
+        end = put_byte(out, end, bytes[i]);
+        i += 1;
+    }
+    end_line(out, end)
+}
+
+fn put_byte(out: &mut [u8], used: usize, b: u8) -> usize
+    requires { ⌜ used ≤ length (now out) ⌝ }
+    ensures { λ r. ⌜ r ≤ length (now (out .exit)) ⌝ }
+{
+    let text = [script::hex(b / 16), script::hex(b % 16)];
+    add(out, used, &text)
 }
 
 fn put_space(out: &mut [u8], used: usize) -> usize

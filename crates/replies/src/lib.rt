@@ -16,6 +16,10 @@ pub enum Reply {
     Output(u64, usize),
     // the search for an entry, and how many entries it did not pass over
     Search(entry_search::EntrySearch),
+    // a file's length, and how many bytes the output has that it was saved in
+    Saved(u64, usize),
+    // the kept file, and how many bytes it has
+    File(usize),
     // the line itself, after a mark
     Malformed,
 }

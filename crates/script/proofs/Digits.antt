@@ -27,6 +27,15 @@ and-false false = refl
 pub over : (low high b : ℕ) → high < b → between low high b ≡ false
 over low high b h = rw (lt-leb b high h) (and-false (leb low b))
 
+-- the digit that is written for a number says it: below 10, and from there on
+pub low-digit : (d : ℕ) → d < 10 → digitOf (48 + d) ≡ d
+unfolding digitOf
+low-digit d h = rw (inside 48 57 (48 + d) (omega arith) (omega arith)) (omega arith)
+
+pub high-digit : (d : ℕ) → 10 ≤ d → d < 16 → digitOf (87 + d) ≡ d
+unfolding digitOf
+high-digit d h k = rw (over 48 57 (87 + d) (omega arith), over 65 70 (87 + d) (omega arith), inside 97 102 (87 + d) (omega arith) (omega arith)) (omega arith)
+
 -- the code's test before it adds a digit says whether 64 bits hold the sum then
 module _ (base sum d : ℕ) (pos : 0 < base) (low : base ≤ 16) (fits : d < base) where
   pub sum-fits : sum ≤ (18446744073709551615 - d) / base → sum * base + d < 2 ^ 64

@@ -13,5 +13,6 @@ pub use lines::numbers;
 pub use lines::rest;
 pub use lines::skip;
 pub use lines::word_end;
+pub use texts::hex;
 pub use values::Value;
 pub use values::number;

@@ -1,5 +1,8 @@
-// A word of a line, read as a text: a pair of hex digits for each byte.
+// A text in hex: a pair of digits for each byte.
+ghost use mathlib.Core.Path.{_≡_};
+ghost use Prim.Native.Nat.{_<_};
 ghost use lib.ListN.{length};
+ghost use Rattle.script.specs.Numbers.{digitOf};
 ghost use Rattle.script.specs.Words.{Within};
 use crate::lines::Count;
 use crate::values::digit;
@@ -29,4 +32,15 @@ pub fn text(word: &[u8], out: &mut [u8]) -> Count
         i += 1;
     }
     Count::Of(n)
+}
+
+// The hex digit, of the lower case, that says a number.
+pub fn hex(d: u8) -> u8
+    requires { ⌜ d < 16 ⌝ }
+    ensures { λ r. ⌜ digitOf r ≡ d ⌝ }
+{
+    if d < 10 {
+        return b'0' + d;
+    }
+    b'a' - 10 + d
 }

@@ -9,10 +9,10 @@ use Rattle.calls.proofs.input.lines.Statement.{statement}
 use Rattle.calls.proofs.input.lines.Tie as tie
 
 abbrev Inv-loop : tie.InvT-loop
-Inv-loop input out₀ words₀ index₀ memory₀ numbers₀ text₀ output₀ kept₀ s₀ at₀ out words index memory numbers text output kept s at = Kept s words index memory (length out₀) × (at ≤ length input) × (s .at ≤ length input) × (length out ≡ length out₀) × (length words ≡ length words₀) × (length index ≡ length index₀) × (length memory ≡ length memory₀)
+Inv-loop input out₀ words₀ index₀ memory₀ numbers₀ text₀ output₀ kept₀ file₀ file_size₀ saved₀ s₀ at₀ out words index memory numbers text output kept file′ file_size saved s at = Kept s words index memory (length out₀) × (at ≤ length input) × (s .at ≤ length input) × (length out ≡ length out₀) × (length words ≡ length words₀) × (length index ≡ length index₀) × (length memory ≡ length memory₀)
 
 abbrev μ-loop : tie.MeasureT-loop
-μ-loop input out₀ words₀ index₀ memory₀ numbers₀ text₀ output₀ kept₀ s₀ at₀ out words index memory numbers text output kept s at = length input - at
+μ-loop input out₀ words₀ index₀ memory₀ numbers₀ text₀ output₀ kept₀ file₀ file_size₀ saved₀ s₀ at₀ out words index memory numbers text output kept file′ file_size saved s at = length input - at
 
 start-requires : tie.Need-start-requires Inv-loop μ-loop
 start-requires c κs = search needs

@@ -8,16 +8,16 @@ use Rattle.calls.proofs.input.script.Statement.{statement}
 use Rattle.calls.proofs.input.script.Tie as tie
 
 abbrev Inv-loop : tie.InvT-loop
-Inv-loop input₀ out₀ words₀ index₀ memory₀ numbers₀ text₀ output₀ kept₀ state₀ turns₀ input out words index memory numbers text output kept state turns = Kept state words index memory (length out₀) × (state .at ≤ length input₀) × (length input ≡ length input₀) × (length out ≡ length out₀) × (length words ≡ length words₀) × (length index ≡ length index₀) × (length memory ≡ length memory₀)
+Inv-loop input₀ out₀ words₀ index₀ memory₀ numbers₀ text₀ output₀ kept₀ file₀ saved₀ file_size₀ state₀ turns₀ input out words index memory numbers text output kept file′ saved file_size state turns = Kept state words index memory (length out₀) × (state .at ≤ length input₀) × (length input ≡ length input₀) × (length out ≡ length out₀) × (length words ≡ length words₀) × (length index ≡ length index₀) × (length memory ≡ length memory₀)
 
 abbrev μ-loop : tie.MeasureT-loop
-μ-loop input₀ out₀ words₀ index₀ memory₀ numbers₀ text₀ output₀ kept₀ state₀ turns₀ input out words index memory numbers text output kept state turns = turns
+μ-loop input₀ out₀ words₀ index₀ memory₀ numbers₀ text₀ output₀ kept₀ file₀ saved₀ file_size₀ state₀ turns₀ input out words index memory numbers text output kept file′ saved file_size state turns = turns
 
 loop-holds : tie.Need-loop-holds Inv-loop μ-loop
 loop-holds c = search needs
 
 turn-requires : tie.Need-turn-requires Inv-loop μ-loop
-turn-requires c κs = ((c .before .before .before .before .before .before .before .before .before .before .loop .inv .0 .0, search needs), search needs)
+turn-requires c κs = ((c .before .before .before .before .before .before .before .before .before .before .before .before .before .loop .inv .0 .0, search needs), search needs)
 
 same-length : tie.Need-same-length Inv-loop μ-loop
 same-length c = search needs

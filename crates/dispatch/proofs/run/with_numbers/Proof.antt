@@ -1,5 +1,5 @@
 -- `dispatch::with_numbers`: the numbers are no more than there is room for.
-use Rattle.dispatch.proofs.Counted.{within}
+use Rattle.script.proofs.Counted.{within}
 use borrow.Author.Needs.{needs}
 use Rattle.dispatch.proofs.run.with_numbers.Statement.{statement}
 use Rattle.dispatch.proofs.run.with_numbers.Tie as tie

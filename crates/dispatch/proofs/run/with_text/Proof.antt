@@ -1,5 +1,5 @@
 -- `dispatch::with_text`: the numbers and the bytes are no more than there is room for.
-use Rattle.dispatch.proofs.Counted.{within}
+use Rattle.script.proofs.Counted.{within}
 use borrow.Author.Needs.{needs}
 use Rattle.dispatch.proofs.run.with_text.Statement.{statement}
 use Rattle.dispatch.proofs.run.with_text.Tie as tie
