@@ -111,11 +111,12 @@ pub fn table() {
     eprintln!("row 1, old and new: left out, no old library was linked");
 }
 
-// A file that is made against the loader's hash, so that each entry is looked for among all those before it: one load.
+// A file that is made against the loader's hash, so that it gives up its passes for the exact way: one load.
 fn made_against() {
     println!("\nLoading Ints that all have one hash");
     println!("{:>9} {:>8} {:>9} {:>9} {:>8}", "words", "entries", "row 1", "load", "l/row1");
-    for len in [1_000, 8_192, 65_536] {
+    for len in lengths(&LENGTHS) {
+        eprintln!("Ints of one hash: {len} words ..");
         let mut line = Line::new(("Ints of one hash", kinds::ints_of_one_hash), len);
         let row1 = rounds(5, || assert!(well_formed(black_box(&line.words))));
         let loaded = time_one(2, || (), |_| _ = black_box(load(&mut line.list, black_box(&line.file))));

@@ -209,13 +209,29 @@ fn mix(h: u64, w: u64) -> u64 {
     (t % (1 << 32) * 2_654_435_761).wrapping_add(t / (1 << 32) * 2_246_822_519)
 }
 
-/// Ints that all have one hash are no copies for that.
+/// Ints that all have one hash are no copies for that, and a copy among them is found wherever it stands. The reader goes another way with
+/// them, without the hash.
+fn of_one_hash(length: usize) {
+    let one_hash = |k| [261, k, mix(mix(0, 261), k).wrapping_neg()];
+    let words: Vec<u64> = (0..(length as u64 - 97) / 3).flat_map(one_hash).collect();
+    assert_eq!(load(&file(b"", &words), length), Ok(0));
+    for i in 0..8 {
+        let (mut copied, at) = (words.clone(), 3 * (i * (words.len() / 3 - 1) / 7));
+        copied.extend_from_within(at..at + 3);
+        assert_eq!(load(&file(b"", &copied), length), Err(Refusal::BadWords), "{length} words, a copy of the entry at {at}");
+    }
+}
+
 #[test]
 fn entries_of_one_hash() {
-    let mut words: Vec<u64> = (0..400).flat_map(|k| [261, k, mix(mix(0, 261), k).wrapping_neg()]).collect();
-    assert_eq!(load(&file(b"", &words), 2_000), Ok(0));
-    words.extend_from_within(300..303);
-    assert_eq!(load(&file(b"", &words), 2_000), Err(Refusal::BadWords));
+    of_one_hash(2_000);
+    of_one_hash(4_200);
+}
+
+#[test]
+fn entries_of_one_hash_in_long_files() {
+    of_one_hash(65_536);
+    of_one_hash(262_144);
 }
 
 /// A label of each length, so that the words stand at every byte; and the file itself at every alignment.

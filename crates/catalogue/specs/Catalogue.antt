@@ -1,4 +1,4 @@
--- Document 02, Slip 3, "A saved catalogue": the writer and the loader. The file is defined in catalogue_file/specs/File.antt.
+-- Document 02, Slip 3: the writer and the loader of a saved catalogue. The file is defined in catalogue_file/specs/File.antt.
 use mathlib.Core.Bool.{Bool, not, _&&_}
 use mathlib.Core.List.{List, _++_}
 use Prim.Native.Nat.{ℕ, zero, suc, _-_}
@@ -26,8 +26,8 @@ saveOutput label = filledOutput (labelRows label) (fileOf label)
 
 -- ---- the loader of a file f, into a lent list ws that may hold anything
 
--- "words that behind the fresh ones form [a] store of [an] allowed length", and none "with two equal entries", the fresh ones among them. (In a list of just its length; `any-length` of proofs/Loaded.antt: and then in one of every
--- allowed length that has room for it.)
+-- row 15 is for "words that behind the fresh ones form no store of any allowed length, or one with two equal entries": these form one, without. The fresh entries count among the equal ones. It is asked of a list of just the
+-- store's length; in every allowed length that has room for it the answer is the same (`any-length`, loaded/proofs/Longer.antt).
 unfoldable pub formsStore : List ℕ → Bool
 formsStore ks = wellFormed (behindFresh ks) && own (entries (behindFresh ks))
 
@@ -48,7 +48,7 @@ loadRows f ws =
 abbrev pub loadedStore : List ℕ → ℕ → List ℕ
 loadedStore ks n = behindFresh ks ++ replicate (n - length (behindFresh ks)) 0
 
--- "the reader .. answers the label's [length]"; a refusal leaves every word
+-- "the reader works back from the end and answers the label's": its length. A refusal leaves every word
 abbrev pub loadAfter : ℕ → List ℕ → List ℕ → Outcome
 loadAfter zero f ws = left (number (startIn f)) (loadedStore (wordsIn f) (length ws))
 loadAfter (suc n) f ws = left (refused (suc n)) ws

@@ -1,4 +1,4 @@
--- Document 02, Slip 3, "A saved catalogue": the file, as it is written and as it is read. `u` is a store's used words, `f` a file's bytes.
+-- Document 02, Slip 3: the file of a saved catalogue, as it is written and as it is read. `u` is a store's used words, `f` a file's bytes.
 use mathlib.Core.Bool.{Bool, _&&_}
 use mathlib.Core.List.{List, [], _∷_, _++_}
 use Prim.Native.Nat.{ℕ, zero, suc, _+_, _-_, _*_, _/_, _%_}
