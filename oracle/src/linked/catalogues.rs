@@ -18,7 +18,7 @@ pub use file::File;
 const OFTEN: usize = 10;
 const AT_THE_END: usize = 30;
 
-/// A file of more bytes is not loaded: the library goes through all entries for each, and scripts would be long.
+/// A file of more bytes is not loaded: the original would make all its entries anew each time, and scripts would be long.
 const MOST_BYTES: usize = 400_000;
 
 pub fn can_load(file: &[u8]) -> bool {

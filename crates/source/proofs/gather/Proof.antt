@@ -10,9 +10,6 @@ use Rattle.source.specs.Source.{stored}
 use Rattle.source.proofs.Both.{length-stored, gather-more, gather-all}
 use Rattle.source.proofs.gather.Statement.{statement}
 use Rattle.source.proofs.gather.Tie as tie
-use Rattle.source.proofs.gather.Reads as reads
-use Rattle.source.proofs.gather.Lts as lts
-use Rattle.source.proofs.word_at.Reads as word-at-reads
 
 abbrev Inv-loop : tie.InvT-loop
 Inv-loop words tail at n e₀ i₀ e i = (i ≤ n) × (length e ≡ length e₀) × (e ≡ front (take n (drop at (stored words tail))) i e₀)

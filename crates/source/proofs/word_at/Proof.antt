@@ -5,9 +5,6 @@ use Rattle.source.proofs.Both.{in-words, byte-room, in-bytes}
 use borrow.Author.Needs.{needs}
 use Rattle.source.proofs.word_at.Statement.{statement}
 use Rattle.source.proofs.word_at.Tie as tie
-use Rattle.source.proofs.word_at.Reads as reads
-use Rattle.source.proofs.word_at.Lts as lts
-use Rattle.source.proofs.eight.Reads as eight-reads
 
 mul-result : tie.Need-mul-result
 mul-result c = search needs

@@ -1,3 +1,4 @@
+-- `wellformed::entries_in` meets its contract.
 use borrow.Author.Needs.{needs}
 use mathlib.Core.Path.{_≡_, refl, sym, _∙_}
 use mathlib.Core.List.{List}
@@ -13,12 +14,6 @@ use Rattle.wellformed.proofs.Passed.{begin, bad, all-good}
 use Rattle.wellformed.proofs.Windows.{run-bad, run-at, copy-window, copied-long, from-zero}
 use Rattle.wellformed.proofs.entries_in.Statement.{statement}
 use Rattle.wellformed.proofs.entries_in.Tie as tie
-use Rattle.wellformed.proofs.entries_in.Reads as reads
-use Rattle.wellformed.proofs.entries_in.Lts as lts
-use Rattle.bitset.proofs.clear.Reads as clear-reads
-use Rattle.source.proofs.gather.Reads as gather-reads
-use Rattle.wellformed.proofs.run.Reads as run-reads
-use Rattle.wellformed.proofs.smaller.Reads as smaller-reads
 
 abbrev Inv-loop : tie.InvT-loop
 Inv-loop words tail used bits₀ room₀ at₀ bits room at = (length bits ≡ length bits₀) × (length room ≡ length room₀) × (Passed (stored words tail) used bits at)
@@ -36,96 +31,74 @@ len l = l .loop .inv .0 ∙ l .before .before .before .clear .kept .0
 low : (z : tie.After-smaller Inv-loop μ-loop) → z .smaller .result ≤ start (z .before .before) .args .used - z .before .before .loop .at
 low z = omega (arith, z .smaller .ensures)
 
--- src/lib.rt:283:5
 clear-requires : tie.Need-clear-requires Inv-loop μ-loop
 clear-requires c κs = search needs
 
--- src/lib.rt:285:5
 loop-holds : tie.Need-loop-holds Inv-loop μ-loop
 loop-holds c = (refl, refl, search begin)
 
--- src/lib.rt:286:37
 sub-smaller : tie.Need-sub-smaller Inv-loop μ-loop
 sub-smaller c = search needs
 
--- src/lib.rt:286:13
 smaller-requires : tie.Need-smaller-requires Inv-loop μ-loop
 smaller-requires c κs = search needs
 
--- src/lib.rt:287:9
 gather-requires : tie.Need-gather-requires Inv-loop μ-loop
 gather-requires c κs = let l = c .before .before .before in let s = start l in (omega (arith, c .before .smaller .ensures, c .before .before .loop-test .taken, s .pre .0 .1), omega (arith, c .before .smaller .ensures))
 
--- src/lib.rt:288:46
 slice-reshare-prefix-run : tie.Need-slice-reshare-prefix-run Inv-loop μ-loop
 slice-reshare-prefix-run c = omega (arith, c .before .before .before .before .before .smaller .ensures, c .before .before .before .gather .kept .1 .1 .1 .1 .0)
 
--- src/lib.rt:288:46
 slice-aggregate-run : tie.Need-slice-aggregate-run Inv-loop μ-loop
 slice-aggregate-run c = let g = c .before .before .before .before in sym (length-take-le _ (g .gather .last .1 .1 .1 .1 .0) (omega (arith, c .before .before .before .before .before .before .smaller .ensures, g .gather .kept .1 .1 .1 .1 .0)))
 
--- src/lib.rt:288:13
 run-requires : tie.Need-run-requires Inv-loop μ-loop
 run-requires c κs = let g = c .before .before .before .before in let l = c .before .before .before .before .before .before .before .before in let s = start l in (
   (s .pre .0 .1, omega (arith, s .pre .0 .2, len l)),
   (copy-window _ _ _ (c .before .before .before .before .before .before .smaller .result) (s .pre .0 .1) (c .before .before .before .before .before .before .before .loop-test .taken) (low (c .before .before .before .before .before .before)) _ _ (g .gather .ensures), (omega arith, from-zero _ _ _ _ (l .loop .inv .2))),
 )
 
--- src/lib.rt:289:25
 enum-known-r : tie.Need-enum-known-r Inv-loop μ-loop
 enum-known-r c = search needs
 
--- src/lib.rt:290:13
 enum-told : tie.Need-enum-told Inv-loop μ-loop
 enum-told c = search needs
 
--- src/lib.rt:290:13
 same-length : tie.Need-same-length Inv-loop μ-loop
 same-length c = search needs
 
--- src/lib.rt:290:13
 same-length-2 : tie.Need-same-length-2 Inv-loop μ-loop
 same-length-2 c = search needs
 
--- src/lib.rt:290:13
 returns : tie.Need-returns Inv-loop μ-loop
 returns c = bad _ _ _ (run-bad _ _ _ _ _ _ (c .before .before .before .before .run .ensures) (c .enum-told .given .1))
 
--- src/lib.rt:293:13
 same-length-3 : tie.Need-same-length-3 Inv-loop μ-loop
 same-length-3 c = search needs
 
--- src/lib.rt:293:13
 same-length-4 : tie.Need-same-length-4 Inv-loop μ-loop
 same-length-4 c = search needs
 
--- src/lib.rt:293:13
 returns-2 : tie.Need-returns-2 Inv-loop μ-loop
 returns-2 c = let l = c .before .before .before .before .before .before .before .before .before .before .before .before .before .before .before in let s = start l in
     copied-long _ _ _ (c .before .before .before .before .before .before .before .before .before .before .before .before .before .smaller .result) (s .pre .0 .1) (c .before .before .before .before .before .before .before .before .before .before .before .before .before .before .loop-test .taken) (low (c .before .before .before .before .before .before .before .before .before .before .before .before .before)) _ _ (c .before .before .before .before .before .before .before .before .before .before .before .gather .ensures) (length (l .loop .room)) _ _ (omega (arith, s .pre .1, l .loop .inv .1)) (c .before .before .before .before .before .before .before .before .before .before .before .before .before .smaller .ensures) _ (c .before .before .before .before .before .before .run .ensures) (c .before .before .r .given .1) (c .if1 .taken)
 
--- src/lib.rt:295:9
 add-at : tie.Need-add-at Inv-loop μ-loop
 add-at c = let l = c .before .before .before .before .before .before .before .before .before .before .before .before .before .before .before in let s = start l in let q = run-at _ _ _ _ _ _ (c .before .before .before .before .before .before .run .ensures) _ (c .before .before .r .given .1) in record { fits = omega (arith, q .0 .within, s .pre .0 .1, length-stored (now (s .args .words)) (now (s .args .tail))) }
 
--- src/lib.rt:285:5
 loop-less : tie.Need-loop-less Inv-loop μ-loop
 loop-less c = let q = run-at _ _ _ _ _ _ (c .before .before .before .before .before .before .run .ensures) _ (c .before .before .r .given .1) in omega (arith, q .0 .within, c .if1 .left, c .before .before .before .before .before .before .before .before .before .before .before .before .before .before .loop-test .taken)
 
--- src/lib.rt:285:5
 loop-again : tie.Need-loop-again Inv-loop μ-loop
 loop-again c = let l = c .before .before .before .before .before .before .before .before .before .before .before .before .before .before .before in
     (c .before .before .before .before .before .before .run .kept .1 .1 .1 .0 ∙ l .loop .inv .0, c .before .before .before .before .before .before .before .before .before .before .before .gather .kept .1 .1 .1 .1 .0 ∙ l .loop .inv .1, run-at _ _ _ _ _ _ (c .before .before .before .before .before .before .run .ensures) _ (c .before .before .r .given .1) .0)
 
--- src/lib.rt:278:1
 same-length-5 : tie.Need-same-length-5 Inv-loop μ-loop
 same-length-5 c = search needs
 
--- src/lib.rt:278:1
 same-length-6 : tie.Need-same-length-6 Inv-loop μ-loop
 same-length-6 c = search needs
 
--- src/lib.rt:278:1
 returns-3 : tie.Need-returns-3 Inv-loop μ-loop
 returns-3 c = search all-good
 

@@ -1,3 +1,4 @@
+-- `wellformed::run` meets its contract.
 use borrow.Author.Needs.{needs}
 use mathlib.Core.Path.{_≡_, refl, ap, _∙_}
 use mathlib.Core.Bool.{Bool}
@@ -18,11 +19,6 @@ use Rattle.wellformed.proofs.Passed.{bad-entry, good-entry}
 use Rattle.wellformed.proofs.Windows.{sized-in, in-use, stops, ends, lent-sized, lent, goes-end, goes-bad}
 use Rattle.wellformed.proofs.run.Statement.{statement}
 use Rattle.wellformed.proofs.run.Tie as tie
-use Rattle.wellformed.proofs.run.Reads as reads
-use Rattle.wellformed.proofs.run.Lts as lts
-use Rattle.bitset.proofs.mark.Reads as mark-reads
-use Rattle.wellformed.proofs.entry.Reads as entry-reads
-use Rattle.words.proofs.size.Reads as size-reads
 
 abbrev Inv-loop : tie.InvT-loop
 Inv-loop words tail used bits₀ window base from i₀ bits i = (length bits ≡ length bits₀) × (i ≤ length window) × (Passed (stored words tail) used bits (base + i))
@@ -71,85 +67,65 @@ lent-here z f = lent _ _ _ _ (start (head z) .pre .1 .0) _ _ (here z) (z .size .
 onward : (ws bits : List ℕ) (used base i n : ℕ) → Passed ws used bits (base + i + n) → Passed ws used bits (base + (i + n))
 onward ws bits used base i n p = let e : base + (i + n) ≡ base + i + n = omega arith in rw e p
 
--- src/lib.rt:243:5
 loop-holds : tie.Need-loop-holds Inv-loop μ-loop
 loop-holds c = let s = c .before .before .before .before in (refl, s .pre .1 .1 .0, s .pre .1 .1 .1)
 
--- src/lib.rt:244:29
 mul-size : tie.Need-mul-size Inv-loop μ-loop
 mul-size c = search needs
 
--- src/lib.rt:244:29
 shared-slice-read-size : tie.Need-shared-slice-read-size Inv-loop μ-loop
 shared-slice-read-size c = search needs
 
--- src/lib.rt:244:13
 size-requires : tie.Need-size-requires Inv-loop μ-loop
 size-requires c κs = search needs
 
--- src/lib.rt:245:16
 sub-if1 : tie.Need-sub-if1 Inv-loop μ-loop
 sub-if1 c = search needs
 
--- src/lib.rt:246:13
 same-length : tie.Need-same-length Inv-loop μ-loop
 same-length c = search needs
 
--- src/lib.rt:246:13
 returns : tie.Need-returns Inv-loop μ-loop
 returns c = let z = c .before in let l = head z in stops _ _ _ _ (start l .pre .1 .0) _ _ (here z) (z .size .ensures) _ (l .loop .inv .2) (c .if1 .taken)
 
--- src/lib.rt:248:49
 add-entry : tie.Need-add-entry Inv-loop μ-loop
 add-entry c = search needs
 
--- src/lib.rt:248:38
 mul-entry : tie.Need-mul-entry Inv-loop μ-loop
 mul-entry c = search needs
 
--- src/lib.rt:248:38
 sub-entry : tie.Need-sub-entry Inv-loop μ-loop
 sub-entry c = search needs
 
--- src/lib.rt:248:38
 part-entry-start : tie.Need-part-entry-start Inv-loop μ-loop
 part-entry-start c = search needs
 
--- src/lib.rt:248:38
 part-entry-end : tie.Need-part-entry-end Inv-loop μ-loop
 part-entry-end c = search needs
 
--- src/lib.rt:248:13
 entry-requires : tie.Need-entry-requires Inv-loop μ-loop
 entry-requires c κs = let z = c .before .before .before in let l = head z in
     (record { room = room l; inside = λ h e. below _ _ _ (l .loop .inv .2 .marks h e) (start l .pre .0 .0) }, lent-sized _ _ _ _ (start l .pre .1 .0) _ _ (here z) (z .size .ensures) (c .before .before .if1 .left))
 
--- src/lib.rt:249:13
 same-length-2 : tie.Need-same-length-2 Inv-loop μ-loop
 same-length-2 c = search needs
 
--- src/lib.rt:249:13
 returns-2 : tie.Need-returns-2 Inv-loop μ-loop
 returns-2 c = let x = c .before .before .before .before in let z = x .before in let l = head z in
     goes-bad _ _ _ _ _ (bad-entry _ _ _ _ _ (start l .pre .0 .0) (l .loop .inv .2) (used-here z) (sized z) (ends-here z (x .if1 .left)) _ (c .before .entry .ensures ∙ ap (okEntry (heads l)) (lent-here z (x .if1 .left))) (c .if2 .taken))
 
--- src/lib.rt:251:28
 add-mark : tie.Need-add-mark Inv-loop μ-loop
 add-mark c = let z = c .before .before .before .before .before .before in let l = head z in let s = start l in record { fits = omega (arith, used-here z, s .pre .0 .0, length-stored (now (s .args .words)) (now (s .args .tail))) }
 
--- src/lib.rt:251:9
 mark-requires : tie.Need-mark-requires Inv-loop μ-loop
 mark-requires c κs = let z = c .before .before .before .before .before .before in let l = head z in omega (arith, room l, used-here z, start l .pre .0 .0)
 
--- src/lib.rt:252:9
 add-i : tie.Need-add-i Inv-loop μ-loop
 add-i c = search needs
 
--- src/lib.rt:243:5
 loop-less : tie.Need-loop-less Inv-loop μ-loop
 loop-less c = let z = c .before .before .before .before .before .before .before .before .before in omega (arith, size-pos (getD (now (start (head z) .args .window)) (head z .loop .i) 0), z .size .ensures, here z)
 
--- src/lib.rt:243:5
 loop-again : tie.Need-loop-again Inv-loop μ-loop
 loop-again c = let m = c .before .before in let t = m .before .before in let e = t .before in let x = e .before .before .before in let z = x .before in let l = head z in (
   m .mark .kept .0 ∙ l .loop .inv .0,
@@ -157,11 +133,9 @@ loop-again c = let m = c .before .before in let t = m .before .before in let e =
   onward _ _ _ _ _ _ (good-entry _ _ _ _ _ (start l .pre .0 .0) (l .loop .inv .2) (used-here z) (sized z) (ends-here z (x .if1 .left)) _ (e .entry .ensures ∙ ap (okEntry (heads l)) (lent-here z (x .if1 .left))) (t .if2 .left) _ (m .mark .ensures)),
 )
 
--- src/lib.rt:228:1
 same-length-3 : tie.Need-same-length-3 Inv-loop μ-loop
 same-length-3 c = search needs
 
--- src/lib.rt:228:1
 returns-3 : tie.Need-returns-3 Inv-loop μ-loop
 returns-3 c = let l = c .before in goes-end _ _ _ _ _ _ (l .loop .inv .2) (l .loop .inv .1) (c .loop-test .left)
 
