@@ -62,6 +62,7 @@
 //! # Stack
 //!
 //! A call needs no heap, and a bounded stack: README.md, "Stack", has the figures, and `cargo run --release --example stack` measures them.
+//! They go by the words of the list; those of a load by the words of the file's store too, which it tests before it looks at the list.
 //! In a thread with less it ends the process, as any stack overflow does.
 #![no_std]
 #![deny(missing_docs, unsafe_code)]

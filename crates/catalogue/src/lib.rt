@@ -60,20 +60,14 @@ fn stores(tail: &[u8], bits: &mut [u64]) -> bool
     distinct::distinct(&first, tail, used, bits)
 }
 
-// How many words of bits the two tests are lent, for files of up to so many words: for a store of up to 4,096 words sixteen bits a word, so that the second test is quick.
+// How many words of bits the two tests are lent, for files of up to so many bytes of words: for a store of up to 4,096 words sixteen bits a word, so that the second test is quick.
 const SMALL_BITS: usize = 1024;
 
 const SMALL_TAIL: usize = 8 * 4002;
 
 const LARGE_BITS: usize = 16384;
 
-fn stores_small(tail: &[u8]) -> bool
-    requires { ⌜ length (now tail) ≤ 32016 ⌝ }
-    ensures { λ r. ⌜ r ≡ formsStore (unpacked (now (tail .entry))) ⌝ }
-{
-    let mut bits = [0u64; SMALL_BITS];
-    stores(tail, &mut bits)
-}
+const LARGE_TAIL: usize = 8 * limits::LONGEST;
 
 fn stores_large(tail: &[u8]) -> bool
     ensures { λ r. ⌜ r ≡ formsStore (unpacked (now (tail .entry))) ⌝ }
@@ -82,18 +76,20 @@ fn stores_large(tail: &[u8]) -> bool
     stores(tail, &mut bits)
 }
 
-// The same with an array of bits by the number of bytes. Each size stands in the frame of a function of its own, so that a small file needs little stack. `again` is how often this function calls itself, once: into one that does
-// the compiler puts no function that has a large array.
-fn stores_all(again: usize, tail: &[u8]) -> bool
+// The same with bits for n bytes: the length of `tail`, or where that is more than twice as long as that of any store, half of it, and so on. The large array stands in the frame of a function of its own, so that a small file needs little
+// stack. This function calls itself, and into such a one the compiler puts no function that has a large array.
+fn stores_for(n: usize, tail: &[u8]) -> bool
+    requires { ⌜ min (length (now tail)) (8 * longestAllowed) ≤ n ⌝ }
     ensures { λ r. ⌜ r ≡ formsStore (unpacked (now (tail .entry))) ⌝ }
 {
-    if 0 < again {
-        return stores_all(again - 1, tail);
+    if n <= SMALL_TAIL {
+        let mut bits = [0u64; SMALL_BITS];
+        return stores(tail, &mut bits);
     }
-    if tail.len() <= SMALL_TAIL {
-        return stores_small(tail);
+    if n / 2 <= LARGE_TAIL {
+        return stores_large(tail);
     }
-    stores_large(tail)
+    stores_for(n / 2, tail)
 }
 
 // Fills a list with the store whose words behind the fresh ones are in `tail`, and zeroes its rest.
@@ -129,7 +125,7 @@ pub fn load(words: &mut [u64], file: &[u8]) -> Answer
         return Answer::Refused(14);
     }
     let from = start as usize;
-    if !stores_all(1, &file[from..end]) {
+    if !stores_for(end - from, &file[from..end]) {
         return Answer::Refused(15);
     }
     if start > catalogue_file::LONGEST_LABEL as u64 {

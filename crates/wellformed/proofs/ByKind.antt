@@ -12,7 +12,7 @@ use lib.Seq.{take-all, drop-cons}
 use Rattle.words.specs.Words.{kindOf, depthOf}
 use Rattle.wellformed.specs.Entry.{kind, depth, count, takes, depthFor, kindAt, isName, isType, isStruct, isAliasFinal, all, deepest, mostOf, namesIn, typesIn, floatOk, zeroFilled, valuesOk, okEntry}
 use Rattle.words.specs.Columns.{every}
-use Rattle.wellformed.specs.Scan.{partDepth, partsDepth, fieldsDepth, oneOver}
+use Rattle.wellformed.specs.Scan.{headDepth, partDepth, partsDepth, fieldsDepth, oneOver}
 use Rattle.wellformed.specs.declared.Depth.{Depth}
 use Rattle.wellformed.specs.declared.Depth.the-variants.{Of, Bad}
 use Rattle.wellformed.proofs.Bools.{and-false, and-true}
@@ -40,7 +40,7 @@ most-le k = go (eqb k 0 || eqb k 7 || eqb k 8)
 -- ---- what the depth test says
 
 above-part : (heads : ℕ → ℕ) (p : ℕ → Bool) (h d : ℕ) → oneOver d (partDepth heads p h) ≡ ((p (kindOf (heads h)) && true) && eqb d (1 + deepest heads (h ∷ [])))
-unfolding oneOver partDepth deepest
+unfolding oneOver headDepth deepest
 above-part heads p h d = let m : max (depthOf (heads h)) 0 ≡ depthOf (heads h) = omega arith in rw m (go (p (kindOf (heads h))))
   where
     go : (t : Bool) → oneOver d (cond t (Of (depthOf (heads h))) Bad) ≡ ((t && true) && eqb d (1 + depthOf (heads h)))

@@ -17,7 +17,7 @@ use Rattle.bitset.specs.Bitset.{bitAt}
 use Rattle.wellformed.specs.Entry.{noHead, kindIn, kindAt, isName, isType, isAliasFinal, all, deepest}
 use Rattle.words.specs.Columns.{every}
 use Rattle.wellformed.specs.Form.{headsAt}
-use Rattle.wellformed.specs.Scan.{partDepth, partsDepth, fieldsDepth, oneOver, Marks}
+use Rattle.wellformed.specs.Scan.{headDepth, partDepth, partsDepth, fieldsDepth, oneOver, Marks}
 use Rattle.wellformed.specs.declared.Depth.{Depth}
 use Rattle.wellformed.specs.declared.Depth.the-variants.{Of, Bad}
 
@@ -45,24 +45,28 @@ module _ (ws bs bits : List ℕ) (h : ℕ) (more : h < length ws) where
 
 -- ---- part
 
-module _ (heads : ℕ → ℕ) (low high h g : ℕ) (is : g ≡ heads h) where
-  pub too-low : g % 256 < low → Bad ≡ partDepth heads (kindIn low high) h
-  unfolding partDepth
-  too-low l = rw (← is, lt-leb _ _ l)
+module _ (low high g : ℕ) where
+  pub too-low : g % 256 < low → Bad ≡ headDepth (kindIn low high) g
+  unfolding headDepth
+  too-low l = rw (lt-leb _ _ l)
 
   module _ (l : low ≤ g % 256) where
-    pub too-high : high < g % 256 → Bad ≡ partDepth heads (kindIn low high) h
-    unfolding partDepth
-    too-high k = rw (← is, le-leb _ _ l, lt-leb _ _ k)
+    pub too-high : high < g % 256 → Bad ≡ headDepth (kindIn low high) g
+    unfolding headDepth
+    too-high k = rw (le-leb _ _ l, lt-leb _ _ k)
 
-    pub right-kind : g % 256 ≤ high → Of (g / 256 % 256) ≡ partDepth heads (kindIn low high) h
-    unfolding partDepth
-    right-kind k = rw (← is, le-leb _ _ l, le-leb _ _ k)
+    pub right-kind : g % 256 ≤ high → Of (g / 256 % 256) ≡ headDepth (kindIn low high) g
+    unfolding headDepth
+    right-kind k = rw (le-leb _ _ l, le-leb _ _ k)
+
+-- of the head that stands at a handle
+pub by-head : (p : ℕ → Bool) (g k : ℕ) (r : Depth) → g ≡ k → r ≡ headDepth p g → r ≡ headDepth p k
+by-head p g k r is it = it ∙ ap (headDepth p) is
 
 -- what an answer of `part` says
 module _ (heads : ℕ → ℕ) (p : ℕ → Bool) (h : ℕ) (d : Depth) (is : d ≡ partDepth heads p h) where
   pub part-bad : d ≡ Bad → kindAt heads p h ≡ false
-  unfolding partDepth
+  unfolding headDepth
   part-bad b = go (kindAt heads p h) refl (sym is ∙ b)
     where
       go : (t : Bool) → kindAt heads p h ≡ t → cond t (Of (depthOf (heads h))) Bad ≡ Bad → t ≡ false
@@ -70,7 +74,7 @@ module _ (heads : ℕ → ℕ) (p : ℕ → Bool) (h : ℕ) (d : Depth) (is : d 
       go false e q = refl
 
   pub part-of : (x : ℕ) → d ≡ Of x → (kindAt heads p h ≡ true) × (x ≡ depthOf (heads h))
-  unfolding partDepth
+  unfolding headDepth
   part-of x o = go (kindAt heads p h) refl (sym is ∙ o)
     where
       go : (t : Bool) → kindAt heads p h ≡ t → cond t (Of (depthOf (heads h))) Bad ≡ Of x → (t ≡ true) × (x ≡ depthOf (heads h))
@@ -79,17 +83,17 @@ module _ (heads : ℕ → ℕ) (p : ℕ → Bool) (h : ℕ) (d : Depth) (is : d 
 
 -- ---- elements
 
-module _ (heads : ℕ → ℕ) (parts : List ℕ) (d i : ℕ) (left : partsDepth heads 0 parts ≡ partsDepth heads d (drop i parts)) where
-  pub no-part : length parts ≤ i → Of d ≡ partsDepth heads 0 parts
+module _ (heads : ℕ → ℕ) (parts : List ℕ) (d i : ℕ) (whole : Depth) (left : whole ≡ partsDepth heads d (drop i parts)) where
+  pub no-part : length parts ≤ i → Of d ≡ whole
   unfolding partsDepth all deepest
   no-part h = let m : max d 0 ≡ d = omega arith in sym (left ∙ rw (drop-of-length-le parts h, m))
 
   module _ (more : i < length parts) (p : Depth) (is : p ≡ partDepth heads isType (getD parts i 0)) where
-    pub bad-part : p ≡ Bad → Bad ≡ partsDepth heads 0 parts
+    pub bad-part : p ≡ Bad → Bad ≡ whole
     unfolding partsDepth all
     bad-part b = sym (left ∙ rw (drop-cons parts i 0 more, part-bad heads isType (getD parts i 0) p is b))
 
-    pub good-part : (x y : ℕ) → p ≡ Of x → y ≡ max d x → partsDepth heads 0 parts ≡ partsDepth heads y (drop (i + 1) parts)
+    pub good-part : (x y : ℕ) → p ≡ Of x → y ≡ max d x → whole ≡ partsDepth heads y (drop (i + 1) parts)
     unfolding partsDepth all deepest
     good-part x y o e =
         let q = part-of heads isType (getD parts i 0) p is x o in
@@ -122,8 +126,8 @@ module _ (heads : ℕ → ℕ) (d j p : ℕ) (e : List ℕ) where
       let m : max d (max x D) ≡ max (max d x) D = omega arith in
       rw (a, t) (merge (kindAt heads isName (getD e p 0)) (isAliasFinal (getD e (p + 2) 0)) (kindAt heads isType (getD e (p + 1) 0)) _ _ _ _ _ m)
 
-module _ (heads : ℕ → ℕ) (e : List ℕ) (n d i j : ℕ) (left : fieldsDepth heads 0 n 2 e ≡ fieldsDepth heads d j i e) where
-  pub no-field : j ≤ 0 → Of d ≡ fieldsDepth heads 0 n 2 e
+module _ (heads : ℕ → ℕ) (e : List ℕ) (d i j : ℕ) (whole : Depth) (left : whole ≡ fieldsDepth heads d j i e) where
+  pub no-field : j ≤ 0 → Of d ≡ whole
   unfolding fieldsDepth partsDepth every all deepest
   no-field h =
       let z : j ≡ 0 = omega arith in
@@ -131,25 +135,25 @@ module _ (heads : ℕ → ℕ) (e : List ℕ) (n d i j : ℕ) (left : fieldsDept
       sym (left ∙ rw (z, m))
 
   module _ (more : 0 < j) where
-    step : fieldsDepth heads 0 n 2 e
+    step : whole
         ≡ cond (kindAt heads isName (getD e i 0)) (cond (isAliasFinal (getD e (i + 2) 0)) (cond (kindAt heads isType (getD e (i + 1) 0)) (fieldsDepth heads (max d (depthOf (heads (getD e (i + 1) 0)))) (j - 1) (i + 3) e) Bad) Bad) Bad
     step =
         let q : j ≡ suc (j - 1) = omega arith in
         left ∙ ap (λ (k : ℕ). fieldsDepth heads d k i e) q ∙ field-first heads d (j - 1) i e
 
     module _ (g : ℕ) (ig : g ≡ heads (getD e i 0)) where
-      pub bad-name : (g % 256 ≡ 0 → ⊥) → Bad ≡ fieldsDepth heads 0 n 2 e
+      pub bad-name : (g % 256 ≡ 0 → ⊥) → Bad ≡ whole
       bad-name k = sym (step ∙ rw (← ig, ne-eqb _ _ k))
 
       module _ (k : g % 256 ≡ 0) where
-        pub bad-alias : 8589934591 < getD e (i + 2) 0 → Bad ≡ fieldsDepth heads 0 n 2 e
+        pub bad-alias : 8589934591 < getD e (i + 2) 0 → Bad ≡ whole
         bad-alias v = sym (step ∙ rw (← ig, eq-eqb _ _ k, lt-leb _ _ v))
 
         module _ (v : getD e (i + 2) 0 ≤ 8589934591) (t : Depth) (it : t ≡ partDepth heads isType (getD e (i + 1) 0)) where
-          pub bad-type : t ≡ Bad → Bad ≡ fieldsDepth heads 0 n 2 e
+          pub bad-type : t ≡ Bad → Bad ≡ whole
           bad-type b = sym (step ∙ rw (← ig, eq-eqb _ _ k, le-leb _ _ v, part-bad heads isType (getD e (i + 1) 0) t it b))
 
-          pub good-field : (x y : ℕ) → t ≡ Of x → y ≡ max d x → fieldsDepth heads 0 n 2 e ≡ fieldsDepth heads y (j - 1) (i + 3) e
+          pub good-field : (x y : ℕ) → t ≡ Of x → y ≡ max d x → whole ≡ fieldsDepth heads y (j - 1) (i + 3) e
           good-field x y o q =
               let f = part-of heads isType (getD e (i + 1) 0) t it x o in
               step ∙ rw (← ig, eq-eqb _ _ k, le-leb _ _ v, f .0, q, f .1)

@@ -6,7 +6,7 @@ use Prim.Native.Nat.{ℕ, _+_, _*_, _≤_, _<_, max}
 use lib.ListN.{length, take, drop, getD}
 use lib.Seq.{slice}
 use lib.Dec.{eqb}
-use Rattle.words.specs.Words.{sizeOf, fills, depthOf}
+use Rattle.words.specs.Words.{sizeOf, fills, kindOf, depthOf}
 use Rattle.words.specs.Table.{rows, entries, isAt, starts}
 use Rattle.bitset.specs.Bitset.{wordBits, bitAt}
 use Rattle.wellformed.specs.Entry.{kindAt, isName, isType, isAliasFinal, all, deepest, mostCounted}
@@ -17,9 +17,13 @@ use Rattle.wellformed.specs.declared.Depth.the-variants.{Of, Bad}
 use Rattle.wellformed.specs.declared.Reached.{Reached}
 use Rattle.wellformed.specs.declared.Reached.the-variants.{At, Fault}
 
+-- the depth in a head, if its kind is one that p takes
+unfoldable pub headDepth : (ℕ → Bool) → ℕ → Depth
+headDepth p head = cond (p (kindOf head)) (Of (depthOf head)) Bad
+
 -- the depth of the earlier entry at h, if its kind is one that p takes
-unfoldable pub partDepth : (ℕ → ℕ) → (ℕ → Bool) → ℕ → Depth
-partDepth heads p h = cond (kindAt heads p h) (Of (depthOf (heads h))) Bad
+abbrev pub partDepth : (ℕ → ℕ) → (ℕ → Bool) → ℕ → Depth
+partDepth heads p h = headDepth p (heads h)
 
 -- the depth of the deepest, from d on, if all are types
 unfoldable pub partsDepth : (ℕ → ℕ) → ℕ → List ℕ → Depth

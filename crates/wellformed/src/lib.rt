@@ -1,13 +1,13 @@
 // Row 1 of the refusals: whether a list of words is well formed.
 ghost use mathlib.Core.Path.{_≡_};
 ghost use Prim.Native.Nat.{_+_, _*_, _<_, _≤_, max, min};
-ghost use lib.ListN.{length, getD};
+ghost use lib.ListN.{length, drop, getD};
 ghost use Rattle.source.specs.Source.{unpacked, stored};
-ghost use Rattle.words.specs.Words.{sizeOf};
+ghost use Rattle.words.specs.Words.{sizeOf, fieldSize};
 ghost use Rattle.bitset.specs.Bitset.{wordBits, bitAt};
-ghost use Rattle.wellformed.specs.Entry.{zeroFilled, floatOk, kindIn, okEntry};
+ghost use Rattle.wellformed.specs.Entry.{zeroFilled, floatOk, kindIn, isType, okEntry};
 ghost use Rattle.wellformed.specs.Form.{allZero, headsAt, longestAllowed, wellFormed, behindFresh};
-ghost use Rattle.wellformed.specs.Scan.{partDepth, partsDepth, fieldsDepth, oneOver, Marks, Passed, Window, Going, Scanned, Verified, largestEntry};
+ghost use Rattle.wellformed.specs.Scan.{headDepth, partDepth, partsDepth, fieldsDepth, oneOver, Marks, Passed, Window, Going, Scanned, Verified, largestEntry};
 ghost use Rattle.words.specs.Columns.{structSize, firstField};
 use words::columns;
 use words::kinds;
@@ -74,30 +74,37 @@ pub fn larger(a: u64, b: u64) -> u64
     if a < b { b } else { a }
 }
 
-// The head of the earlier entry at h, or a head of no kind. A plain store's words are all in `words`, which is asked first.
+// The head of the earlier entry at h, which stands in `words`, or a head of no kind. A plain store's words are all there.
+fn near_head(words: &[u64], tail: &[u8], bits: &[u64], h: u64) -> u64
+    requires { ⌜ Marks (stored (now words) (now tail)) (now bits) ⌝ }
+    requires { ⌜ h < length (now words) ⌝ }
+    ensures { λ r. ⌜ r ≡ headsAt (bitAt (now (bits .entry))) (stored (now (words .entry)) (now (tail .entry))) h ⌝ }
+{
+    let at = h as usize;
+    if !bitset::marked(bits, at) {
+        return kinds::NO_HEAD;
+    }
+    words[at]
+}
+
+// The head of the earlier entry at h, or a head of no kind.
 fn head_at(words: &[u64], tail: &[u8], bits: &[u64], h: u64) -> u64
     requires { ⌜ Marks (stored (now words) (now tail)) (now bits) ⌝ }
     ensures { λ r. ⌜ r ≡ headsAt (bitAt (now (bits .entry))) (stored (now (words .entry)) (now (tail .entry))) h ⌝ }
 {
-    let at = h as usize;
-    if at < words.len() {
-        if !bitset::marked(bits, at) {
-            return kinds::NO_HEAD;
-        }
-        return words[at];
+    if h < words.len() as u64 {
+        return near_head(words, tail, bits, h);
     }
     if !bitset::contains(bits, h) {
         return kinds::NO_HEAD;
     }
-    source::word_at(words, tail, at)
+    source::word_at(words, tail, h as usize)
 }
 
-// The depth of the earlier entry at h, if its kind is from low to high.
-fn part(words: &[u64], tail: &[u8], bits: &[u64], h: u64, low: u64, high: u64) -> Depth
-    requires { ⌜ Marks (stored (now words) (now tail)) (now bits) ⌝ }
-    ensures { λ r. ⌜ r ≡ partDepth (headsAt (bitAt (now (bits .entry))) (stored (now (words .entry)) (now (tail .entry)))) (kindIn low high) h ⌝ }
+// The depth in a head, if its kind is from low to high.
+fn depth_in(head: u64, low: u64, high: u64) -> Depth
+    ensures { λ r. ⌜ r ≡ headDepth (kindIn low high) head ⌝ }
 {
-    let head = head_at(words, tail, bits, h);
     let kind = head % kinds::DEPTH;
     if kind < low {
         return Depth::Bad;
@@ -108,13 +115,38 @@ fn part(words: &[u64], tail: &[u8], bits: &[u64], h: u64, low: u64, high: u64) -
     Depth::Of(head / kinds::DEPTH % kinds::DEPTH)
 }
 
-// The depth of the deepest of the types whose handles are `parts`.
-fn elements(words: &[u64], tail: &[u8], bits: &[u64], parts: &[u64]) -> Depth
+// The depth of the earlier entry at h, if its kind is from low to high.
+fn part(words: &[u64], tail: &[u8], bits: &[u64], h: u64, low: u64, high: u64) -> Depth
     requires { ⌜ Marks (stored (now words) (now tail)) (now bits) ⌝ }
-    ensures { λ r. ⌜ r ≡ partsDepth (headsAt (bitAt (now (bits .entry))) (stored (now (words .entry)) (now (tail .entry)))) 0 (now (parts .entry)) ⌝ }
+    ensures { λ r. ⌜ r ≡ partDepth (headsAt (bitAt (now (bits .entry))) (stored (now (words .entry)) (now (tail .entry)))) (kindIn low high) h ⌝ }
 {
-    let mut d: u64 = 0;
-    let mut i = 0;
+    depth_in(head_at(words, tail, bits, h), low, high)
+}
+
+// The same of an entry that stands in `words`, if it is a type.
+fn near_type(words: &[u64], tail: &[u8], bits: &[u64], h: u64) -> Depth
+    requires { ⌜ Marks (stored (now words) (now tail)) (now bits) ⌝ }
+    requires { ⌜ h < length (now words) ⌝ }
+    ensures { λ r. ⌜ r ≡ partDepth (headsAt (bitAt (now (bits .entry))) (stored (now (words .entry)) (now (tail .entry)))) isType h ⌝ }
+{
+    depth_in(near_head(words, tail, bits, h), kinds::BOT, kinds::MEM)
+}
+
+// The depth of the deepest of the types whose handles are `parts`, from index `from` on, and of one that is `deepest` deep.
+fn far_elements(
+    words: &[u64],
+    tail: &[u8],
+    bits: &[u64],
+    parts: &[u64],
+    from: usize,
+    deepest: u64,
+) -> Depth
+    requires { ⌜ Marks (stored (now words) (now tail)) (now bits) ⌝ }
+    requires { ⌜ from ≤ length (now parts) ⌝ }
+    ensures { λ r. ⌜ r ≡ partsDepth (headsAt (bitAt (now (bits .entry))) (stored (now (words .entry)) (now (tail .entry)))) deepest (drop from (now (parts .entry))) ⌝ }
+{
+    let mut d = deepest;
+    let mut i = from;
     while i < parts.len() {
         let p = part(words, tail, bits, parts[i], kinds::BOT, kinds::MEM);
         let Depth::Of(x) = p else {
@@ -126,14 +158,44 @@ fn elements(words: &[u64], tail: &[u8], bits: &[u64], parts: &[u64]) -> Depth
     Depth::Of(d)
 }
 
-// The depth of the deepest type of a struct's n fields.
-fn fields(words: &[u64], tail: &[u8], bits: &[u64], e: &[u64], n: u64) -> Depth
+// The depth of the deepest of the types whose handles are `parts`. At the first that is not in `words` the loop is left for another, so that for a plain store it has nothing to do with bytes: that takes a tenth of row 1's time where structs are large.
+fn elements(words: &[u64], tail: &[u8], bits: &[u64], parts: &[u64]) -> Depth
     requires { ⌜ Marks (stored (now words) (now tail)) (now bits) ⌝ }
-    requires { ⌜ length (now e) ≡ structSize n ⌝ }
-    ensures { λ r. ⌜ r ≡ fieldsDepth (headsAt (bitAt (now (bits .entry))) (stored (now (words .entry)) (now (tail .entry)))) 0 n (firstField 0) (now (e .entry)) ⌝ }
+    ensures { λ r. ⌜ r ≡ partsDepth (headsAt (bitAt (now (bits .entry))) (stored (now (words .entry)) (now (tail .entry)))) 0 (now (parts .entry)) ⌝ }
 {
     let mut d: u64 = 0;
-    let mut i = columns::FIELDS;
+    let mut i = 0;
+    while i < parts.len() {
+        let h = parts[i];
+        if h >= words.len() as u64 {
+            return far_elements(words, tail, bits, parts, i, d);
+        }
+        let p = near_type(words, tail, bits, h);
+        let Depth::Of(x) = p else {
+            return Depth::Bad;
+        };
+        d = larger(d, x);
+        i += 1;
+    }
+    Depth::Of(d)
+}
+
+// The depth of the deepest type of n fields, of which the first stands at `from`, and of one that is `deepest` deep.
+fn far_fields(
+    words: &[u64],
+    tail: &[u8],
+    bits: &[u64],
+    e: &[u64],
+    from: usize,
+    n: u64,
+    deepest: u64,
+) -> Depth
+    requires { ⌜ Marks (stored (now words) (now tail)) (now bits) ⌝ }
+    requires { ⌜ length (now e) ≡ from + fieldSize * n ⌝ }
+    ensures { λ r. ⌜ r ≡ fieldsDepth (headsAt (bitAt (now (bits .entry))) (stored (now (words .entry)) (now (tail .entry)))) deepest n from (now (e .entry)) ⌝ }
+{
+    let mut d = deepest;
+    let mut i = from;
     let mut j = n;
     while 0 < j {
         let name = head_at(words, tail, bits, e[i]);
@@ -151,6 +213,42 @@ fn fields(words: &[u64], tail: &[u8], bits: &[u64], e: &[u64], n: u64) -> Depth
             kinds::BOT,
             kinds::MEM,
         );
+        let Depth::Of(x) = t else {
+            return Depth::Bad;
+        };
+        d = larger(d, x);
+        i += columns::FIELD;
+        j -= 1;
+    }
+    Depth::Of(d)
+}
+
+// The depth of the deepest type of a struct's n fields. The loop is left at the first handle that is not in `words`, as above.
+fn fields(words: &[u64], tail: &[u8], bits: &[u64], e: &[u64], n: u64) -> Depth
+    requires { ⌜ Marks (stored (now words) (now tail)) (now bits) ⌝ }
+    requires { ⌜ length (now e) ≡ structSize n ⌝ }
+    ensures { λ r. ⌜ r ≡ fieldsDepth (headsAt (bitAt (now (bits .entry))) (stored (now (words .entry)) (now (tail .entry)))) 0 n (firstField 0) (now (e .entry)) ⌝ }
+{
+    let mut d: u64 = 0;
+    let mut i = columns::FIELDS;
+    let mut j = n;
+    while 0 < j {
+        let h = e[i];
+        let k = e[i + columns::FIELD_TYPE];
+        if h >= words.len() as u64 {
+            return far_fields(words, tail, bits, e, i, j, d);
+        }
+        if k >= words.len() as u64 {
+            return far_fields(words, tail, bits, e, i, j, d);
+        }
+        let name = near_head(words, tail, bits, h);
+        if name % kinds::DEPTH != kinds::NAME {
+            return Depth::Bad;
+        }
+        if e[i + columns::FLAGS] > limits::LARGEST_FLAGS {
+            return Depth::Bad;
+        }
+        let t = near_type(words, tail, bits, k);
         let Depth::Of(x) = t else {
             return Depth::Bad;
         };

@@ -41,23 +41,26 @@ trailer-fits-requires c κs = search needs
 returns-4 : tie.Need-returns-4
 returns-4 c = wrong-trailer _ _ _ _ _ (read (c .before)) (c .if4 .taken)
 
-sub-stores-all : tie.Need-sub-stores-all
-sub-stores-all c = inside _ _ _ _ _ (read (c .before)) (c .if4 .left)
+sub-stores-for : tie.Need-sub-stores-for
+sub-stores-for c = inside _ _ _ _ _ (read (c .before)) (c .if4 .left)
 
-part-stores-all-start : tie.Need-part-stores-all-start
-part-stores-all-start c = inside _ _ _ _ _ (read (c .before)) (c .if4 .left)
+sub-stores-for-2 : tie.Need-sub-stores-for-2
+sub-stores-for-2 c = inside _ _ _ _ _ (read (c .before)) (c .if4 .left)
 
-part-stores-all-end : tie.Need-part-stores-all-end
-part-stores-all-end c = search needs
+part-stores-for-start : tie.Need-part-stores-for-start
+part-stores-for-start c = inside _ _ _ _ _ (read (c .before)) (c .if4 .left)
 
-stores-all-requires : tie.Need-stores-all-requires
-stores-all-requires c κs = search needs
+part-stores-for-end : tie.Need-part-stores-for-end
+part-stores-for-end c = search needs
+
+stores-for-requires : tie.Need-stores-for-requires
+stores-for-requires c κs = search needs
 
 returns-5 : tie.Need-returns-5
-returns-5 c = no-store _ _ _ _ _ (read (c .before .before .before .before)) (c .before .before .before .if4 .left) _ (c .before .stores-all .ensures) (c .if5 .taken)
+returns-5 c = no-store _ _ _ _ _ (read (c .before .before .before .before)) (c .before .before .before .if4 .left) _ (c .before .stores-for .ensures) (c .if5 .taken)
 
 returns-6 : tie.Need-returns-6
-returns-6 c = long-label _ _ _ _ _ (read (c .before .before .before .before .before)) (c .before .before .before .before .if4 .left) _ (c .before .before .stores-all .ensures) (c .before .if5 .left) (c .if6 .taken)
+returns-6 c = long-label _ _ _ _ _ (read (c .before .before .before .before .before)) (c .before .before .before .before .if4 .left) _ (c .before .before .stores-for .ensures) (c .before .if5 .left) (c .if6 .taken)
 
 add-if7 : tie.Need-add-if7
 add-if7 c =
@@ -66,7 +69,7 @@ add-if7 c =
     record { fits = omega (arith, words-size _ _ _ _ _ r y, tail-bytes _ _ _ _ _ r y, shorter _ _ _ _ _ r y) }
 
 returns-7 : tie.Need-returns-7
-returns-7 c = no-room _ _ _ _ _ (read (c .before .before .before .before .before .before)) (c .before .before .before .before .before .if4 .left) _ (c .before .before .before .stores-all .ensures) (c .before .before .if5 .left) (c .before .if6 .left) (c .if7 .taken)
+returns-7 c = no-room _ _ _ _ _ (read (c .before .before .before .before .before .before)) (c .before .before .before .before .before .if4 .left) _ (c .before .before .before .stores-for .ensures) (c .before .before .if5 .left) (c .before .if6 .left) (c .if7 .taken)
 
 sub-fill : tie.Need-sub-fill
 sub-fill c = inside _ _ _ _ _ (read (c .before .before .before .before .before .before .before)) (c .before .before .before .before .before .before .if4 .left)
@@ -84,7 +87,7 @@ same-length : tie.Need-same-length
 same-length c = search needs
 
 returns-8 : tie.Need-returns-8
-returns-8 c = loaded _ _ _ _ _ (read (c .before .before .before .before .before .before .before .before .before .before .before)) (c .before .before .before .before .before .before .before .before .before .before .if4 .left) _ (c .before .before .before .before .before .before .before .before .stores-all .ensures) (c .before .before .before .before .before .before .before .if5 .left) (c .before .before .before .before .before .before .if6 .left) (c .before .before .before .before .before .if7 .left) _ (c .before .before .fill .ensures)
+returns-8 c = loaded _ _ _ _ _ (read (c .before .before .before .before .before .before .before .before .before .before .before)) (c .before .before .before .before .before .before .before .before .before .before .if4 .left) _ (c .before .before .before .before .before .before .before .before .stores-for .ensures) (c .before .before .before .before .before .before .before .if5 .left) (c .before .before .before .before .before .before .if6 .left) (c .before .before .before .before .before .if7 .left) _ (c .before .before .fill .ensures)
 
 pub load-spec : {M : Type 1} → statement M
 load-spec =
@@ -98,10 +101,11 @@ load-spec =
     eight-requires-2
     trailer-fits-requires
     returns-4
-    sub-stores-all
-    part-stores-all-start
-    part-stores-all-end
-    stores-all-requires
+    sub-stores-for
+    sub-stores-for-2
+    part-stores-for-start
+    part-stores-for-end
+    stores-for-requires
     returns-5
     returns-6
     add-if7

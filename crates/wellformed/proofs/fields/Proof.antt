@@ -1,6 +1,6 @@
--- `wellformed::fields` meets its contract. The invariant: the answer is the answer on the j fields from i on, from the depth so far.
-use mathlib.Core.Path.{_≡_, refl}
-use Prim.Native.Nat.{_+_, _*_, _-_}
+-- `wellformed::fields` meets its contract. The invariant: the answer is the answer on what is left, from the depth so far.
+use mathlib.Core.Path.{_≡_, refl, sym, _∙_}
+use Prim.Native.Nat.{_+_, _*_}
 use lib.ListN.{length}
 use Rattle.source.specs.Source.{stored}
 use Rattle.bitset.specs.Bitset.{bitAt}
@@ -20,41 +20,53 @@ abbrev μ-loop : tie.MeasureT-loop
 loop-holds : tie.Need-loop-holds Inv-loop μ-loop
 loop-holds c = (search needs, refl)
 
-mul-head-at : tie.Need-mul-head-at Inv-loop μ-loop
-mul-head-at c = search needs
+mul-h : tie.Need-mul-h Inv-loop μ-loop
+mul-h c = search needs
 
-shared-slice-read-head-at : tie.Need-shared-slice-read-head-at Inv-loop μ-loop
-shared-slice-read-head-at c = search needs
+shared-slice-read-h : tie.Need-shared-slice-read-h Inv-loop μ-loop
+shared-slice-read-h c = search needs
 
-head-at-requires : tie.Need-head-at-requires Inv-loop μ-loop
-head-at-requires c κs = search needs
+add-k : tie.Need-add-k Inv-loop μ-loop
+add-k c = search needs
+
+mul-k : tie.Need-mul-k Inv-loop μ-loop
+mul-k c = search needs
+
+shared-slice-read-k : tie.Need-shared-slice-read-k Inv-loop μ-loop
+shared-slice-read-k c = search needs
+
+far-fields-requires : tie.Need-far-fields-requires Inv-loop μ-loop
+far-fields-requires c κs = search needs
 
 returns : tie.Need-returns Inv-loop μ-loop
-returns c = search bad-name
+returns c = c .far-fields .ensures ∙ sym (c .before .before .before .before .before .loop .inv .1)
 
-add-if2 : tie.Need-add-if2 Inv-loop μ-loop
-add-if2 c = search needs
-
-mul-if2 : tie.Need-mul-if2 Inv-loop μ-loop
-mul-if2 c = search needs
-
-shared-slice-read-if2 : tie.Need-shared-slice-read-if2 Inv-loop μ-loop
-shared-slice-read-if2 c = search needs
+far-fields-requires-2 : tie.Need-far-fields-requires-2 Inv-loop μ-loop
+far-fields-requires-2 c κs = search needs
 
 returns-2 : tie.Need-returns-2 Inv-loop μ-loop
-returns-2 c = search bad-alias
+returns-2 c = c .far-fields2 .ensures ∙ sym (c .before .before .before .before .before .before .loop .inv .1)
 
-add-part : tie.Need-add-part Inv-loop μ-loop
-add-part c = search needs
+near-head-requires : tie.Need-near-head-requires Inv-loop μ-loop
+near-head-requires c κs = search needs
 
-mul-part : tie.Need-mul-part Inv-loop μ-loop
-mul-part c = search needs
+returns-3 : tie.Need-returns-3 Inv-loop μ-loop
+returns-3 c = search bad-name
 
-shared-slice-read-part : tie.Need-shared-slice-read-part Inv-loop μ-loop
-shared-slice-read-part c = search needs
+add-if4 : tie.Need-add-if4 Inv-loop μ-loop
+add-if4 c = search needs
 
-part-requires : tie.Need-part-requires Inv-loop μ-loop
-part-requires c κs = search needs
+mul-if4 : tie.Need-mul-if4 Inv-loop μ-loop
+mul-if4 c = search needs
+
+shared-slice-read-if4 : tie.Need-shared-slice-read-if4 Inv-loop μ-loop
+shared-slice-read-if4 c = search needs
+
+returns-4 : tie.Need-returns-4 Inv-loop μ-loop
+returns-4 c = search bad-alias
+
+near-type-requires : tie.Need-near-type-requires Inv-loop μ-loop
+near-type-requires c κs = search needs
 
 enum-known-t : tie.Need-enum-known-t Inv-loop μ-loop
 enum-known-t c = search needs
@@ -62,8 +74,8 @@ enum-known-t c = search needs
 enum-told : tie.Need-enum-told Inv-loop μ-loop
 enum-told c = search needs
 
-returns-3 : tie.Need-returns-3 Inv-loop μ-loop
-returns-3 c = search bad-type
+returns-5 : tie.Need-returns-5 Inv-loop μ-loop
+returns-5 c = search bad-type
 
 larger-requires : tie.Need-larger-requires Inv-loop μ-loop
 larger-requires c κs = search needs
@@ -79,14 +91,11 @@ loop-less c = search needs
 
 loop-again : tie.Need-loop-again Inv-loop μ-loop
 loop-again c =
-    let p = c .before .before .before .before in
-    let v = p .before .before in
-    let h = v .before .before .before in
-    let l = h .before .before .before in
-    (search needs, good-field _ _ _ _ _ _ (l .loop .inv .1) (h .before .before .loop-test .taken) _ (h .head-at .ensures) (v .before .before .if1 .left) (v .if2 .left) _ (p .part .ensures) _ _ (c .before .before .t .given .1) (c .larger .ensures))
+    let h = c .before .before .before .before .before .before .before .before in
+    (search needs, good-field _ _ _ _ _ _ (c .before .before .before .before .before .before .before .before .before .before .before .before .before .before .loop .inv .1) (c .before .before .before .before .before .before .before .before .before .before .before .before .before .loop-test .taken) _ (h .near-head .ensures) (c .before .before .before .before .before .before .before .if3 .left) (c .before .before .before .before .before .if4 .left) _ (c .before .before .before .before .near-type .ensures) _ _ (c .before .before .t .given .1) (c .larger .ensures))
 
-returns-4 : tie.Need-returns-4 Inv-loop μ-loop
-returns-4 c = search no-field
+returns-6 : tie.Need-returns-6 Inv-loop μ-loop
+returns-6 c = search no-field
 
 pub fields-spec : {M : Type 1} → statement M
 fields-spec =
@@ -95,24 +104,28 @@ fields-spec =
     Inv-loop
     μ-loop
     loop-holds
-    mul-head-at
-    shared-slice-read-head-at
-    head-at-requires
+    mul-h
+    shared-slice-read-h
+    add-k
+    mul-k
+    shared-slice-read-k
+    far-fields-requires
     returns
-    add-if2
-    mul-if2
-    shared-slice-read-if2
+    far-fields-requires-2
     returns-2
-    add-part
-    mul-part
-    shared-slice-read-part
-    part-requires
+    near-head-requires
+    returns-3
+    add-if4
+    mul-if4
+    shared-slice-read-if4
+    returns-4
+    near-type-requires
     enum-known-t
     enum-told
-    returns-3
+    returns-5
     larger-requires
     add-i
     sub-j
     loop-less
     loop-again
-    returns-4)
+    returns-6)

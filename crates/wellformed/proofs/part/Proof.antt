@@ -1,5 +1,5 @@
 -- `wellformed::part` meets its contract.
-use Rattle.wellformed.proofs.Parts.{too-low, too-high, right-kind}
+use Rattle.wellformed.proofs.Parts.{by-head}
 use borrow.Author.Needs.{needs}
 use Rattle.wellformed.proofs.part.Statement.{statement}
 use Rattle.wellformed.proofs.part.Tie as tie
@@ -7,14 +7,11 @@ use Rattle.wellformed.proofs.part.Tie as tie
 head-at-requires : tie.Need-head-at-requires
 head-at-requires c κs = search needs
 
+depth-in-requires : tie.Need-depth-in-requires
+depth-in-requires c κs = search needs
+
 returns : tie.Need-returns
-returns c = search too-low
-
-returns-2 : tie.Need-returns-2
-returns-2 c = search too-high
-
-returns-3 : tie.Need-returns-3
-returns-3 c = search right-kind
+returns c = search by-head
 
 pub part-spec : {M : Type 1} → statement M
-part-spec = tie.close (tie.spec head-at-requires returns returns-2 returns-3)
+part-spec = tie.close (tie.spec head-at-requires depth-in-requires returns)
