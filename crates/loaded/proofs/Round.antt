@@ -24,7 +24,7 @@ use Rattle.catalogue_file.specs.File.{fileOf, laterWords, startIn, countIn, tra
 use Rattle.catalogue_file.proofs.Spelled.{behind}
 use Rattle.catalogue_file.proofs.Read.{file-start, file-words, file-label, file-trailed, whole, label-length, written-so}
 use Rattle.catalogue.specs.Catalogue.{formsStore, loadRows, loadedStore, loadCall}
-use Rattle.loaded.specs.Loaded.{AreWords, AreBytes, RoundTrip, SameStore, Taken, JustSaved, EqualBytes}
+use Rattle.loaded.specs.Loaded.{AreWords, AreBytes, RoundTrip, SameStore, Taken, JustSaved, EqualBytes, EqualStores}
 use Rattle.loaded.proofs.Longer.{used-words, length-longer, any-length, used-behind, later-behind, store-parts}
 use Rattle.loaded.proofs.Small.{below-take, loaded-small, small-ends}
 use Rattle.loaded.proofs.Accepted.{Took, took, Wrote, wrote}
@@ -134,7 +134,10 @@ taken-ends f ws l k = small-ends (usedWords (loadCall f ws .words)) (below-take 
 -- ---- equal files
 
 pub equal-bytes : EqualBytes
-equal-bytes ws vs label other sw sv ow ov short brief e = (
+equal-bytes ws vs label out other n m same p q = wrote ws label out n p .file ∙ ap (fileOf label) same ∙ sym (wrote vs label other m q .file)
+
+pub equal-stores : EqualStores
+equal-stores ws vs label other sw sv ow ov short brief e = (
   sym (read-label ws label sw ow short) ∙ ap labelIn e ∙ read-label vs other sv ov brief,
   sym (read-store ws label sw ow short) ∙ ap (λ (f : List ℕ). behindFresh (wordsIn f)) e ∙ read-store vs other sv ov brief,
 )

@@ -46,8 +46,14 @@ pub record Taken (f ws : List ℕ) (l : ℕ) : Type 0 where
 abbrev pub JustSaved : Type 0
 JustSaved = (f ws : List ℕ) (l : ℕ) → AreBytes f → loadCall f ws .reply ≡ number l → Taken f ws l
 
--- "Equal label and store mean equal bytes", and only equal ones do: two files are equal exactly where the labels are and the used words of the stores
+-- "Equal label and store mean equal bytes": two accepted saves under one label, of stores with the same used words, write the same file. The lists may have different lengths, and the outputs any bytes before.
 abbrev pub EqualBytes : Type 0
 EqualBytes =
+    (ws vs label out other : List ℕ) (n m : ℕ) → usedWords ws ≡ usedWords vs → saveCall label (length out) ws .reply ≡ number n → saveCall label (length other) vs .reply ≡ number m
+    → take n (saveOutput label ws out) ≡ take m (saveOutput label vs other)
+
+-- and only equal ones do: where two files are equal, the labels are, and the used words of the stores
+abbrev pub EqualStores : Type 0
+EqualStores =
     (ws vs label other : List ℕ) → AreWords ws → AreWords vs → wellFormed ws ≡ true → wellFormed vs ≡ true → length label ≤ 255 → length other ≤ 255
     → fileOf label (usedWords ws) ≡ fileOf other (usedWords vs) → (label ≡ other) × (usedWords ws ≡ usedWords vs)
