@@ -31,7 +31,7 @@ laterWords u = drop freshLength u
 abbrev pub trailer : List ℕ → List ℕ → List ℕ
 trailer label ks = length label ∷ length ks ∷ []
 
--- "The file is a label of 0 to 255 bytes, then the store's used words from 94 on", and the trailer. For example (proofs/Examples.antt): a fresh store with no label is sixteen zeros.
+-- "The file is a label of 0 to 255 bytes, then the store's used words from 94 on", and the trailer. For example (loaded/proofs/Examples.antt): a fresh store with no label is sixteen zeros.
 unfoldable pub fileOf : List ℕ → List ℕ → List ℕ
 fileOf label u = label ++ spelled (laterWords u ++ trailer label (laterWords u))
 

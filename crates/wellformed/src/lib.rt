@@ -158,7 +158,7 @@ fn far_elements(
     Depth::Of(d)
 }
 
-// The depth of the deepest of the types whose handles are `parts`. At the first that is not in `words` the loop is left for another, so that for a plain store it has nothing to do with bytes: that takes a tenth of row 1's time where structs are large.
+// The depth of the deepest of the types whose handles are `parts`. At the first that is not in `words` the loop is left for another, so that for a plain store it has nothing to do with bytes: with both in one loop row 1 took up to a quarter longer.
 fn elements(words: &[u64], tail: &[u8], bits: &[u64], parts: &[u64]) -> Depth
     requires { ⌜ Marks (stored (now words) (now tail)) (now bits) ⌝ }
     ensures { λ r. ⌜ r ≡ partsDepth (headsAt (bitAt (now (bits .entry))) (stored (now (words .entry)) (now (tail .entry)))) 0 (now (parts .entry)) ⌝ }
