@@ -17,11 +17,9 @@
  *   return.
  * - Its answer goes to *answer: a handle, a number, or 1 for yes and 0 for no. A signed number (the ends, value and
  *   mask of an Int, the size of a Float) is its two's complement word, a Float's constant its bits.
- * - A function that answers in one of two ways tells the way in *which. One with _added behind its name tells in *added
- *   how many words it appended to the store.
+ * - A function that answers in one of two ways tells the way in *which.
  * - Refused, it leaves every word of the store and of an output as it was, every byte of a file, and *answer and
- *   *which; *added is then 0, since nothing was appended. The index and the memory of an opened store may have changed,
- *   where they are not const.
+ *   *which. The index and the memory of an opened store may have changed, where they are not const.
  * - Lists that are lent as const are never written. Of a list that is not const, a function writes what its comment
  *   says; to append is to write behind the used words, and word 0, which counts them. All other used words keep, so
  *   that a handle stays what it is; ferigulan_fresh and ferigulan_load alone write the whole list anew.
@@ -386,45 +384,6 @@ uint32_t ferigulan_struct_fields(const uint64_t *words, size_t n, uint64_t s, ui
 uint32_t ferigulan_offsets(const uint64_t *words, size_t n, uint64_t s, uint64_t *output, size_t k, uint64_t *answer);
 
 /*
- * How much was added. A function ferigulan_X_added does what ferigulan_X does, is refused with the same numbers, and
- * tells in *added how many words it appended: those of every entry that it made, parts of its answer and what was made
- * on the way among them; 0 where all of them were there, and 0 where it is refused. Word 0 grows by just *added: where
- * all calls that may append are made so, 94 plus what they told since ferigulan_fresh is words[0]. After ferigulan_load
- * the sum begins at the words[0] that was loaded. Functions that have no such form append nothing.
- *
- * These may append to the words and write *added and *answer; they never touch another word.
- */
-
-uint32_t ferigulan_get_int_added(uint64_t *words, size_t n, uint64_t value, uint64_t *added, uint64_t *answer);
-uint32_t ferigulan_make_int_added(uint64_t *words, size_t n, uint64_t min, uint64_t max, uint64_t *added,
-    uint64_t *answer);
-uint32_t ferigulan_get_float_added(uint64_t *words, size_t n, uint64_t bits, uint64_t *added, uint64_t *answer);
-uint32_t ferigulan_make_float_added(uint64_t *words, size_t n, uint64_t sz, uint64_t bits, uint64_t *added,
-    uint64_t *answer);
-uint32_t ferigulan_get_tuple_added(uint64_t *words, size_t n, const uint64_t *types, size_t k, uint64_t *added,
-    uint64_t *answer);
-uint32_t ferigulan_get_str_added(uint64_t *words, size_t n, const uint8_t *name, size_t k, uint64_t *added,
-    uint64_t *answer);
-uint32_t ferigulan_get_struct_added(uint64_t *words, size_t n, uint64_t name, const uint64_t *fields, size_t k,
-    uint64_t *added, uint64_t *answer);
-uint32_t ferigulan_make_ary_added(uint64_t *words, size_t n, uint64_t len, uint64_t len_alias, uint64_t body,
-    uint64_t body_alias, const uint8_t *text, size_t k, uint64_t *added, uint64_t *answer);
-uint32_t ferigulan_make_struct_fref_added(uint64_t *words, size_t n, uint64_t name, uint64_t *added, uint64_t *answer);
-uint32_t ferigulan_get_mem_ptr_added(uint64_t *words, size_t n, uint64_t to, uint64_t nil, uint64_t *added,
-    uint64_t *answer);
-uint32_t ferigulan_get_mem_added(uint64_t *words, size_t n, uint64_t alias, uint64_t t, uint64_t *added,
-    uint64_t *answer);
-uint32_t ferigulan_meet_added(uint64_t *words, size_t n, uint64_t a, uint64_t b, uint64_t *added, uint64_t *answer);
-uint32_t ferigulan_meet_list_added(uint64_t *words, size_t n, const uint64_t *types, size_t k, uint64_t *added,
-    uint64_t *answer);
-uint32_t ferigulan_join_added(uint64_t *words, size_t n, uint64_t a, uint64_t b, uint64_t *added, uint64_t *answer);
-uint32_t ferigulan_dual_added(uint64_t *words, size_t n, uint64_t a, uint64_t *added, uint64_t *answer);
-uint32_t ferigulan_glb_added(uint64_t *words, size_t n, uint64_t a, uint64_t *added, uint64_t *answer);
-uint32_t ferigulan_lub_added(uint64_t *words, size_t n, uint64_t a, uint64_t *added, uint64_t *answer);
-uint32_t ferigulan_make_ro_added(uint64_t *words, size_t n, uint64_t a, uint64_t *added, uint64_t *answer);
-uint32_t ferigulan_non_zero_added(uint64_t *words, size_t n, uint64_t a, uint64_t *added, uint64_t *answer);
-
-/*
  * ---- opened stores: the same calls without the test of all words, with an index and a memory of answers in two more
  * lists
  *
@@ -594,51 +553,6 @@ uint32_t ferigulan_opened_ary_base(const uint64_t *words, size_t n, const uint64
 /* As ferigulan_ary_scale. */
 uint32_t ferigulan_opened_ary_scale(const uint64_t *words, size_t n, const uint64_t *index, size_t i, uint64_t *memory,
     size_t m, uint64_t s, uint64_t *answer);
-
-/*
- * How much was added: the functions ferigulan_X_added on an opened store. These may append to the words, and write the
- * index, the memory, *added and *answer; they never touch another word.
- */
-
-uint32_t ferigulan_opened_get_int_added(uint64_t *words, size_t n, uint64_t *index, size_t i, uint64_t *memory,
-    size_t m, uint64_t value, uint64_t *added, uint64_t *answer);
-uint32_t ferigulan_opened_make_int_added(uint64_t *words, size_t n, uint64_t *index, size_t i, uint64_t *memory,
-    size_t m, uint64_t min, uint64_t max, uint64_t *added, uint64_t *answer);
-uint32_t ferigulan_opened_get_float_added(uint64_t *words, size_t n, uint64_t *index, size_t i, uint64_t *memory,
-    size_t m, uint64_t bits, uint64_t *added, uint64_t *answer);
-uint32_t ferigulan_opened_make_float_added(uint64_t *words, size_t n, uint64_t *index, size_t i, uint64_t *memory,
-    size_t m, uint64_t sz, uint64_t bits, uint64_t *added, uint64_t *answer);
-uint32_t ferigulan_opened_get_tuple_added(uint64_t *words, size_t n, uint64_t *index, size_t i, uint64_t *memory,
-    size_t m, const uint64_t *types, size_t k, uint64_t *added, uint64_t *answer);
-uint32_t ferigulan_opened_get_str_added(uint64_t *words, size_t n, uint64_t *index, size_t i, uint64_t *memory,
-    size_t m, const uint8_t *name, size_t k, uint64_t *added, uint64_t *answer);
-uint32_t ferigulan_opened_get_struct_added(uint64_t *words, size_t n, uint64_t *index, size_t i, uint64_t *memory,
-    size_t m, uint64_t name, const uint64_t *fields, size_t k, uint64_t *added, uint64_t *answer);
-uint32_t ferigulan_opened_make_ary_added(uint64_t *words, size_t n, uint64_t *index, size_t i, uint64_t *memory,
-    size_t m, uint64_t len, uint64_t len_alias, uint64_t body, uint64_t body_alias, const uint8_t *text, size_t k,
-    uint64_t *added, uint64_t *answer);
-uint32_t ferigulan_opened_make_struct_fref_added(uint64_t *words, size_t n, uint64_t *index, size_t i, uint64_t *memory,
-    size_t m, uint64_t name, uint64_t *added, uint64_t *answer);
-uint32_t ferigulan_opened_get_mem_ptr_added(uint64_t *words, size_t n, uint64_t *index, size_t i, uint64_t *memory,
-    size_t m, uint64_t to, uint64_t nil, uint64_t *added, uint64_t *answer);
-uint32_t ferigulan_opened_get_mem_added(uint64_t *words, size_t n, uint64_t *index, size_t i, uint64_t *memory,
-    size_t m, uint64_t alias, uint64_t t, uint64_t *added, uint64_t *answer);
-uint32_t ferigulan_opened_meet_added(uint64_t *words, size_t n, uint64_t *index, size_t i, uint64_t *memory, size_t m,
-    uint64_t a, uint64_t b, uint64_t *added, uint64_t *answer);
-uint32_t ferigulan_opened_meet_list_added(uint64_t *words, size_t n, uint64_t *index, size_t i, uint64_t *memory,
-    size_t m, const uint64_t *types, size_t k, uint64_t *added, uint64_t *answer);
-uint32_t ferigulan_opened_join_added(uint64_t *words, size_t n, uint64_t *index, size_t i, uint64_t *memory, size_t m,
-    uint64_t a, uint64_t b, uint64_t *added, uint64_t *answer);
-uint32_t ferigulan_opened_dual_added(uint64_t *words, size_t n, uint64_t *index, size_t i, uint64_t *memory, size_t m,
-    uint64_t a, uint64_t *added, uint64_t *answer);
-uint32_t ferigulan_opened_glb_added(uint64_t *words, size_t n, uint64_t *index, size_t i, uint64_t *memory, size_t m,
-    uint64_t a, uint64_t *added, uint64_t *answer);
-uint32_t ferigulan_opened_lub_added(uint64_t *words, size_t n, uint64_t *index, size_t i, uint64_t *memory, size_t m,
-    uint64_t a, uint64_t *added, uint64_t *answer);
-uint32_t ferigulan_opened_make_ro_added(uint64_t *words, size_t n, uint64_t *index, size_t i, uint64_t *memory,
-    size_t m, uint64_t a, uint64_t *added, uint64_t *answer);
-uint32_t ferigulan_opened_non_zero_added(uint64_t *words, size_t n, uint64_t *index, size_t i, uint64_t *memory,
-    size_t m, uint64_t a, uint64_t *added, uint64_t *answer);
 
 #ifdef __cplusplus
 }

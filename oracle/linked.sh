@@ -1,7 +1,7 @@
 #!/bin/sh
 # linked.sh N [SEED] [--calls NAMES] [--plant NAME]: runs at least N calls by chance, in memory, on the library (by the crate in rust/ and by its functions
-# for C), on the reading of document 01 in oracle/reading and, as far as it can hold the types, on the original Rust. After each call the replies, what it
-# reports to have appended, every word of list and output, and guard words around them are compared. On a difference it prints a short script that shows it, and exits with 1.
+# for C), on the reading of document 01 in oracle/reading and, as far as it can hold the types, on the original Rust. After each call the replies, every
+# word of list and output, and guard words around them are compared. On a difference it prints a short script that shows it, and exits with 1.
 # linked.sh --planted [SEED]: plants mistakes between the library and the comparison, one after the other, and shows that each is found.
 # linked.sh --lists N [SEED] [--plant NAME]: what lists.sh runs. linked.sh --damage [SEED] --golden FILE [--plant NAME]: what damage.sh runs.
 # FERIGULAN_LIB names another folder with liblattice_c.a than target/staticlib; ORIGINAL another folder of the original than ../shared/docs/src.

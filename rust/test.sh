@@ -90,7 +90,6 @@ step "the crate's tests" cargo_in test --all-targets
 step "the examples in its documentation" cargo_in test --doc
 step "its documentation, without a warning" cargo_in doc --no-deps
 step "rust/examples/merge.rs prints what it should" same rust/examples/merge.out "$build/debug/examples/merge"
-step "rust/examples/added.rs prints what examples/added.c does" same examples/added.out "$build/debug/examples/added"
 
 # A user without std and without an allocator. Without --gc-sections gcc asks for the unwinder's function, which no code calls.
 no_std() {
@@ -112,7 +111,7 @@ header_alone() {
 c_example() { in_c "examples/$1.c" "$archive" -o "$build/$1_c" && same "examples/$1.out" "$build/$1_c"; }
 cpp_example() { in_cpp "examples/$1.c" -x none "$archive" -o "$build/$1_cpp" && same "examples/$1.out" "$build/$1_cpp"; }
 step "include/ferigulan.h stands alone, in C99 and in C++" header_alone
-for example in merge catalogue added; do
+for example in merge catalogue; do
     step "examples/$example.c in C99 prints what it should" c_example "$example"
     step "examples/$example.c in C++ prints what it should" cpp_example "$example"
 done
@@ -126,7 +125,7 @@ step "the scripts of tests/ print through the crate what they print through call
 
 # The stacks for the longer lists take too long here; and a process that is to end by a signal is none for valgrind.
 under_valgrind() {
-    CARGO_TARGET_X86_64_UNKNOWN_LINUX_GNU_RUNNER="valgrind -q --error-exitcode=1" cargo_in test --test every_call --test values --test opened --test reading --test find_entry --test catalogue --test added --test stack -- \
+    CARGO_TARGET_X86_64_UNKNOWN_LINUX_GNU_RUNNER="valgrind -q --error-exitcode=1" cargo_in test --test every_call --test values --test opened --test reading --test find_entry --test catalogue --test stack -- \
         --skip 65_536 --skip 1_048_576 --skip largest_file --skip long_files --skip ends_the_process
 }
 step "the tests under valgrind" under_valgrind

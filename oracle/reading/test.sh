@@ -1,6 +1,6 @@
 #!/bin/sh
 # test.sh [ARGUMENTS]: runs the tests of the package `reading`; the arguments go to `cargo test`. Everything that is built goes into target/reading.
-# CASES names a folder of scripts with their answers (twelve.txt, limits.txt, refusals.txt, slip-01.txt, slip-02.txt, slip-03.txt, slip-04.txt), to be run too.
+# CASES names a folder of scripts with their answers (twelve.txt, limits.txt, refusals.txt, slip-01.txt, slip-02.txt, slip-03.txt), to be run too.
 here=$(cd "$(dirname "$0")" && pwd) || exit 2
 out=$(cd "$here/../.." && pwd)/target/reading
 command -v cargo >/dev/null || { echo "oracle/reading/test.sh: cargo is needed, and not on the path" >&2; exit 2; }

@@ -6,10 +6,9 @@ mod lists;
 mod making;
 mod opening;
 mod others;
-mod reports;
 
 use crate::random::Random;
-use crate::script::{known_name, WORDS_ADDED};
+use crate::script::known_name;
 use crate::session::{Answer, Room, Session, ROOM_OF_CALLS};
 use crate::steps::{Arg, Asked, Runner, Step};
 use crate::values;
@@ -74,8 +73,6 @@ pub struct Menu {
     pub dump: bool,
     /// Whether the lists are opened.
     pub opened: bool,
-    /// Whether lines are asked for what they report.
-    pub reports: bool,
     pub lists: Lists,
 }
 
@@ -97,19 +94,18 @@ pub const SHORT: Lists = Lists { room: ROOM_OF_CALLS, length: values::length, ar
 
 impl Menu {
     /// Reads names separated by commas; `makers` stands for all makers, `lattice` for its calls, `others` for document 01's other calls,
-    /// `lists` for the merges of lists, `words_added` for what lines report, `all` for everything.
+    /// `lists` for the merges of lists, `all` for everything.
     pub fn read(names: &str) -> Result<Menu, String> {
-        let mut menu = Menu { asks: vec![], dump: false, opened: false, reports: false, lists: SHORT };
+        let mut menu = Menu { asks: vec![], dump: false, opened: false, lists: SHORT };
         for name in names.split(',') {
             match name {
                 "makers" => {}
                 "dump" => menu.dump = true,
-                WORDS_ADDED => menu.reports = true,
                 "lattice" => menu.asks.extend(LATTICE),
                 "others" => menu.asks.extend(OTHERS),
                 "lists" => menu.asks.extend(LISTS),
                 "all" => {
-                    (menu.dump, menu.reports) = (true, true);
+                    menu.dump = true;
                     menu.asks.extend(all_asks());
                 }
                 _ => menu.asks.extend(all_asks().filter(|ask| ask.1 == name)),
@@ -177,13 +173,9 @@ pub fn list(seed: u64, menu: &Menu) -> List {
         list: List { steps: vec![], asked: vec![] },
     };
     generator.whole_list();
-    let list = match menu.opened {
+    match menu.opened {
         true => opening::opened(generator.list, seed),
         false => generator.list,
-    };
-    match menu.reports {
-        true => reports::with_reports(list, seed),
-        false => list,
     }
 }
 

@@ -45,8 +45,8 @@ oracle damage [SEED] --golden FILE [--plant NAME] [--folder FOLDER]
                                             loads damaged files of catalogues on the linked library and on the reading
 oracle planted [SEED] [--calls NAMES]       shows that planted mistakes are found
 NAMES: names of calls separated by commas, 'lattice' for kind, meet and the other calls of the lattice, 'others' for the calls from
-make_init to ary_scale, 'lists' for the merges of lists, 'words_added' for what lines report, 'dump' for the store's words at the end of
-each list, 'all'. The makers are always used, and 'find_entry', 'save' and 'load' by linked alone, with 'all' too. --opened opens the stores.";
+make_init to ary_scale, 'lists' for the merges of lists, 'dump' for the store's words at the end of each list, 'all'. The makers are always
+used, and 'find_entry', 'save' and 'load' by linked alone, with 'all' too. --opened opens the stores.";
 
 /// What is compared where no calls are named, and what a sample has: dumps make long lines.
 const COMPARED: &str = "all";

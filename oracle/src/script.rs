@@ -21,9 +21,6 @@ struct Shape(&'static str, usize, usize, bool);
 
 const ANY: usize = usize::MAX;
 
-/// The line that prints what the last line before it reported that is no such line.
-pub const WORDS_ADDED: &str = "words_added";
-
 const SHAPES: &[Shape] = &[
     // The lent list itself.
     Shape("list", 1, 2, false),
@@ -47,8 +44,6 @@ const SHAPES: &[Shape] = &[
     Shape("fpoke", 2, 2, false),
     Shape("fcut", 1, 1, false),
     Shape("fadd", 0, 0, true),
-    // What the line before it reported: document 02, Slip 4.
-    Shape(WORDS_ADDED, 0, 0, false),
     // The makers.
     Shape("kind", 1, 1, false),
     Shape("get_bool", 1, 1, false),
@@ -107,33 +102,6 @@ const SHAPES: &[Shape] = &[
 /// The name of a call as these programs know it.
 pub fn known_name(name: &str) -> Option<&'static str> {
     SHAPES.iter().find(|shape| shape.0 == name).map(|shape| shape.0)
-}
-
-/// The calls that can append, and so report words: document 02, Slip 4.
-const APPENDING: &[&str] = &[
-    "int",
-    "float",
-    "tuple",
-    "str",
-    "struct",
-    "fref",
-    "ptr",
-    "mem",
-    "ary",
-    "meet",
-    "meet_list",
-    "meet_rep",
-    "dual",
-    "join",
-    "glb",
-    "lub",
-    "make_ro",
-    "non_zero",
-];
-
-/// Whether a call can append. Every other line reports 0.
-pub fn appends(name: &str) -> bool {
-    APPENDING.contains(&name)
 }
 
 pub fn read_line(line: &str) -> Line {
@@ -209,10 +177,6 @@ fn read_text(word: &str) -> Option<Vec<u8>> {
 const MOST_REPEATED: u64 = 131_072;
 
 impl Call {
-    pub fn words_added() -> Call {
-        Call { name: WORDS_ADDED, numbers: vec![], text: vec![] }
-    }
-
     /// The same call with its list written out, where the line says how often one handle stands in it. Nothing where that is too often.
     pub fn written_out(&self) -> Option<Call> {
         match (self.name, &self.numbers[..]) {

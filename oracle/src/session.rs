@@ -3,7 +3,7 @@
 use crate::ask::{ask, Clock, Told};
 use crate::rebuilt::entry_maker;
 use crate::rows::refusal;
-use crate::script::{appends, read_line, Call, Line, WORDS_ADDED};
+use crate::script::{read_line, Call, Line};
 use crate::store::{Store, LONGEST, SHORTEST};
 use original::sea_of_nodes::types::Types;
 use std::fmt;
@@ -103,8 +103,6 @@ pub struct Session<'a, 't> {
     lent: Lent<'a, 't>,
     /// The list as `keep` found it, if its words were known: the empty one before.
     kept: Option<Vec<u64>>,
-    /// What the last line reported: the words that a call has appended, 0 for any other line. Nothing where the Rust was not asked.
-    added: Option<u64>,
     room: Room,
     pub clock: Clock,
 }
@@ -115,7 +113,7 @@ impl<'a, 't> Session<'a, 't> {
     }
 
     pub fn with_room(types: &'a Types<'t>, room: Room) -> Self {
-        Session { types, lent: Lent::Plain(vec![]), kept: Some(vec![]), added: Some(0), room, clock: Clock::default() }
+        Session { types, lent: Lent::Plain(vec![]), kept: Some(vec![]), room, clock: Clock::default() }
     }
 
     /// One that takes lists as long as a store may be, as the library does.
@@ -134,25 +132,13 @@ impl<'a, 't> Session<'a, 't> {
     pub fn run_line(&mut self, line: &str) -> Option<Answer> {
         let answer = match read_line(line) {
             Line::Empty => return None,
-            Line::Malformed => {
-                self.added = Some(0);
-                Answer::Malformed
-            }
+            Line::Malformed => Answer::Malformed,
             Line::Call(call) => self.run(&call),
         };
         Some(answer)
     }
 
-    /// What the last line reported, if that is known.
-    pub fn added(&self) -> Option<u64> {
-        self.added
-    }
-
     pub fn run(&mut self, call: &Call) -> Answer {
-        if call.name == WORDS_ADDED {
-            return self.added.map_or_else(lost, Answer::Number);
-        }
-        self.added = Some(0);
         match (call.name, &call.numbers[..]) {
             ("list" | "fresh", [n, ..]) if *n > self.room.words => Answer::Malformed,
             ("fields" | "offsets", [_, length]) if *length > self.room.output => Answer::Malformed,
@@ -283,12 +269,10 @@ impl<'a, 't> Session<'a, 't> {
 
     /// A call of the documents: refused by its own rows, or answered by the Rust.
     fn call(&mut self, call: &Call) -> Answer {
-        let unknown = (!appends(call.name)).then_some(0);
         let store = match &mut self.lent {
             Lent::Plain(_) => return Answer::Refused(1),
             Lent::Lost(_, words) => {
                 *words = None;
-                self.added = unknown;
                 return lost();
             }
             Lent::Store(store) => store,
@@ -300,17 +284,10 @@ impl<'a, 't> Session<'a, 't> {
         let told = catch_unwind(AssertUnwindSafe(|| ask(store, call, clock)));
         let reason = match told {
             Ok(Told::Said(answer)) => return answer,
-            Ok(Told::Made(made)) => {
-                let Some(appended) = store.append(&made) else {
-                    return Answer::Refused(12);
-                };
-                self.added = Some(appended.words as u64);
-                return Answer::Number(appended.handle);
-            }
+            Ok(Told::Made(made)) => return store.append(&made).map_or(Answer::Refused(12), Answer::Number),
             Ok(Told::NotHeld(reason)) => reason,
             Err(_) => "the Rust panicked",
         };
-        self.added = unknown;
         self.lent = Lent::Lost(self.length(), None);
         Answer::NotHeld(reason.to_string())
     }

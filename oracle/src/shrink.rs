@@ -1,6 +1,5 @@
 //! Makes a list with a difference as short as it finds: calls are left out, then arguments made simpler, as long as a difference stays.
 
-use crate::script::WORDS_ADDED;
 use crate::steps::{Arg, Asked, Step};
 use crate::store::SHORTEST;
 use std::collections::HashSet;
@@ -99,15 +98,11 @@ impl<S: Sides> Shrinker<'_, S> {
         }
     }
 
-    /// Looks for a difference in the last call alone, on types of the fresh store, where more lines than that are left. Lines that ask for what
-    /// it reported stay behind it.
+    /// Looks for a difference in the last call alone, on types of the fresh store, where more lines than that are left.
     fn takes_fresh_types(&mut self) -> io::Result<bool> {
-        let behind = self.steps.iter().rev().take_while(|step| step.name == WORDS_ADDED).count();
-        let (calls, behind) = self.steps.split_at(self.steps.len() - behind);
-        let Some(last) = calls.last().filter(|_| calls.len() > 2).cloned() else {
+        let Some(last) = self.steps.last().filter(|_| self.steps.len() > 2).cloned() else {
             return Ok(false);
         };
-        let behind = behind.to_vec();
         let seconds: Vec<Option<u64>> = match last.args.len() {
             1 => vec![None],
             2 => fresh_types().map(Some).collect(),
@@ -117,7 +112,7 @@ impl<S: Sides> Shrinker<'_, S> {
         for (first, second) in fresh_types().flat_map(|first| seconds.iter().map(move |second| (first, *second))) {
             let args = [Some(first), second].into_iter().flatten().map(Arg::Number).collect();
             let call = Step { args, ..last.clone() };
-            if self.is_over() || self.accepts([&[fresh.clone(), call][..], &behind].concat())? {
+            if self.is_over() || self.accepts(vec![fresh.clone(), call])? {
                 return Ok(!self.is_over());
             }
         }

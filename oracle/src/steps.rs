@@ -37,12 +37,11 @@ pub struct Step {
     pub text: Vec<u8>,
 }
 
-/// A call with plain numbers, what the Rust answered, and what it reported, if that is known.
+/// A call with plain numbers, and what the Rust answered.
 #[derive(Clone)]
 pub struct Asked {
     pub call: Call,
     pub answer: Answer,
-    pub added: Option<u64>,
 }
 
 impl Asked {
@@ -104,7 +103,7 @@ impl<'a, 't> Runner<'a, 't> {
         };
         let appended = self.entries().iter().skip(before).map(|entry| entry.handle).collect();
         self.outcomes.note(step.id, &answer, appended);
-        Asked { call, answer, added: self.session.added() }
+        Asked { call, answer }
     }
 
     /// Many calls as one step.

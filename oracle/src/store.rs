@@ -40,12 +40,6 @@ impl<'t> Entry<'t> {
     }
 }
 
-/// What a call has made: the last one's handle, and how many words all that was new has.
-pub struct Appended {
-    pub handle: u64,
-    pub words: usize,
-}
-
 pub const SHORTEST: usize = 94;
 pub const LONGEST: usize = 1_048_576;
 
@@ -107,18 +101,18 @@ impl<'a, 't> Store<'a, 't> {
 
     /// Gives handles to what a call made, in the order of its making, and hands back the last one's; or takes all of them back and gives
     /// nothing where they do not fit the list: row 12.
-    pub fn append(&mut self, made: &[Held<'t>]) -> Option<Appended> {
-        let (before, used) = (self.entries.len(), self.words.len());
-        let mut handle = 0;
+    pub fn append(&mut self, made: &[Held<'t>]) -> Option<u64> {
+        let before = self.entries.len();
+        let mut answer = 0;
         for held in made {
-            handle = self.register(*held);
+            answer = self.register(*held);
         }
         if self.words.len() > self.length {
             self.take_back(before);
             return None;
         }
         self.words[0] = self.words.len() as u64;
-        Some(Appended { handle, words: self.words.len() - used })
+        Some(answer)
     }
 
     fn take_back(&mut self, before: usize) {

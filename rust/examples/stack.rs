@@ -11,7 +11,6 @@ use ferigulan::{calls, file_length, index_len, OpenedStore, LONGEST_LABEL};
 
 #[path = "../tests/common/mod.rs"]
 mod common;
-use common::call::Call;
 use common::files::{file, ints};
 use common::towers::{deep, memory_lengths, TOWERS};
 
@@ -77,13 +76,6 @@ fn note(needs: &mut Table, name: &'static str, length: usize, bytes: usize) {
     *most = bytes.max(*most);
 }
 
-/// What the function needs that reports how many words it appended, where the call has one.
-fn note_reporting(needs: &mut Table, call: &Call, length: usize, bytes: usize) {
-    if let Some(name) = call.reporting_name() {
-        note(needs, name, length, bytes);
-    }
-}
-
 fn ignore<T>(answer: T) {
     black_box(answer);
 }
@@ -116,15 +108,10 @@ fn measure(stack: &mut Stack, needs: &mut Needs, length: usize) {
             let mut output = call.output();
             let bytes = deep.plain(|words| stack.used_by(|| ignore(call.on_words(words, &mut output))));
             note(&mut needs.plain, call.name(), length, bytes);
-            let bytes = deep.plain(|words| stack.used_by(|| ignore(call.on_words_added(words))));
-            note_reporting(&mut needs.plain, &call, length, bytes);
             for m in memory_lengths(length) {
                 let measured = |opened: &mut OpenedStore<'_>| stack.used_by(|| ignore(call.on_opened(opened, &mut output)));
                 let bytes = deep.opened(&mut index, &mut memory[..m], measured);
                 note(&mut needs.opened, call.name(), length, bytes);
-                let measured = |opened: &mut OpenedStore<'_>| stack.used_by(|| ignore(call.on_opened_added(opened)));
-                let bytes = deep.opened(&mut index, &mut memory[..m], measured);
-                note_reporting(&mut needs.opened, &call, length, bytes);
             }
         }
     }

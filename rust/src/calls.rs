@@ -2,7 +2,7 @@
 //!
 //! Every one of them but [`fresh`], [`load`] and [`well_formed`] tests the whole list first, and is refused with
 //! [`NotWellFormed`](Refusal::NotWellFormed) where the words are not those of a store. [`Store`](crate::Store) has the same calls as
-//! methods, on words that are known to be one. Those that may append are in [`added`] once more, where they tell how many words it was.
+//! methods, on words that are known to be one.
 //!
 //! ```
 //! use ferigulan::{calls, Refusal};
@@ -19,8 +19,6 @@
 use crate::sys;
 use crate::word::{argument, word, Told};
 use crate::{Handle, Kind, Reading, Refusal, Search};
-
-pub mod added;
 
 /// Writes a fresh store into the words: the 94 of the fresh types, and 0 behind them.
 ///
@@ -132,8 +130,7 @@ macro_rules! plain_calls {
     ($(
         $(#[$doc:meta])*
         $shape:ident $name:ident($($arg:ident: $kind:ident),*) $(with $list:ident: [$element:ty])? $(into $output:ident)? -> $answer:ty
-        = $plain:ident, $opened:ident $(reporting $plain_added:ident, $opened_added:ident)?
-        refuses [$($row:ident)*] $example:tt
+        = $plain:ident, $opened:ident refuses [$($row:ident)*] $example:tt
     )*) => {$(
         $(#[$doc])*
         #[doc = ""]

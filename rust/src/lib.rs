@@ -36,9 +36,6 @@
 //! - the methods of [`OpenedStore`], which holds an index and a memory of answers besides, and reads no more of the words than it needs. It
 //!   is the one to use where many calls are made.
 //!
-//! Those that may append are there once more, and tell how many words it was: in [`calls::added`], and behind
-//! [`Store::added`] and [`OpenedStore::added`]. So it is seen which merge fills a store.
-//!
 //! The search for an entry by its words, [`find_entry`](Store::find_entry), is no call, and is there in the same three forms. It tells
 //! besides how many entries it did not pass over.
 //!
@@ -76,7 +73,6 @@ compile_error!("ferigulan is for x86-64 alone: its archive is built for no other
 #[macro_use]
 mod table;
 
-mod added;
 pub mod calls;
 mod catalogue;
 mod field;
@@ -91,7 +87,6 @@ mod store;
 mod sys;
 mod word;
 
-pub use added::{Added, Made};
 pub use catalogue::{file_length, LONGEST_FILE, LONGEST_LABEL};
 pub use field::Field;
 pub use handle::Handle;

@@ -2,7 +2,7 @@ use core::fmt;
 
 use crate::sys::{self, OpenedLists};
 use crate::word::{argument, word, Told};
-use crate::{calls, Added, Handle, Kind, Made, Reading, Refusal, Search};
+use crate::{calls, Handle, Kind, Reading, Refusal, Search};
 
 /// A store that was opened: its calls answer and leave in the words just what [`Store`](crate::Store)'s do, without reading all of them.
 ///
@@ -118,24 +118,6 @@ impl<'s> OpenedStore<'s> {
         self.words()[0] as usize
     }
 
-    /// The calls that may append, each with how many words it appended: see [`Store::added`](crate::Store::added).
-    ///
-    /// ```
-    /// use ferigulan::{index_len, memory_len, Refusal, Store};
-    ///
-    /// let (mut words, mut index, mut memory) = ([0; 200], [0; index_len(200)], [0; memory_len(200)]);
-    /// let mut store = Store::fresh(&mut words)?;
-    /// let mut opened = store.open(&mut index, &mut memory)?;
-    /// let (counter, eight) = (opened.make_int(0, 7)?, opened.get_int(8)?);
-    /// let merge = opened.added().meet(counter, eight)?;
-    /// assert_eq!((merge.handle, merge.added), (opened.make_int(0, 8)?, 3));
-    /// assert_eq!(opened.added().meet(eight, counter)?.added, 0);
-    /// # Ok::<(), Refusal>(())
-    /// ```
-    pub fn added(&mut self) -> Added<'_, OpenedStore<'s>> {
-        Added { store: self }
-    }
-
     /// Looks for an entry by its words: see [`Store::find_entry`](crate::Store::find_entry). It reads all of the store's words, as that does,
     /// and leaves the index alone, which does not know how many entries of a head there are.
     pub fn find_entry(&self, entry: &[u64]) -> Search {
@@ -172,8 +154,7 @@ macro_rules! opened_calls {
     ($(
         $(#[$doc:meta])*
         $shape:ident $name:ident($($arg:ident: $kind:ident),*) $(with $list:ident: [$element:ty])? $(into $output:ident)? -> $answer:ty
-        = $plain:ident, $opened:ident $(reporting $plain_added:ident, $opened_added:ident)?
-        refuses [$($row:ident)*] $example:tt
+        = $plain:ident, $opened:ident refuses [$($row:ident)*] $example:tt
     )*) => {
         /// The calls, each as [`Store`](crate::Store)'s.
         impl OpenedStore<'_> {$(
@@ -193,21 +174,3 @@ macro_rules! opened_calls {
 }
 
 for_every_call!(opened_calls);
-
-macro_rules! opened_added {
-    ($name:ident ($($arg:ident: $kind:ident),*) ($($list:ident: [$element:ty])?)
-     = $plain:ident, $opened:ident refuses [$($row:ident)*]) => {
-        #[doc = and_reports!("OpenedStore" $name)]
-        #[doc = ""]
-        #[doc = refused_with!($($row)*)]
-        #[inline]
-        pub fn $name(&mut self, $($arg: argument!($kind),)* $($list: &[$element],)?) -> Result<Made, Refusal> {
-            sys::opened_added::$name(&mut self.store.lists, $(word!($kind, $arg),)* $($list,)?).map(Told::told)
-        }
-    };
-}
-
-/// Of an [`OpenedStore`], each as that of a [`Store`](crate::Store).
-impl Added<'_, OpenedStore<'_>> {
-    for_every_making!(opened_added);
-}

@@ -1,7 +1,7 @@
 use core::fmt;
 
 use crate::word::argument;
-use crate::{calls, sys, Added, Handle, Kind, Made, OpenedStore, Reading, Refusal, Search};
+use crate::{calls, sys, Handle, Kind, OpenedStore, Reading, Refusal, Search};
 
 /// A store of types, in words that the caller lends.
 ///
@@ -150,30 +150,6 @@ impl<'a> Store<'a> {
         Search::in_store(self.words, entry)
     }
 
-    /// The calls that may append, each with how many words it appended: which of a program's merges fills the store.
-    ///
-    /// ```
-    /// use ferigulan::{fresh, Refusal, Store};
-    ///
-    /// let mut words = [0; 200];
-    /// let mut store = Store::fresh(&mut words)?;
-    /// let counter = store.make_int(0, 7)?;
-    /// let merge = store.added().meet(counter, fresh::INT_U8)?;
-    /// assert_eq!((merge.handle, merge.added), (fresh::INT_U8, 0));
-    ///
-    /// // the two tuples of this merge have another Int each: it makes 0..8, and the tuple around it
-    /// let eight = store.get_int(8)?;
-    /// let (a, b) = (store.get_tuple(&[fresh::CTRL, counter])?, store.get_tuple(&[fresh::CTRL, eight])?);
-    /// let before = store.used();
-    /// let merge = store.added().meet(a, b)?;
-    /// assert_eq!((merge.added, store.used()), (3 + 3, before + 6));
-    /// assert_eq!(store.meet(a, b)?, merge.handle);
-    /// # Ok::<(), Refusal>(())
-    /// ```
-    pub fn added(&mut self) -> Added<'_, Store<'a>> {
-        Added { store: self }
-    }
-
     /// The words, once the store is no longer needed.
     pub fn into_words(self) -> &'a mut [u64] {
         self.words
@@ -211,8 +187,7 @@ macro_rules! store_calls {
     ($(
         $(#[$doc:meta])*
         $shape:ident $name:ident($($arg:ident: $kind:ident),*) $(with $list:ident: [$element:ty])? $(into $output:ident)? -> $answer:ty
-        = $plain:ident, $opened:ident $(reporting $plain_added:ident, $opened_added:ident)?
-        refuses [$($row:ident)*] { $(#[$example:meta])* }
+        = $plain:ident, $opened:ident refuses [$($row:ident)*] { $(#[$example:meta])* }
     )*) => {
         /// The calls. [`calls`] has each of them as a function over any words, and [`OpenedStore`] as a method again.
         impl Store<'_> {$(
@@ -238,21 +213,3 @@ macro_rules! store_calls {
 }
 
 for_every_call!(store_calls);
-
-macro_rules! store_added {
-    ($name:ident ($($arg:ident: $kind:ident),*) ($($list:ident: [$element:ty])?)
-     = $plain:ident, $opened:ident refuses [$($row:ident)*]) => {
-        #[doc = and_reports!("Store" $name)]
-        #[doc = ""]
-        #[doc = refused_with!($($row)*)]
-        #[inline]
-        pub fn $name(&mut self, $($arg: argument!($kind),)* $($list: &[$element],)?) -> Result<Made, Refusal> {
-            calls::added::$name(self.store.words, $($arg,)* $($list,)?)
-        }
-    };
-}
-
-/// Of a [`Store`]. [`calls::added`] has each of them as a function over any words.
-impl Added<'_, Store<'_>> {
-    for_every_making!(store_added);
-}

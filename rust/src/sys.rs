@@ -69,25 +69,6 @@ extern "C" {
     fn ferigulan_offsets(words: *const u64, n: usize, s: u64, output: *mut u64, k: usize, answer: *mut u64) -> u32;
     fn ferigulan_ary_base(words: *const u64, n: usize, s: u64, answer: *mut u64) -> u32;
     fn ferigulan_ary_scale(words: *const u64, n: usize, s: u64, answer: *mut u64) -> u32;
-    fn ferigulan_get_int_added(words: *mut u64, n: usize, value: u64, added: *mut u64, answer: *mut u64) -> u32;
-    fn ferigulan_make_int_added(words: *mut u64, n: usize, min: u64, max: u64, added: *mut u64, answer: *mut u64) -> u32;
-    fn ferigulan_get_float_added(words: *mut u64, n: usize, bits: u64, added: *mut u64, answer: *mut u64) -> u32;
-    fn ferigulan_make_float_added(words: *mut u64, n: usize, sz: u64, bits: u64, added: *mut u64, answer: *mut u64) -> u32;
-    fn ferigulan_get_tuple_added(words: *mut u64, n: usize, types: *const u64, k: usize, added: *mut u64, answer: *mut u64) -> u32;
-    fn ferigulan_get_str_added(words: *mut u64, n: usize, name: *const u8, k: usize, added: *mut u64, answer: *mut u64) -> u32;
-    fn ferigulan_get_struct_added(words: *mut u64, n: usize, name: u64, fields: *const u64, k: usize, added: *mut u64, answer: *mut u64) -> u32;
-    fn ferigulan_make_ary_added(words: *mut u64, n: usize, len: u64, len_alias: u64, body: u64, body_alias: u64, text: *const u8, k: usize, added: *mut u64, answer: *mut u64) -> u32;
-    fn ferigulan_make_struct_fref_added(words: *mut u64, n: usize, name: u64, added: *mut u64, answer: *mut u64) -> u32;
-    fn ferigulan_get_mem_ptr_added(words: *mut u64, n: usize, to: u64, nil: u64, added: *mut u64, answer: *mut u64) -> u32;
-    fn ferigulan_get_mem_added(words: *mut u64, n: usize, alias: u64, t: u64, added: *mut u64, answer: *mut u64) -> u32;
-    fn ferigulan_meet_added(words: *mut u64, n: usize, a: u64, b: u64, added: *mut u64, answer: *mut u64) -> u32;
-    fn ferigulan_meet_list_added(words: *mut u64, n: usize, types: *const u64, k: usize, added: *mut u64, answer: *mut u64) -> u32;
-    fn ferigulan_dual_added(words: *mut u64, n: usize, a: u64, added: *mut u64, answer: *mut u64) -> u32;
-    fn ferigulan_join_added(words: *mut u64, n: usize, a: u64, b: u64, added: *mut u64, answer: *mut u64) -> u32;
-    fn ferigulan_glb_added(words: *mut u64, n: usize, a: u64, added: *mut u64, answer: *mut u64) -> u32;
-    fn ferigulan_lub_added(words: *mut u64, n: usize, a: u64, added: *mut u64, answer: *mut u64) -> u32;
-    fn ferigulan_make_ro_added(words: *mut u64, n: usize, a: u64, added: *mut u64, answer: *mut u64) -> u32;
-    fn ferigulan_non_zero_added(words: *mut u64, n: usize, a: u64, added: *mut u64, answer: *mut u64) -> u32;
 }
 
 #[rustfmt::skip]
@@ -140,25 +121,6 @@ extern "C" {
     fn ferigulan_opened_offsets(words: *const u64, n: usize, index: *const u64, i: usize, memory: *mut u64, m: usize, s: u64, output: *mut u64, k: usize, answer: *mut u64) -> u32;
     fn ferigulan_opened_ary_base(words: *const u64, n: usize, index: *const u64, i: usize, memory: *mut u64, m: usize, s: u64, answer: *mut u64) -> u32;
     fn ferigulan_opened_ary_scale(words: *const u64, n: usize, index: *const u64, i: usize, memory: *mut u64, m: usize, s: u64, answer: *mut u64) -> u32;
-    fn ferigulan_opened_get_int_added(words: *mut u64, n: usize, index: *mut u64, i: usize, memory: *mut u64, m: usize, value: u64, added: *mut u64, answer: *mut u64) -> u32;
-    fn ferigulan_opened_make_int_added(words: *mut u64, n: usize, index: *mut u64, i: usize, memory: *mut u64, m: usize, min: u64, max: u64, added: *mut u64, answer: *mut u64) -> u32;
-    fn ferigulan_opened_get_float_added(words: *mut u64, n: usize, index: *mut u64, i: usize, memory: *mut u64, m: usize, bits: u64, added: *mut u64, answer: *mut u64) -> u32;
-    fn ferigulan_opened_make_float_added(words: *mut u64, n: usize, index: *mut u64, i: usize, memory: *mut u64, m: usize, sz: u64, bits: u64, added: *mut u64, answer: *mut u64) -> u32;
-    fn ferigulan_opened_get_tuple_added(words: *mut u64, n: usize, index: *mut u64, i: usize, memory: *mut u64, m: usize, types: *const u64, k: usize, added: *mut u64, answer: *mut u64) -> u32;
-    fn ferigulan_opened_get_str_added(words: *mut u64, n: usize, index: *mut u64, i: usize, memory: *mut u64, m: usize, name: *const u8, k: usize, added: *mut u64, answer: *mut u64) -> u32;
-    fn ferigulan_opened_get_struct_added(words: *mut u64, n: usize, index: *mut u64, i: usize, memory: *mut u64, m: usize, name: u64, fields: *const u64, k: usize, added: *mut u64, answer: *mut u64) -> u32;
-    fn ferigulan_opened_make_ary_added(words: *mut u64, n: usize, index: *mut u64, i: usize, memory: *mut u64, m: usize, len: u64, len_alias: u64, body: u64, body_alias: u64, text: *const u8, k: usize, added: *mut u64, answer: *mut u64) -> u32;
-    fn ferigulan_opened_make_struct_fref_added(words: *mut u64, n: usize, index: *mut u64, i: usize, memory: *mut u64, m: usize, name: u64, added: *mut u64, answer: *mut u64) -> u32;
-    fn ferigulan_opened_get_mem_ptr_added(words: *mut u64, n: usize, index: *mut u64, i: usize, memory: *mut u64, m: usize, to: u64, nil: u64, added: *mut u64, answer: *mut u64) -> u32;
-    fn ferigulan_opened_get_mem_added(words: *mut u64, n: usize, index: *mut u64, i: usize, memory: *mut u64, m: usize, alias: u64, t: u64, added: *mut u64, answer: *mut u64) -> u32;
-    fn ferigulan_opened_meet_added(words: *mut u64, n: usize, index: *mut u64, i: usize, memory: *mut u64, m: usize, a: u64, b: u64, added: *mut u64, answer: *mut u64) -> u32;
-    fn ferigulan_opened_meet_list_added(words: *mut u64, n: usize, index: *mut u64, i: usize, memory: *mut u64, m: usize, types: *const u64, k: usize, added: *mut u64, answer: *mut u64) -> u32;
-    fn ferigulan_opened_dual_added(words: *mut u64, n: usize, index: *mut u64, i: usize, memory: *mut u64, m: usize, a: u64, added: *mut u64, answer: *mut u64) -> u32;
-    fn ferigulan_opened_join_added(words: *mut u64, n: usize, index: *mut u64, i: usize, memory: *mut u64, m: usize, a: u64, b: u64, added: *mut u64, answer: *mut u64) -> u32;
-    fn ferigulan_opened_glb_added(words: *mut u64, n: usize, index: *mut u64, i: usize, memory: *mut u64, m: usize, a: u64, added: *mut u64, answer: *mut u64) -> u32;
-    fn ferigulan_opened_lub_added(words: *mut u64, n: usize, index: *mut u64, i: usize, memory: *mut u64, m: usize, a: u64, added: *mut u64, answer: *mut u64) -> u32;
-    fn ferigulan_opened_make_ro_added(words: *mut u64, n: usize, index: *mut u64, i: usize, memory: *mut u64, m: usize, a: u64, added: *mut u64, answer: *mut u64) -> u32;
-    fn ferigulan_opened_non_zero_added(words: *mut u64, n: usize, index: *mut u64, i: usize, memory: *mut u64, m: usize, a: u64, added: *mut u64, answer: *mut u64) -> u32;
 }
 
 /// `told` if the status that a function returned is 0, else the refusal that it is the number of.
@@ -262,9 +224,8 @@ pub(crate) fn load(words: &mut [u64], file: &[u8]) -> Result<u64, Refusal> {
 
 /// The three lists of an opened store.
 ///
-/// Its members are private to this module, [`open`] alone makes it, and the functions of [`opened`] and [`opened_added`] alone write its
-/// lists. So the lists are open whenever a caller has one: it holds the only borrows of them for writing, and hands out no more than the
-/// words to read.
+/// Its members are private to this module, [`open`] alone makes it, and the functions of [`opened`] alone write its lists. So the lists are
+/// open whenever a caller has one: it holds the only borrows of them for writing, and hands out no more than the words to read.
 pub(crate) struct OpenedLists<'s> {
     words: &'s mut [u64],
     index: &'s mut [u64],
@@ -307,7 +268,6 @@ macro_rules! safe {
     };
     (@type answer) => { u64 };
     (@type which, answer) => { (u64, u64) };
-    (@type added, answer) => { (u64, u64) };
 }
 
 /// Hands a call to `$form!`, `plain` or `opened`, with what its shape says (table.rs): whether the words are lent to write or to read, and
@@ -344,8 +304,7 @@ macro_rules! safe_calls {
     ($(
         $(#[$doc:meta])*
         $shape:ident $name:ident $args:tt $(with $list:ident: $slice:tt)? $(into $output:ident)? -> $answer:ty
-        = $plain:ident, $opened:ident $(reporting $plain_added:ident, $opened_added:ident)?
-        refuses $rows:tt $example:tt
+        = $plain:ident, $opened:ident refuses $rows:tt $example:tt
     )*) => {
         pub(crate) mod plain {
             use super::*;
@@ -359,29 +318,3 @@ macro_rules! safe_calls {
 }
 
 for_every_call!(safe_calls);
-
-// ---- the calls that may append, by the functions that report how many words it was
-
-pub(crate) mod plain_added {
-    use super::*;
-
-    macro_rules! reporting {
-        ($name:ident $args:tt $list:tt = $plain:ident, $opened:ident refuses $rows:tt) => {
-            plain!(write (added, answer) $plain $name $args $list ());
-        };
-    }
-
-    for_every_making!(reporting);
-}
-
-pub(crate) mod opened_added {
-    use super::*;
-
-    macro_rules! reporting {
-        ($name:ident $args:tt $list:tt = $plain:ident, $opened:ident refuses $rows:tt) => {
-            opened!(write (added, answer) $opened $name $args $list ());
-        };
-    }
-
-    for_every_making!(reporting);
-}

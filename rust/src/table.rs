@@ -1,14 +1,12 @@
 //! Every call, said once: what it does, what it is lent and answers, the archive's functions, its refusals (but row 1) and an example.
 //!
-//! `for_every_call!(macro)` hands the whole table to a macro, behind whatever else it is given; calls.rs, store.rs, opened_store.rs and
-//! sys.rs each make their form of every call from it. An entry is
+//! `for_every_call!(macro)` hands the whole table to a macro; calls.rs, store.rs, opened_store.rs and sys.rs each make their form of every
+//! call from it. An entry is
 //!
 //! ```text
 //! /// What the call does, and what it answers.
 //! SHAPE NAME(ARGUMENTS) [with LIST: [ELEMENT]] [into OUTPUT] -> ANSWER
-//! = PLAIN FUNCTION, OPENED FUNCTION
-//! [reporting PLAIN FUNCTION, OPENED FUNCTION]
-//! refuses [REFUSALS] {
+//! = PLAIN FUNCTION, OPENED FUNCTION refuses [REFUSALS] {
 //!     /// the lines of the example, in which `store` is a fresh store of 512 words
 //! }
 //! ```
@@ -23,15 +21,6 @@
 //! | `fill` | read | how many words of its output it filled |
 //!
 //! Every call on an opened store is lent the memory to write.
-//!
-//! A `make` may append, and it has two functions more, which do the same and report how many words they appended.
-//! `for_every_making!(macro)` hands these calls to a macro one at a time, each as
-//!
-//! ```text
-//! NAME (ARGUMENTS) (LIST: [ELEMENT]) = PLAIN FUNCTION, OPENED FUNCTION refuses [REFUSALS]
-//! ```
-//!
-//! with the two functions that report. Where the call is lent no list, its place is empty.
 //!
 //! The arguments' types are those of `argument!` in word.rs.
 
@@ -57,23 +46,6 @@ macro_rules! refused_with {
     };
 }
 
-/// The line of a call that reports: it names the call that does not, in this place of the crate.
-macro_rules! and_reports {
-    ($at:literal $name:ident) => {
-        concat!(
-            " As [`",
-            $at,
-            "::",
-            stringify!($name),
-            "`](crate::",
-            $at,
-            "::",
-            stringify!($name),
-            "), and tells how many words it appended."
-        )
-    };
-}
-
 /// The line that leads to a call's example.
 macro_rules! example_at {
     ($name:ident) => {
@@ -81,36 +53,9 @@ macro_rules! example_at {
     };
 }
 
-macro_rules! for_every_making {
-    ($each:ident) => {
-        for_every_call!(makings $each);
-    };
-}
-
-/// Of the whole table the calls that have functions which report, for `$each!`.
-macro_rules! makings {
-    ($each:ident $(
-        $(#[$doc:meta])*
-        $shape:ident $name:ident $args:tt $(with $list:ident: $slice:tt)? $(into $output:ident)? -> $answer:ty
-        = $plain:ident, $opened:ident $(reporting $plain_added:ident, $opened_added:ident)?
-        refuses $rows:tt $example:tt
-    )*) => {
-        $(making!($each ($($plain_added, $opened_added)?) $name $args ($($list: $slice)?) $rows);)*
-    };
-}
-
-macro_rules! making {
-    ($each:ident () $($reads:tt)*) => {};
-    ($each:ident ($plain:ident, $opened:ident) $name:ident $args:tt $list:tt $rows:tt) => {
-        $each!($name $args $list = $plain, $opened refuses $rows);
-    };
-}
-
 macro_rules! for_every_call {
-    ($each:ident $($with:tt)*) => {
+    ($each:ident) => {
         $each! {
-            $($with)*
-
             // ---- the makers
 
             /// The kind of a type.
@@ -132,18 +77,14 @@ macro_rules! for_every_call {
 
             /// The Int of one value, by its handle.
             make get_int(value: i64) -> Handle
-            = ferigulan_get_int, ferigulan_opened_get_int
-            reporting ferigulan_get_int_added, ferigulan_opened_get_int_added
-            refuses [NoRoom] {
+            = ferigulan_get_int, ferigulan_opened_get_int refuses [NoRoom] {
                 /// let eight = store.get_int(8)?;
                 /// assert_eq!(store.int_value(eight)?, Some(8));
             }
 
             /// The Int of the numbers from `min` to `max`, by its handle. Where `max` is less than `min` it is a high one.
             make make_int(min: i64, max: i64) -> Handle
-            = ferigulan_make_int, ferigulan_opened_make_int
-            reporting ferigulan_make_int_added, ferigulan_opened_make_int_added
-            refuses [NoRoom] {
+            = ferigulan_make_int, ferigulan_opened_make_int refuses [NoRoom] {
                 /// assert_eq!(store.make_int(0, 255)?, fresh::INT_U8);
                 /// let counter = store.make_int(0, 7)?;
                 /// assert_eq!((store.int_min(counter)?, store.int_max(counter)?), (0, 7));
@@ -151,9 +92,7 @@ macro_rules! for_every_call {
 
             /// The Float of one constant, by its handle. Constants are told apart by their bits: 0.0 and -0.0 are two, and so are two NaNs.
             make get_float(value: f64) -> Handle
-            = ferigulan_get_float, ferigulan_opened_get_float
-            reporting ferigulan_get_float_added, ferigulan_opened_get_float_added
-            refuses [NoRoom] {
+            = ferigulan_get_float, ferigulan_opened_get_float refuses [NoRoom] {
                 /// assert_eq!(store.get_float(0.0)?, fresh::FLOAT_ZERO);
                 /// assert_ne!(store.get_float(-0.0)?, fresh::FLOAT_ZERO);
             }
@@ -161,9 +100,7 @@ macro_rules! for_every_call {
             /// The Float of a size and a constant, by its handle. The size is 0 for a constant; else it is 32 or 64, or -32 or -64 for a
             /// high one, and the constant is 0.0.
             make make_float(sz: i64, con: f64) -> Handle
-            = ferigulan_make_float, ferigulan_opened_make_float
-            reporting ferigulan_make_float_added, ferigulan_opened_make_float_added
-            refuses [BadValue NoRoom] {
+            = ferigulan_make_float, ferigulan_opened_make_float refuses [BadValue NoRoom] {
                 /// assert_eq!(store.make_float(32, 0.0)?, fresh::FLOAT_B32);
                 /// assert_eq!(store.make_float(32, 0.5), Err(Refusal::BadValue));
                 /// assert_eq!(store.make_float(16, 0.0), Err(Refusal::BadValue));
@@ -171,18 +108,14 @@ macro_rules! for_every_call {
 
             /// The tuple of these types, at most 255, by its handle.
             make get_tuple() with types: [Handle] -> Handle
-            = ferigulan_get_tuple, ferigulan_opened_get_tuple
-            reporting ferigulan_get_tuple_added, ferigulan_opened_get_tuple_added
-            refuses [NoEntry WrongKind TooMany TooDeep NoRoom] {
+            = ferigulan_get_tuple, ferigulan_opened_get_tuple refuses [NoEntry WrongKind TooMany TooDeep NoRoom] {
                 /// assert_eq!(store.get_tuple(&[fresh::CTRL, fresh::XCTRL])?, fresh::IF_TRUE);
                 /// assert_eq!(store.get_tuple(&[fresh::BOT; 256]), Err(Refusal::TooMany));
             }
 
             /// The name of these bytes, at most 255, by its handle. Structs and fields are named by such handles.
             make get_str() with name: [u8] -> Handle
-            = ferigulan_get_str, ferigulan_opened_get_str
-            reporting ferigulan_get_str_added, ferigulan_opened_get_str_added
-            refuses [TooMany NoRoom] {
+            = ferigulan_get_str, ferigulan_opened_get_str refuses [TooMany NoRoom] {
                 /// assert_eq!(store.get_str(b"$TOP")?, fresh::NAME_TOP);
                 /// let speed = store.get_str(b"speed")?;
                 /// assert_eq!(store.get_str(b"speed")?, speed);
@@ -191,9 +124,7 @@ macro_rules! for_every_call {
             /// The struct of this name and these fields, at most 255, by its handle. A field is four words: its name's handle, its type's,
             /// its alias (at most 4,294,967,295), and 1 if it is final, else 0. [`Field::words`](crate::Field::words) makes such a list.
             make get_struct(name: Handle) with fields: [u64] -> Handle
-            = ferigulan_get_struct, ferigulan_opened_get_struct
-            reporting ferigulan_get_struct_added, ferigulan_opened_get_struct_added
-            refuses [NoEntry WrongKind BadValue TooMany TooDeep NoRoom] {
+            = ferigulan_get_struct, ferigulan_opened_get_struct refuses [NoEntry WrongKind BadValue TooMany TooDeep NoRoom] {
                 /// let (name, speed) = (store.get_str(b"Ride")?, store.get_str(b"speed")?);
                 /// let fields = [Field::new(speed, fresh::INT_U16, 1_u32, false)];
                 /// let ride = store.get_struct(name, Field::words(&fields))?;
@@ -204,9 +135,7 @@ macro_rules! for_every_call {
             /// The array of this length, an Int, and this element type, by its handle: a struct that is named by `text` in brackets (at
             /// most 255 bytes in all), with a final field "#" of type `len` and a field "[]" of type `body` that is not final.
             make make_ary(len: Handle, len_alias: Word, body: Handle, body_alias: Word) with text: [u8] -> Handle
-            = ferigulan_make_ary, ferigulan_opened_make_ary
-            reporting ferigulan_make_ary_added, ferigulan_opened_make_ary_added
-            refuses [NoEntry WrongKind BadValue TooMany TooDeep BodyWithoutNil NoRoom] {
+            = ferigulan_make_ary, ferigulan_opened_make_ary refuses [NoEntry WrongKind BadValue TooMany TooDeep BodyWithoutNil NoRoom] {
                 /// let bytes = store.make_ary(fresh::INT_U32, 1_u32, fresh::INT_U8, 2_u32, b"u8")?;
                 /// assert!(store.is_ary(bytes)?);
                 /// assert_eq!(store.struct_name(bytes)?, store.get_str(b"[u8]")?);
@@ -216,9 +145,7 @@ macro_rules! for_every_call {
 
             /// The forward reference to a struct of this name, by its handle.
             make make_struct_fref(name: Handle) -> Handle
-            = ferigulan_make_struct_fref, ferigulan_opened_make_struct_fref
-            reporting ferigulan_make_struct_fref_added, ferigulan_opened_make_struct_fref_added
-            refuses [NoEntry WrongKind NoRoom] {
+            = ferigulan_make_struct_fref, ferigulan_opened_make_struct_fref refuses [NoEntry WrongKind NoRoom] {
                 /// let name = store.get_str(b"Ride")?;
                 /// let ride = store.make_struct_fref(name)?;
                 /// assert_eq!(store.kind(ride)?, Kind::Fref);
@@ -227,18 +154,14 @@ macro_rules! for_every_call {
 
             /// The pointer to this struct or forward reference, by its handle; it may be nil where `nil` is 1 or `true`.
             make get_mem_ptr(to: Handle, nil: Word) -> Handle
-            = ferigulan_get_mem_ptr, ferigulan_opened_get_mem_ptr
-            reporting ferigulan_get_mem_ptr_added, ferigulan_opened_get_mem_ptr_added
-            refuses [NoEntry WrongKind BadValue TooDeep NoRoom] {
+            = ferigulan_get_mem_ptr, ferigulan_opened_get_mem_ptr refuses [NoEntry WrongKind BadValue TooDeep NoRoom] {
                 /// assert_eq!(store.get_mem_ptr(fresh::STRUCT_TOP, true)?, fresh::PTR_NULL);
                 /// assert_eq!(store.get_mem_ptr(fresh::BOT, true), Err(Refusal::WrongKind));
             }
 
             /// The memory type of this alias (at most 4,294,967,295) and this type, by its handle.
             make get_mem(alias: Word, t: Handle) -> Handle
-            = ferigulan_get_mem, ferigulan_opened_get_mem
-            reporting ferigulan_get_mem_added, ferigulan_opened_get_mem_added
-            refuses [NoEntry WrongKind BadValue TooDeep NoRoom] {
+            = ferigulan_get_mem, ferigulan_opened_get_mem refuses [NoEntry WrongKind BadValue TooDeep NoRoom] {
                 /// assert_eq!(store.get_mem(u32::MAX, fresh::BOT)?, fresh::MEM_BOT);
                 /// assert_eq!(store.get_mem(1_u64 << 32, fresh::BOT), Err(Refusal::BadValue));
             }
@@ -247,9 +170,7 @@ macro_rules! for_every_call {
 
             /// The merge of two types, by its handle: what is known of a value that is of the one or of the other.
             make meet(a: Handle, b: Handle) -> Handle
-            = ferigulan_meet, ferigulan_opened_meet
-            reporting ferigulan_meet_added, ferigulan_opened_meet_added
-            refuses [NoEntry WrongKind NoRoom] {
+            = ferigulan_meet, ferigulan_opened_meet refuses [NoEntry WrongKind NoRoom] {
                 /// let (counter, eight) = (store.make_int(0, 7)?, store.get_int(8)?);
                 /// assert_eq!(store.meet(counter, eight)?, store.make_int(0, 8)?);
                 /// assert_eq!(store.meet(counter, fresh::CTRL)?, fresh::BOT);
@@ -261,9 +182,7 @@ macro_rules! for_every_call {
             /// All handles are tested first, and a refusal leaves the store as it was before the first merge. Where calls alone have made the
             /// store, lists of the same types give one handle in any order, if these reach no memory type and no forward reference.
             make meet_list() with types: [Handle] -> Handle
-            = ferigulan_meet_list, ferigulan_opened_meet_list
-            reporting ferigulan_meet_list_added, ferigulan_opened_meet_list_added
-            refuses [ListTooLong NoEntry WrongKind NoRoom] {
+            = ferigulan_meet_list, ferigulan_opened_meet_list refuses [ListTooLong NoEntry WrongKind NoRoom] {
                 /// let (counter, eight) = (store.make_int(0, 7)?, store.get_int(8)?);
                 /// let merged = store.meet_list(&[counter, fresh::INT_TWO, eight])?;
                 /// assert_eq!(merged, store.make_int(0, 8)?);
@@ -282,18 +201,14 @@ macro_rules! for_every_call {
             /// The type turned over, by its handle: Bot and Top, Ctrl and XCtrl, $BOT and $TOP, and the ends of Ints change places, the
             /// sizes of Floats change sign, final and nil are negated, down into the parts.
             make dual(a: Handle) -> Handle
-            = ferigulan_dual, ferigulan_opened_dual
-            reporting ferigulan_dual_added, ferigulan_opened_dual_added
-            refuses [NoEntry WrongKind NoRoom] {
+            = ferigulan_dual, ferigulan_opened_dual refuses [NoEntry WrongKind NoRoom] {
                 /// assert_eq!(store.dual(fresh::PTR_NULL)?, fresh::PTR_VOID);
                 /// assert_eq!(store.dual(fresh::INT_BOT)?, fresh::INT_TOP);
             }
 
             /// The merge from the other side, by its handle: the dual of the meet of the duals. What they need on the way is made too.
             make join(a: Handle, b: Handle) -> Handle
-            = ferigulan_join, ferigulan_opened_join
-            reporting ferigulan_join_added, ferigulan_opened_join_added
-            refuses [NoEntry WrongKind NoRoom] {
+            = ferigulan_join, ferigulan_opened_join refuses [NoEntry WrongKind NoRoom] {
                 /// let (a, b) = (store.make_int(0, 7)?, store.make_int(4, 9)?);
                 /// assert_eq!(store.join(a, b)?, store.make_int(4, 7)?);
             }
@@ -301,9 +216,7 @@ macro_rules! for_every_call {
             /// The fixed lower type that the original names so, by its handle: of an Int [`INT_BOT`](crate::fresh::INT_BOT), of a Float
             /// [`FLOAT_BOT`](crate::fresh::FLOAT_BOT), and so on down into the parts.
             make glb(a: Handle) -> Handle
-            = ferigulan_glb, ferigulan_opened_glb
-            reporting ferigulan_glb_added, ferigulan_opened_glb_added
-            refuses [NoEntry WrongKind NoRoom] {
+            = ferigulan_glb, ferigulan_opened_glb refuses [NoEntry WrongKind NoRoom] {
                 /// assert_eq!(store.glb(fresh::INT_U8)?, fresh::INT_BOT);
                 /// assert_eq!(store.glb(fresh::PTR_VOID)?, fresh::PTR_BOT);
             }
@@ -311,9 +224,7 @@ macro_rules! for_every_call {
             /// The fixed upper type that the original names so, by its handle: of an Int [`INT_TOP`](crate::fresh::INT_TOP), of a Float
             /// [`FLOAT_TOP`](crate::fresh::FLOAT_TOP), of a tuple [`TOP`](crate::fresh::TOP), and so on down into the parts.
             make lub(a: Handle) -> Handle
-            = ferigulan_lub, ferigulan_opened_lub
-            reporting ferigulan_lub_added, ferigulan_opened_lub_added
-            refuses [NoEntry WrongKind NoRoom] {
+            = ferigulan_lub, ferigulan_opened_lub refuses [NoEntry WrongKind NoRoom] {
                 /// assert_eq!(store.lub(fresh::INT_U8)?, fresh::INT_TOP);
                 /// assert_eq!(store.lub(fresh::CTRL)?, fresh::XCTRL);
             }
@@ -332,9 +243,7 @@ macro_rules! for_every_call {
             /// The read-only form of the type, through pointers, by its handle: every field of a struct becomes final, and the type of a
             /// field that was not final is made read-only too; the type of a field that was final stays.
             make make_ro(a: Handle) -> Handle
-            = ferigulan_make_ro, ferigulan_opened_make_ro
-            reporting ferigulan_make_ro_added, ferigulan_opened_make_ro_added
-            refuses [NoEntry WrongKind NoRoom] {
+            = ferigulan_make_ro, ferigulan_opened_make_ro refuses [NoEntry WrongKind NoRoom] {
                 /// let (name, speed) = (store.get_str(b"Ride")?, store.get_str(b"speed")?);
                 /// let fields = [Field::new(speed, fresh::INT_U16, 1_u32, false)];
                 /// let ride = store.get_struct(name, Field::words(&fields))?;
@@ -364,9 +273,7 @@ macro_rules! for_every_call {
             /// 1..1), and any other Int stays; a pointer is [`PTR_VOID`](crate::fresh::PTR_VOID); another type is its
             /// [`glb`](crate::Store::glb).
             make non_zero(a: Handle) -> Handle
-            = ferigulan_non_zero, ferigulan_opened_non_zero
-            reporting ferigulan_non_zero_added, ferigulan_opened_non_zero_added
-            refuses [NoEntry WrongKind NoRoom] {
+            = ferigulan_non_zero, ferigulan_opened_non_zero refuses [NoEntry WrongKind NoRoom] {
                 /// let range = store.make_int(-4, 0)?;
                 /// assert_eq!(store.non_zero(range)?, store.make_int(-4, -1)?);
                 /// assert_eq!(store.non_zero(fresh::PTR_NULL)?, fresh::PTR_VOID);

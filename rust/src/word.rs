@@ -1,5 +1,5 @@
 //! Arguments as words, and answers from words.
-use crate::{Handle, Kind, Made, Reading, Search};
+use crate::{Handle, Kind, Reading, Search};
 
 /// The type of an argument: `Word` is what a caller may get wrong, and comes as anything that is a word (a flag, an alias).
 macro_rules! argument {
@@ -96,13 +96,6 @@ impl Told<(u64, u64)> for Reading {
         } else {
             Reading::Sized(i8::told(word))
         }
-    }
-}
-
-// How many words were appended, no more than the store has, and the handle.
-impl Told<(u64, u64)> for Made {
-    fn told((added, word): (u64, u64)) -> Made {
-        Made { handle: Handle::told(word), added: usize::told(added) }
     }
 }
 

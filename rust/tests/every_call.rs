@@ -198,20 +198,16 @@ fn known_answers() {
     assert_eq!(words[0], 230);
 }
 
-/// The calls that sys.rs declares a function on an opened store of, and those of them that it declares one of which reports.
-fn declared() -> (BTreeSet<&'static str>, BTreeSet<&'static str>) {
-    let functions = include_str!("../src/sys.rs").split("fn ferigulan_opened_").skip(1);
-    let names = functions.filter_map(|rest| rest.split_once('(')).map(|(name, _)| name);
-    let (reporting, names): (Vec<_>, Vec<_>) = names.partition(|name| name.ends_with("_added"));
-    (names.into_iter().collect(), reporting.into_iter().filter_map(|name| name.strip_suffix("_added")).collect())
-}
-
 #[test]
 fn every_call_is_known() {
-    let known = all_known();
-    let answered: BTreeSet<&str> = known.iter().filter(|(_, told, _)| told.is_ok()).map(|(call, ..)| call.name()).collect();
-    let appending: BTreeSet<&str> = known.iter().filter(|(call, ..)| call.appends()).map(|(call, ..)| call.name()).collect();
-    assert_eq!((answered, appending), declared());
+    let declared: BTreeSet<&str> = include_str!("../src/sys.rs")
+        .split("fn ferigulan_opened_")
+        .skip(1)
+        .filter_map(|rest| rest.split_once('('))
+        .map(|(name, _)| name)
+        .collect();
+    let answered: BTreeSet<&str> = all_known().iter().filter(|(_, told, _)| told.is_ok()).map(|(call, ..)| call.name()).collect();
+    assert_eq!(answered, declared);
 }
 
 #[test]

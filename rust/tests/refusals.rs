@@ -15,7 +15,7 @@ fn named(name: &str) -> Refusal {
     all.into_iter().find(|refusal| format!("{refusal:?}") == name).unwrap_or_else(|| panic!("{name} is no refusal"))
 }
 
-/// Of the lines from `= ferigulan_X, ferigulan_opened_X` to `refuses [A B] {`.
+/// Of the lines `= ferigulan_X, ferigulan_opened_X refuses [A B] {`.
 fn in_the_table() -> Refusals {
     let table = include_str!("../src/table.rs");
     let entries = table.split("= ferigulan_").skip(1).map(|entry| {

@@ -99,7 +99,7 @@ fn saved(words: &[u64]) -> Vec<u8> {
     file
 }
 
-/// Every call on one tower, plain and opened, also by the functions that report, the search for an entry, and saving and loading.
+/// Every call on one tower, plain and opened, the search for an entry, and saving and loading.
 fn run(length: usize, shape: Tower) {
     let mut deep = deep(length, shape);
     assert_eq!(calls::load(&mut vec![0; length], &saved(deep.words())), Ok(LONGEST_LABEL));
@@ -108,12 +108,9 @@ fn run(length: usize, shape: Tower) {
     for call in deep.calls() {
         let mut output = call.output();
         let plain = deep.plain(|words| call.on_words(words, &mut output));
-        let reported = deep.plain(|words| call.on_words_added(words));
         for m in memory_lengths(length) {
             let opened = deep.opened(&mut index, &mut memory[..m], |opened| call.on_opened(opened, &mut output));
             assert_eq!(opened, plain, "{length} words, {shape:?}: {call:?}");
-            let opened = deep.opened(&mut index, &mut memory[..m], |opened| call.on_opened_added(opened));
-            assert_eq!(opened, reported, "{length} words, {shape:?}: {call:?}");
         }
     }
 }

@@ -15,7 +15,7 @@ use Rattle.words.proofs.Walk.{take_slice}
 use Rattle.bitset.specs.Bitset.{nowhere}
 use Rattle.wellformed.specs.Form.{all_zero, ok_rows, well_formed, used_words}
 use Rattle.wellformed.proofs.Before.{Tests, tests, passes}
-use Rattle.call.specs.Call.{Reply, handle, refused, left, ◌when◌, ◌otherwise◌, stored, settle, call}
+use Rattle.call.specs.Call.{Reply, handle, refused, ◌when◌, ◌otherwise◌, stored, settle, call}
 use Rattle.call.specs.Keep.{Keeps}
 use Rattle.call.specs.Adds.{Sound, Adds}
 use Rattle.call.proofs.Agree.{rows_same}
@@ -49,46 +49,6 @@ well_sound ws ok =
     none : (h : ℕ) → nowhere h ≡ true → get_or (used_words ws) h 0 ≡ get_or ws h 0
     none h z = let no : ◌≡◌ {A = ℕ} 0 1 = cc in absurd (omega arith)
 
-module _ (ws : List ℕ) (ok : well_formed ws ≡ true) where
-  pub used_long : length (used_words ws) ≡ get_or ws 0 0
-  used_long = length-take-le (get_or ws 0 0) ws (tests ws ok).within
-
-  -- an operation that only adds leaves no fewer words
-  pub adds_longer : (g : Grown) → Adds (used_words ws) g → get_or ws 0 0 ≤ length g.words
-  adds_longer g a = omega (arith, ap length a.is, length-append (used_words ws) a.more, used_long)
-
--- the words once the used ones have grown
-module _ (ws : List ℕ) (g : Grown) (ok : well_formed ws ≡ true) (longer : get_or ws 0 0 ≤ length g.words) (room : length g.words ≤ length ws) where
-  abbrev size : ℕ
-  size = length g.words
-
-  abbrev grown_list : List ℕ
-  grown_list = g.words ++ drop size ws
-
-  pub all_long : length (g.words ++ drop (length g.words) ws) ≡ length ws
-  all_long = length-append g.words (drop size ws) ∙ simp length-drop (omega (arith, room))
-
-  pub count : get_or (stored g ws) 0 0 ≡ length g.words
-  count = get_or-set_same grown_list 0 size 0 (omega (arith, all_long, (tests ws ok).least))
-
-  -- a word past word 0
-  pub word_in : (h : ℕ) → 1 ≤ h → h < length g.words → get_or (stored g ws) h 0 ≡ get_or g.words h 0
-  word_in h low high = get_or-set_other grown_list 0 h size 0 (λ e. omega arith) ∙ get_or-append g.words (drop size ws) 0 h high
-
-  used_are : take size (stored g ws) ≡ set g.words 0 size
-  used_are = take-set-lt size grown_list 0 size (omega (arith, longer, (tests ws ok).enough)) ∙ ap (λ (x : List ℕ). set x 0 size) (take_at g.words (drop size ws) size refl)
-
-  pub used_same : drop 1 (take (length g.words) (stored g ws)) ≡ drop 1 g.words
-  used_same = ap (drop 1) used_are ∙ drop-set-lt 1 g.words 0 size (omega arith)
-
-  pub entries_are : entries (take (length g.words) (stored g ws)) ≡ entries g.words
-  unfolding entries
-  entries_are = ap (rows 1 0) used_same
-
-  -- the used words, once word 0 counts them
-  pub used_grown : used_words (stored g ws) ≡ set g.words 0 (length g.words)
-  used_grown = ap (λ (k : ℕ). take k (stored g ws)) count ∙ used_are
-
 module _ (ws : List ℕ) (g : Grown) (ok : well_formed ws ≡ true) (a : Adds (used_words ws) g) (room : length g.words ≤ length ws) where
   abbrev n : ℕ
   n = length g.words
@@ -100,19 +60,34 @@ module _ (ws : List ℕ) (g : Grown) (ok : well_formed ws ≡ true) (a : Adds (u
   t = tests ws ok
 
   long : length (used_words ws) ≡ get_or ws 0 0
-  long = used_long ws ok
+  long = length-take-le (get_or ws 0 0) ws t.within
 
   grown : get_or ws 0 0 ≤ n
-  grown = adds_longer ws ok g a
+  grown = omega (arith, ap length a.is, length-append (used_words ws) a.more, long)
 
-  counted : get_or (stored g ws) 0 0 ≡ n
-  counted = count ws g ok grown room
+  all_long : length l ≡ length ws
+  all_long = length-append g.words (drop n ws) ∙ simp length-drop (omega (arith, room))
 
-  stands : (h : ℕ) → 1 ≤ h → h < n → get_or (stored g ws) h 0 ≡ get_or g.words h 0
-  stands = word_in ws g ok grown room
+  count : get_or (stored g ws) 0 0 ≡ n
+  count = get_or-set_same l 0 n 0 (omega (arith, all_long, t.least))
 
-  entries_grown : entries (take n (stored g ws)) ≡ entries g.words
-  entries_grown = entries_are ws g ok grown room
+  -- a word past word 0
+  pub word_in : (h : ℕ) → 1 ≤ h → h < n → get_or (stored g ws) h 0 ≡ get_or g.words h 0
+  word_in h low high = get_or-set_other l 0 h n 0 (λ e. omega arith) ∙ get_or-append g.words (drop n ws) 0 h high
+
+  used_are : take n (stored g ws) ≡ set g.words 0 n
+  used_are = take-set-lt n l 0 n (omega (arith, grown, t.enough)) ∙ ap (λ (x : List ℕ). set x 0 n) (take_at g.words (drop n ws) n refl)
+
+  used_same : drop 1 (take n (stored g ws)) ≡ drop 1 g.words
+  used_same = ap (drop 1) used_are ∙ drop-set-lt 1 g.words 0 n (omega arith)
+
+  pub entries_are : entries (take n (stored g ws)) ≡ entries g.words
+  unfolding entries
+  entries_are = ap (rows 1 0) used_same
+
+  -- the used words, once word 0 counts them
+  pub used_grown : used_words (stored g ws) ≡ set g.words 0 n
+  used_grown = ap (λ (k : ℕ). take k (stored g ws)) count ∙ used_are
 
   front : take 94 l ≡ take 94 ws
   front =
@@ -137,38 +112,38 @@ module _ (ws : List ℕ) (g : Grown) (ok : well_formed ws ≡ true) (a : Adds (u
   right_again : ok_rows (stored g ws) nowhere (entries (take n (stored g ws))) ≡ true
   unfolding nowhere
   right_again =
-      rw entries_grown
+      rw entries_are
       (rows_same (stored g ws) g.words (entries g.words) nowhere (λ h z. let no : ◌≡◌ {A = ℕ} 0 1 = cc in absurd (omega arith))
-      (λ r m. let b = in_used g.words a.sound.low r m in stands r.at b.0 b.1) ∙ a.sound.right)
+      (λ r m. let b = in_used g.words a.sound.low r m in word_in r.at b.0 b.1) ∙ a.sound.right)
 
   pub well_again : well_formed (stored g ws) ≡ true
   well_again =
-      let len : length (stored g ws) ≡ length ws = length-set l 0 n ∙ all_long ws g ok grown room in
+      let len : length (stored g ws) ≡ length ws = length-set l 0 n ∙ all_long in
       passes (stored g ws) record {
         least = omega (arith, len, t.least);
         most = omega (arith, len, t.most);
         fresh = rw fresh_same t.fresh;
-        enough = omega (arith, counted, grown, t.enough);
-        within = omega (arith, counted, len, room);
-        zeros = rw counted zeros_behind;
-        filled = rw (counted, used_same ws g ok grown room) a.sound.full;
-        right = rw counted right_again;
+        enough = omega (arith, count, grown, t.enough);
+        within = omega (arith, count, len, room);
+        zeros = rw count zeros_behind;
+        filled = rw (count, used_same) a.sound.full;
+        right = rw count right_again;
       }
 
-  pub stored_keeps : (added : ℕ) → Keeps ws (record { reply = handle g.handle; words = stored g ws; added = added })
-  stored_keeps added = record {
+  pub stored_keeps : Keeps ws (record { reply = handle g.handle; words = stored g ws })
+  stored_keeps = record {
     well = well_again;
     words = λ i low high.
-        stands i low (omega (arith, grown))
+        word_in i low (omega (arith, grown))
         ∙ rw a.is (get_or-append (used_words ws) a.more 0 i (omega (arith, long))) ∙ get_or-take (get_or ws 0 0) ws i 0 high;
     extra = a.extra;
-    rows = rw counted (entries_grown ∙ a.rows);
-    own = λ o. rw (counted, entries_grown) (a.own o);
-    ends = λ e. rw (counted, entries_grown) (a.ends e);
+    rows = rw count (entries_are ∙ a.rows);
+    own = λ o. rw (count, entries_are) (a.own o);
+    ends = λ e. rw (count, entries_are) (a.ends e);
   }
 
 -- a call that is turned back
-pub same_keeps : (ws : List ℕ) (r : Reply) → well_formed ws ≡ true → Keeps ws (left r ws)
+pub same_keeps : (ws : List ℕ) (r : Reply) → well_formed ws ≡ true → Keeps ws (record { reply = r; words = ws })
 same_keeps ws r ok = record { well = ok; words = λ i low high. refl; extra = []; rows = sym (append-nil (entries (used_words ws))); own = λ o. o; ends = λ e. e }
 
 -- every call
@@ -182,7 +157,7 @@ module _ (rows : List ℕ → ℕ) (op : List ℕ → Grown) (ws : List ℕ) (ok
 
       fits : (b : Bool) → ltb (length ws) (length g.words) ≡ b → rows (used_words ws) ≡ 0 → Keeps ws (settle (12 when b) g ws)
       fits true e q = same_keeps ws (refused 12) ok
-      fits false e q = stored_keeps ws g ok (adds (well_sound ws ok) q) (ltb-false (length ws) (length g.words) e) _
+      fits false e q = stored_keeps ws g ok (adds (well_sound ws ok) q) (ltb-false (length ws) (length g.words) e)
 
       go : (k : ℕ) → rows (used_words ws) ≡ k → Keeps ws (settle (k otherwise 12 when ltb (length ws) (length g.words)) g ws)
       go zero q = fits (ltb (length ws) (length g.words)) refl q

@@ -8,12 +8,12 @@ use Prim.Native.Nat.{ℕ, ◌+◌, ◌-◌, ◌≤◌, ◌<◌}
 use native.Mathlib.Omega.{arith}
 use lib.ListN.{length, drop, get_or, length-drop, get_or-append}
 use Rattle.words.specs.Table.{Row, rows, entries, starts, RowIn, find_in}
-use Rattle.words.specs.Made.{Grown, none, make}
+use Rattle.words.specs.Made.{Grown, make}
 use Rattle.words.specs.declared.Found.{Found}
 use Rattle.words.specs.declared.Found.TheVariants.{At, Nothing}
 use Rattle.words.proofs.Placed.{make_there, make_new}
 use Rattle.words.proofs.Kept.{entries_append, make_appends}
-use Rattle.words.proofs.Extend.{Extends, ext_then, ext_length}
+use Rattle.words.proofs.Extend.{ext_length}
 use Rattle.bitset.specs.Bitset.{nowhere}
 use Rattle.wellformed.specs.Entry.{ok_entry}
 use Rattle.wellformed.specs.Form.{heads_at, ok_rows}
@@ -60,8 +60,6 @@ module _ (u e : List ℕ) (s : Sound u) (f : Fitting u e) where
         sound = record { low = omega (arith, ext_length u (make u e).words k.ext, s.low); full = k.full; right = go (find_in u e) refl };
         more = k.ext.more;
         is = k.ext.is;
-        sum = k.ext.sum;
-        makings = k.ext.makings;
         extra = k.extra;
         rows = k.rows;
         own = k.own;
@@ -78,23 +76,16 @@ module _ (u e : List ℕ) (s : Sound u) (f : Fitting u e) where
 
 -- an operation that makes nothing
 pub adds_none : (u : List ℕ) (h : ℕ) → Sound u → Adds u (record { words = u; handle = h })
-adds_none u h s = record { sound = s; more = []; is = sym (append-nil u); sum = 0; makings = none; extra = []; rows = sym (append-nil (entries u)); own = λ o. o; ends = λ n. n }
-
-pub adds_ext : {u : List ℕ} {g : Grown} → Adds u g → Extends u g.words
-adds_ext a = record { more = a.more; is = a.is; sum = a.sum; makings = a.makings }
+adds_none u h s = record { sound = s; more = []; is = sym (append-nil u); extra = []; rows = sym (append-nil (entries u)); own = λ o. o; ends = λ n. n }
 
 -- one operation after another
 pub adds_then : (u : List ℕ) (g g₂ : Grown) → Adds u g → Adds g.words g₂ → Adds u g₂
-adds_then u g g₂ a b =
-    let x = ext_then u g.words g₂.words (adds_ext a) (adds_ext b) in
-    record {
-      sound = b.sound;
-      more = x.more;
-      is = x.is;
-      sum = x.sum;
-      makings = x.makings;
-      extra = a.extra ++ b.extra;
-      rows = b.rows ∙ rw a.rows (append_assoc (entries u) a.extra b.extra);
-      own = λ o. b.own (a.own o);
-      ends = λ n. b.ends (a.ends n);
-    }
+adds_then u g g₂ a b = record {
+  sound = b.sound;
+  more = a.more ++ b.more;
+  is = b.is ∙ rw a.is (append_assoc u a.more b.more);
+  extra = a.extra ++ b.extra;
+  rows = b.rows ∙ rw a.rows (append_assoc (entries u) a.extra b.extra);
+  own = λ o. b.own (a.own o);
+  ends = λ n. b.ends (a.ends n);
+}

@@ -13,41 +13,29 @@ use Rattle.words.specs.Made.{Grown}
 use Rattle.words.specs.Ran.{Segments, Ran}
 use Rattle.words.specs.declared.Interned.{Interned}
 use Rattle.words.specs.declared.Interned.TheVariants.{At, Full}
-use Rattle.words.proofs.Extend.{Extends, ext_length}
 use Rattle.words.proofs.Room.{fitted, overflowed}
 use Rattle.index.specs.Covers.{Covers}
 use Rattle.index.proofs.Keep.{covers_none}
 use Rattle.wellformed.specs.Form.{well_formed, used_words}
 use Rattle.wellformed.specs.Scan.{Verified}
 use Rattle.wellformed.proofs.Before.{tests, well_segments}
-use Rattle.call.specs.Call.{Reply, refused, Outcome, left, outcome, ◌when◌, settle, call, ask}
-use Rattle.call.specs.Steps.{used_of, Beginning, Onward, finish_in}
+use Rattle.call.specs.Call.{Reply, handle, refused, Outcome, left, made, ◌when◌, settle, call, ask}
+use Rattle.call.specs.Steps.{used_of, Beginning, finish_in}
 use Rattle.call.specs.declared.Made.TheVariants.{Handle, Refused}
 use Rattle.call.proofs.Zeros.{all_zero_is}
 
 -- ---- the end
 
 module _ (used : ℕ) (ws : List ℕ) (r : Interned) where
-  pub fin_at : (h end : ℕ) → r ≡ At h end → outcome (Handle h (end - used)) (set ws 0 end) ≡ finish_in used r ws
+  pub fin_at : (h end : ℕ) → r ≡ At h end → left (made (Handle h)) (set ws 0 end) ≡ finish_in used r ws
   unfolding finish_in
   fin_at h end is = rw is
 
-  pub fin_full : r ≡ Full → (d : List ℕ) → d ≡ replicate (length (take (length ws - used) (drop used ws))) 0 → outcome (Refused 12) (put_mid used (length ws - used) ws d) ≡ finish_in used r ws
+  pub fin_full : r ≡ Full → (d : List ℕ) → d ≡ replicate (length (take (length ws - used) (drop used ws))) 0 → left (made (Refused 12)) (put_mid used (length ws - used) ws d) ≡ finish_in used r ws
   unfolding finish_in
   fin_full is d e =
       let h : length (drop used ws) ≤ length ws - used = omega (arith, length-drop used ws) in
       rw (is, e, take_all (length ws - used) (drop used ws) h, length-drop used ws, drop_of_length-le (drop used ws) h, append-nil)
-
--- where the used words end, once an operation that only appends has fitted
-pub onward : (used : ℕ) (g : Grown) (ws ws₁ : List ℕ) (r : Interned) → used ≤ length ws → Extends (take used ws) g.words → Ran used g ws ws₁ r → Onward used r
-onward used g ws ws₁ r within x ran = go r refl
-  where
-    go : (s : Interned) → r ≡ s → Onward used s
-    go (At h end) k = omega (arith, (fitted used g ws ws₁ r ran h end k).end, ext_length (take used ws) g.words x, length-take-le used ws within)
-    go Full k = tt
-
-pub onward_at : (used : ℕ) (r : Interned) (h end : ℕ) → r ≡ At h end → Onward used r → used ≤ end
-onward_at used r h end is o = rw is at o
 
 -- ---- the beginning
 
@@ -103,7 +91,7 @@ begun ws used is ne = go (well_formed ws) refl is
 -- ---- the ways of a call that makes entries
 
 module _ (rows : List ℕ → ℕ) (op : List ℕ → Grown) (ws : List ℕ) (used : ℕ) (is : used ≡ used_of ws) where
-  pub no_store : used ≡ 0 → outcome (Refused 1) ws ≡ call rows op ws
+  pub no_store : used ≡ 0 → left (made (Refused 1)) ws ≡ call rows op ws
   unfolding call used_of
   no_store z = go (well_formed ws) refl (sym z ∙ is)
     where
@@ -115,7 +103,7 @@ module _ (rows : List ℕ → ℕ) (op : List ℕ → Grown) (ws : List ℕ) (us
     begin_call : Begun ws used
     begin_call = begun ws used is ne
 
-    pub turned : (n : ℕ) → n ≡ rows (take used ws) → (n ≡ 0 → ⊥) → outcome (Refused n) ws ≡ call rows op ws
+    pub turned : (n : ℕ) → n ≡ rows (take used ws) → (n ≡ 0 → ⊥) → left (made (Refused n)) ws ≡ call rows op ws
     unfolding call
     turned zero q z = absurd (z refl)
     turned (suc n) q z = let r : rows (used_words ws) ≡ suc n = rw begin_call.is at (sym q) in rw (begin_call.ok, r)
@@ -141,8 +129,7 @@ module _ (rows : List ℕ → ℕ) (op : List ℕ → Grown) (ws : List ℕ) (us
         go : (s : Interned) → r ≡ s → o ≡ call rows op ws
         go (At h end) k =
             let f = fitted used g ws ws₁ r ran h end k in
-            let long : length (used_words ws) ≡ used = length-take-le (get_or ws 0 0) ws (tests ws begin_call.ok).within ∙ sym begin_call.is in
-            e ∙ rw (k, passed q', same, le-ltb (length ws) (length g.words) f.room, f.handle, f.end, f.words, long)
+            e ∙ rw (k, passed q', same, le-ltb (length ws) (length g.words) f.room, f.handle, f.end, f.words)
         go Full k =
             let more = overflowed used g ws ws₁ r ran k in
             let t = tests ws begin_call.ok in

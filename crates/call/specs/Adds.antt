@@ -2,7 +2,7 @@
 use Rattle.std.specs.Prelude.{◌≡◌, true, List, ◌++◌, ℕ, ◌≤◌, length, drop}
 use Rattle.words.specs.Words.{fills}
 use Rattle.words.specs.Table.{Row, entries, starts, Own}
-use Rattle.words.specs.Made.{Grown, Makings}
+use Rattle.words.specs.Made.{Grown}
 use Rattle.words.specs.Ran.{HasSize}
 use Rattle.bitset.specs.Bitset.{nowhere}
 use Rattle.wellformed.specs.Entry.{ok_entry}
@@ -21,13 +21,11 @@ pub record Fitting (u e : List ℕ) : Type 0 where
   pub ok : ok_entry (heads_at (starts u) u) e ≡ true
   pub ends : Ends (entries u) → EndsOf e
 
--- an operation only adds entries, one making after another, no second of its kind, and no Int whose ends are not 64-bit words
+-- an operation only adds entries, no second of its kind, and no Int whose ends are not 64-bit words
 pub record Adds (u : List ℕ) (g : Grown) : Type 0 where
   pub sound : Sound g.words
   pub more : List ℕ
   pub is : g.words ≡ u ++ more
-  pub sum : ℕ
-  pub makings : Makings u g.words sum
   pub extra : List Row
   pub rows : entries g.words ≡ entries u ++ extra
   pub own : Own (entries u) → Own (entries g.words)

@@ -1,6 +1,6 @@
 -- Document 01, "Calls turned back": the shape that every call on a store has.
 use Rattle.std.specs.Prelude.{Bool, true, false, not, List, ◌++◌, ℕ, zero, suc, length, drop, set, ltb}
-use Rattle.words.specs.Made.{Grown, words_added}
+use Rattle.words.specs.Made.{Grown}
 use Rattle.wellformed.specs.Form.{well_formed, used_words}
 use Rattle.call.specs.declared.Made.{Made}
 use Rattle.call.specs.declared.Made.TheVariants as Made-variants
@@ -25,19 +25,16 @@ pub data Reply : Type 0 where
   constant_bits : ℕ → Reply
   size_alone : ℕ → Reply
 
--- what a call answers, what it leaves of the words, and, by document 02's Slip 4, how many words it reports that it appended
 pub record Outcome : Type 0 where
   pub reply : Reply
   pub words : List ℕ
-  pub added : ℕ
 
--- of a call that reports 0: it appends nothing, or is refused
 abbrev pub left : Reply → List ℕ → Outcome
-left r ws = record { reply = r; words = ws; added = 0 }
+left r ws = record { reply = r; words = ws }
 
 -- the reply that each answer of a function stands for
 abbrev pub made : Made → Reply
-made (Made-variants.Handle h added) = handle h
+made (Made-variants.Handle h) = handle h
 made (Made-variants.Refused n) = refused n
 
 abbrev pub told : Answer → Reply
@@ -53,15 +50,6 @@ told (Answer-variants.Size w) = size_alone w
 abbrev pub done : Done → Reply
 done Done-variants.Accepted = accepted
 done (Done-variants.Refused n) = refused n
-
--- what the answer of a call that appends reports; "refused calls counting 0"
-abbrev pub reported : Made → ℕ
-reported (Made-variants.Handle h added) = added
-reported (Made-variants.Refused n) = 0
-
--- of a call that appends, with its answer
-abbrev pub outcome : Made → List ℕ → Outcome
-outcome m ws = record { reply = made m; words = ws; added = reported m }
 
 -- ---- rows of refusals: "The lowest number that applies is given, and only then." A number of document 02 is "tested where its slip says". 0 is no refusal.
 
@@ -83,9 +71,9 @@ suc n otherwise rest = suc n
 abbrev pub stored : Grown → List ℕ → List ℕ
 stored g ws = set (g.words ++ drop (length g.words) ws) 0 (length g.words)
 
--- an operation that no row turns back: its handle, the grown words, and the words that it appended to the used ones. Otherwise, "The answer is the number alone; store and outputs keep every word."
+-- "The answer is the number alone; store and outputs keep every word."
 abbrev pub settle : ℕ → Grown → List ℕ → Outcome
-settle zero g ws = record { reply = handle g.handle; words = stored g ws; added = words_added (used_words ws) g }
+settle zero g ws = left (handle g.handle) (stored g ws)
 settle (suc n) g ws = left (refused (suc n)) ws
 
 -- row 1; the call's own rows, read off the used words; then row 12, "the entries to append do not fit"

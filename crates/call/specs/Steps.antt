@@ -21,12 +21,7 @@ pub record Beginning (ws bits : List ℕ) (used : ℕ) : Type 0 where
   pub is : used ≡ used_of ws
   pub ready : (used ≡ 0 → ⊥) → Marked ws bits used
 
--- an operation only appends: where its answer fits, the used words end where they did, or behind it
-abbrev pub Onward : ℕ → Interned → Type 0
-Onward used (At h end) = used ≤ end
-Onward used Full = Unit
-
--- the end of a call, in the words that its operation left: word 0, and how far the used words have grown; or the way back
+-- the end of a call, in the words that its operation left: word 0, or the way back
 unfoldable pub finish_in : ℕ → Interned → List ℕ → Outcome
-finish_in used (At h end) ws = record { reply = handle h; words = set ws 0 end; added = end - used }
+finish_in used (At h end) ws = left (handle h) (set ws 0 end)
 finish_in used Full ws = left (refused 12) (take used ws ++ replicate (length ws - used) 0)

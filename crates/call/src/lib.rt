@@ -3,17 +3,17 @@ ghost use Rattle.std.specs.Prelude.{◌≡◌, ◌++◌, ◌+◌, ◌*◌, ◌�
 ghost use Rattle.words.specs.Words.{depth_of};
 ghost use Rattle.bitset.specs.Bitset.{bit_at, word_bits};
 ghost use Rattle.wellformed.specs.Entry.{kind_in, kind_at, all, deepest};
-ghost use Rattle.call.specs.Call.{outcome};
-ghost use Rattle.call.specs.Steps.{Beginning, Onward, finish_in};
+ghost use Rattle.call.specs.Call.{made, left};
+ghost use Rattle.call.specs.Steps.{Beginning, finish_in};
 ghost use Rattle.words.specs.Columns.{word, kind_on};
 ghost use Rattle.wellformed.specs.Form.{longest_allowed};
 
 use words::{Interned, kinds};
 
-// The answer of a call that hands back a handle, and, beside the handle, how many words it appended: 0 where every entry was there. A refused call has no place for a number: it reports 0.
+// The answer of a call that hands back a handle.
 #[derive(Drop)]
 pub enum Made {
-    Handle(u64, u64),
+    Handle(u64),
     Refused(u8),
 }
 
@@ -54,17 +54,15 @@ pub fn begin(words: &[u64], bits: &mut [u64]) -> usize
 
 // ---- the end
 
-// Writes word 0, once, and reports how far the used words have grown; or zeroes the words past `used`, and answers 12.
+// Writes word 0, once; or zeroes the words past `used`, and answers 12.
 pub fn finish(words: &mut [u64], used: usize, r: Interned) -> Made
-    requires words_nonzero { (0 < length words.old) × (used ≤ length words.old) }
-    requires onward { Onward used r }
-    ensures { outcome result words.new ≡ finish_in used r words.old }
+    requires { (0 < length words.old) × (used ≤ length words.old) }
+    ensures { left (made result) words.new ≡ finish_in used r words.old }
 {
     match r {
         Interned::At(h, end) => {
-            let added = end - used;
             words[0] = end as u64;
-            Made::Handle(h as u64, added as u64)
+            Made::Handle(h as u64)
         }
         Interned::Full => {
             words::clear(&mut words[used..]);

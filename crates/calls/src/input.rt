@@ -34,8 +34,6 @@ pub struct State {
     pub len: usize,
     // whether it is an opened store
     pub opened: bool,
-    // what the last line reported
-    pub added: u64,
     // how many bytes of the output's buffer are in use
     pub used: usize,
     // how many bytes of the input were run; between two reads, how many wait at its front
@@ -65,7 +63,6 @@ pub fn script(
     let mut state = State {
         len: 0,
         opened: false,
-        added: 0,
         used: 0,
         at: 0,
         skips: false,
@@ -218,7 +215,6 @@ fn start(input: &[u8], state: State) -> State
         return State {
             len: state.len,
             opened: state.opened,
-            added: state.added,
             used: state.used,
             at: 0,
             skips: false,
@@ -230,7 +226,6 @@ fn start(input: &[u8], state: State) -> State
         return State {
             len: state.len,
             opened: state.opened,
-            added: state.added,
             used: state.used,
             at: end,
             skips: true,
@@ -240,7 +235,6 @@ fn start(input: &[u8], state: State) -> State
     State {
         len: state.len,
         opened: state.opened,
-        added: state.added,
         used: state.used,
         at: end + 1,
         skips: false,
@@ -282,7 +276,6 @@ fn one(
         file,
         file_size,
         saved,
-        state.added,
     );
     let len = outcome.len;
     let reply = outcome.reply;
@@ -291,7 +284,6 @@ fn one(
     State {
         len: len,
         opened: outcome.opened,
-        added: replies::added_then(reply, state.added),
         used: used,
         at: state.at,
         skips: state.skips,
@@ -340,7 +332,6 @@ fn last(
     State {
         len: s.len,
         opened: s.opened,
-        added: s.added,
         used: 0,
         at: 0,
         skips: false,
@@ -359,7 +350,6 @@ fn shift(input: &mut [u8], end: usize, out: &mut [u8], state: State) -> State
         return State {
             len: state.len,
             opened: state.opened,
-            added: state.added,
             used: state.used,
             at: kept,
             skips: state.skips,
@@ -370,7 +360,6 @@ fn shift(input: &mut [u8], end: usize, out: &mut [u8], state: State) -> State
     State {
         len: state.len,
         opened: state.opened,
-        added: 0,
         used: used,
         at: 0,
         skips: true,

@@ -6,7 +6,7 @@ ghost use Rattle.catalogue.specs.Catalogue.{save_output, load_call};
 ghost use Rattle.making.specs.Making.{appended};
 ghost use Rattle.asking.specs.Asking.{asked_filling, asked, output_of};
 ghost use Rattle.opened.specs.OpenStore.{OpenStore, open_reply};
-ghost use Rattle.codes.specs.Code.{status, CodedDone, Coded, CodedAdded, CodedWhich, CodedOpening};
+ghost use Rattle.codes.specs.Code.{status, CodedDone, Coded, CodedWhich, CodedOpening};
 
 use asking::Asking;
 use making::Making;
@@ -20,31 +20,11 @@ pub fn append(words: &mut [u64], making: Making, list: &[u64], text: &[u8], answ
     codes::of_made(plain::append(words, making, &*list, &*text), answer)
 }
 
-// The same, which tells also how many words were appended.
-pub fn append_added(
-    words: &mut [u64],
-    making: Making,
-    list: &[u64],
-    text: &[u8],
-    added: &mut u64,
-    answer: &mut u64,
-) -> u32
-    ensures { CodedAdded (run (appended making list.now text.now) words.old) result words.new added.new answer.old answer.new }
-{
-    codes::of_made_added(plain::append(words, making, &*list, &*text), added, answer)
-}
-
 // A call that has neither a list nor a text.
 pub fn make(words: &mut [u64], making: Making, answer: &mut u64) -> u32
     ensures { Coded (run (appended making [] []) words.old) result words.new answer.old answer.new }
 {
     append(words, making, &[], b"", answer)
-}
-
-pub fn make_added(words: &mut [u64], making: Making, added: &mut u64, answer: &mut u64) -> u32
-    ensures { CodedAdded (run (appended making [] []) words.old) result words.new added.new answer.old answer.new }
-{
-    append_added(words, making, &[], b"", added, answer)
 }
 
 pub fn ask(words: &[u64], asking: Asking, answer: &mut u64) -> u32
@@ -117,28 +97,6 @@ pub fn opened_append(
     )
 }
 
-// The same, which tells also how many words were appended.
-pub fn opened_append_added(
-    words: &mut [u64],
-    index: &mut [u64],
-    memory: &mut [u64],
-    making: Making,
-    list: &[u64],
-    text: &[u8],
-    added: &mut u64,
-    answer: &mut u64,
-) -> u32
-    requires { OpenStore words.old index.old memory.old }
-    ensures coded_added { CodedAdded (run (appended making list.now text.now) words.old) result words.new added.new answer.old answer.new }
-    ensures open_store { OpenStore words.new index.new memory.new }
-{
-    codes::of_made_added(
-        opened::append(words, index, memory, making, &*list, &*text),
-        added,
-        answer,
-    )
-}
-
 // The merge of a list.
 pub fn opened_meet_list(
     words: &mut [u64],
@@ -153,25 +111,6 @@ pub fn opened_meet_list(
 {
     codes::of_made(
         opened_lists::meet_list(words, index, memory, &*types),
-        answer,
-    )
-}
-
-pub fn opened_meet_list_added(
-    words: &mut [u64],
-    index: &mut [u64],
-    memory: &mut [u64],
-    types: &[u64],
-    added: &mut u64,
-    answer: &mut u64,
-) -> u32
-    requires { OpenStore words.old index.old memory.old }
-    ensures coded_added { CodedAdded (run (meet_list types.now) words.old) result words.new added.new answer.old answer.new }
-    ensures open_store { OpenStore words.new index.new memory.new }
-{
-    codes::of_made_added(
-        opened_lists::meet_list(words, index, memory, &*types),
-        added,
         answer,
     )
 }

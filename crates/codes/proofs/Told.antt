@@ -7,15 +7,14 @@ use lib.ListN.{length}
 use mathlib.Core.Bool.{Bool, not, cond}
 use native.Mathlib.Omega.{arith}
 use Rattle.wellformed.specs.Form.{well_formed}
-use Rattle.call.specs.Call.{Reply, Outcome, left, made, reported, outcome, told, done, accepted, reply_after, ◌when◌, ◌otherwise◌}
+use Rattle.call.specs.Call.{Reply, Outcome, left, told, done, accepted, reply_after, ◌when◌, ◌otherwise◌}
 use Rattle.call.specs.declared.Answer.{Answer}
 use Rattle.call.specs.declared.Answer.TheVariants as Answer-variants
-use Rattle.call.specs.declared.Made.{Made}
 use Rattle.call.specs.declared.Done.{Done}
 use Rattle.call.specs.declared.Done.TheVariants as Done-variants
 use Rattle.store_index.specs.StoreIndex.{index_size}
 use Rattle.opened.specs.OpenStore.{Opening, open_reply}
-use Rattle.codes.specs.Code.{status, answer_after, which_after, CodedDone, Coded, CodedAdded, CodedWhich, CodedOpening}
+use Rattle.codes.specs.Code.{status, answer_after, which_after, CodedDone, Coded, CodedWhich, CodedOpening}
 
 -- ---- from the reply to the outcome
 
@@ -38,19 +37,6 @@ coded_which o p r ws h h' a a' e (s, t, u) =
       chosen = t ∙ ap (λ (x : Outcome). which_after x.reply h) e;
       told = u ∙ ap (λ (x : Outcome). answer_after x.reply a) e;
     }
-
-pub coded_added : (o : Outcome) (m : Made) (r : ℕ) (ws : List ℕ) (n a a' : ℕ) → outcome m ws ≡ o → (r ≡ status (made m)) × (n ≡ reported m) × (a' ≡ answer_after (made m) a) → CodedAdded o r ws n a a'
-coded_added o m r ws n a a' e (s, t, u) =
-    record {
-      returned = s ∙ ap (λ (x : Outcome). status x.reply) e;
-      words = ap (λ (x : Outcome). x.words) e;
-      counted = t ∙ ap (λ (x : Outcome). x.added) e;
-      told = u ∙ ap (λ (x : Outcome). answer_after x.reply a) e;
-    }
-
--- the same without the words that were appended
-pub coded_made : (o : Outcome) (m : Made) (r : ℕ) (ws : List ℕ) (a a' : ℕ) → outcome m ws ≡ o → (r ≡ status (made m)) × (a' ≡ answer_after (made m) a) → Coded o r ws a a'
-coded_made o m r ws a a' e (s, t) = let k = coded_added o m r ws (reported m) a a' e (s, refl, t) in record { returned = k.returned; words = k.words; told = k.told }
 
 -- ---- yes and no
 

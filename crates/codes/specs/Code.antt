@@ -56,13 +56,6 @@ pub record Coded (o : Outcome) (r : ℕ) (ws : List ℕ) (answer answer' : ℕ) 
   pub words : ws ≡ o.words
   pub told : answer' ≡ answer_after o.reply answer
 
--- the same of a function that tells beside its answer how many words its call appended, document 02's Slip 4: `added` is what that word holds afterwards. It is written of every call, and so it is 0 where the call is refused
-pub record CodedAdded (o : Outcome) (r : ℕ) (ws : List ℕ) (added answer answer' : ℕ) : Type 0 where
-  pub returned : r ≡ status o.reply
-  pub words : ws ≡ o.words
-  pub counted : added ≡ o.added
-  pub told : answer' ≡ answer_after o.reply answer
-
 -- a function with two lent words
 pub record CodedWhich (o : Outcome) (r : ℕ) (ws : List ℕ) (which which' answer answer' : ℕ) : Type 0 where
   pub returned : r ≡ status o.reply

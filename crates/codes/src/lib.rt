@@ -1,7 +1,7 @@
 // Replies for callers in C or Rust: a function returns 0 or the number of a refusal, and its answer goes to a lent word, which keeps where the call is refused. A call that
-// answers in one of two ways has a second lent word, which tells the way. A function that also tells how many words its call appended has a lent word for that, which is 0 where the call is refused.
+// answers in one of two ways has a second lent word, which tells the way.
 ghost use Rattle.std.specs.Prelude.{◌≡◌, cond};
-ghost use Rattle.call.specs.Call.{made, reported, told, done};
+ghost use Rattle.call.specs.Call.{made, told, done};
 ghost use Rattle.codes.specs.Code.{status, answer_after, which_after};
 
 use call::{Answer, Done, Made};
@@ -28,11 +28,10 @@ fn tell(word: u64, answer: &mut u64) -> u32
     0
 }
 
-// An answer with another word beside it: the way of the answer, or how many words were appended.
-fn tell_both(beside: u64, word: u64, other: &mut u64, answer: &mut u64) -> u32
-    ensures { (result ≡ 0) × (other.new ≡ beside) × (answer.new ≡ word) }
+fn tell_which(way: u64, word: u64, which: &mut u64, answer: &mut u64) -> u32
+    ensures { (result ≡ 0) × (which.new ≡ way) × (answer.new ≡ word) }
 {
-    *other = beside;
+    *which = way;
     *answer = word;
     0
 }
@@ -50,21 +49,8 @@ pub fn of_made(m: Made, answer: &mut u64) -> u32
     ensures { (result ≡ status (made m)) × (answer.new ≡ answer_after (made m) answer.old) }
 {
     match m {
-        Made::Handle(h, _) => tell(h, answer),
+        Made::Handle(h) => tell(h, answer),
         Made::Refused(n) => refusal(n),
-    }
-}
-
-// With the words that the call appended.
-pub fn of_made_added(m: Made, added: &mut u64, answer: &mut u64) -> u32
-    ensures { (result ≡ status (made m)) × (added.new ≡ reported m) × (answer.new ≡ answer_after (made m) answer.old) }
-{
-    match m {
-        Made::Handle(h, n) => tell_both(n, h, added, answer),
-        Made::Refused(n) => {
-            *added = 0;
-            refusal(n)
-        }
     }
 }
 
@@ -87,13 +73,13 @@ pub fn of_answer_which(m: Answer, which: &mut u64, answer: &mut u64) -> u32
     ensures { (result ≡ status (told m)) × (which.new ≡ which_after (told m) which.old) × (answer.new ≡ answer_after (told m) answer.old) }
 {
     match m {
-        Answer::Handle(h) => tell_both(1, h, which, answer),
-        Answer::Number(n) => tell_both(1, n, which, answer),
-        Answer::Flag(yes) => tell_both(1, flag_word(yes), which, answer),
+        Answer::Handle(h) => tell_which(1, h, which, answer),
+        Answer::Number(n) => tell_which(1, n, which, answer),
+        Answer::Flag(yes) => tell_which(1, flag_word(yes), which, answer),
         Answer::Refused(n) => refusal(n),
-        Answer::Signed(w) => tell_both(1, w, which, answer),
+        Answer::Signed(w) => tell_which(1, w, which, answer),
         Answer::Absent => tell(0, which),
-        Answer::Constant(bits) => tell_both(1, bits, which, answer),
-        Answer::Size(w) => tell_both(0, w, which, answer),
+        Answer::Constant(bits) => tell_which(1, bits, which, answer),
+        Answer::Size(w) => tell_which(0, w, which, answer),
     }
 }

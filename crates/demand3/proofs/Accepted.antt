@@ -11,9 +11,9 @@ use lib.Seq.{drop-set-lt}
 use Rattle.words.specs.Table.{rows as rows_from, entries}
 use Rattle.words.specs.Made.{Grown}
 use Rattle.wellformed.specs.Form.{well_formed, used_words}
-use Rattle.call.specs.Call.{Outcome, handle, ◌when◌, ◌otherwise◌, stored, settle, call}
+use Rattle.call.specs.Call.{handle, left, ◌when◌, ◌otherwise◌, stored, settle, call}
 use Rattle.call.specs.Adds.{Sound, Adds}
-use Rattle.call.proofs.Keep.{well_sound, adds_longer, used_grown}
+use Rattle.call.proofs.Keep.{well_sound, used_grown}
 
 settled : (k : ℕ) (b : Bool) (g : Grown) (ws : List ℕ) (h : ℕ) → (settle (k otherwise 12 when b) g ws).reply ≡ handle h → (k ≡ 0) × (b ≡ false) × (h ≡ g.handle)
 settled zero true g ws h q = let z : ◌≡◌ {A = ℕ} 0 1 = cc in absurd (omega arith)
@@ -40,8 +40,8 @@ module _ (rows : List ℕ → ℕ) (op : List ℕ → Grown) (ws : List ℕ) (h 
       let s = settled (rows (used_words ws)) full g ws h (rw past at q) in
       let n = length g.words in
       let room = ltb-false (length ws) n s.1 in
-      let is : (call rows op ws).words ≡ stored g ws = ap (λ (o : Outcome). o.words) past ∙ rw (s.0, s.1) in
-      let used : after ≡ set g.words 0 n = rw is (used_grown ws g ok (adds_longer ws ok g (adds (well_sound ws ok) s.0)) room) in
+      let is : call rows op ws ≡ left (handle g.handle) (stored g ws) = past ∙ rw (s.0, s.1) in
+      let used : after ≡ set g.words 0 n = rw is (used_grown ws g ok (adds (well_sound ws ok) s.0) room) in
       record {
         none = s.0;
         is = s.2;

@@ -3,7 +3,6 @@ pub mod Accepted
 pub mod Lists
 pub mod Reaching
 pub mod Demand3
-pub mod Counted
 pub mod Examples
 pub mod Shown
 pub mod Any

@@ -4,8 +4,7 @@ use mathlib.Core.Path.{◌≡◌, refl}
 use mathlib.Core.Bool.{true, false}
 use mathlib.Core.Logic.{◌⊎◌, inl, inr, ◌↔◌}
 use mathlib.Core.List.{List, [], ◌∷◌, ◌++◌}
-use Prim.Native.Nat.{ℕ, zero, suc, ◌+◌}
-use native.Mathlib.Omega.{arith}
+use Prim.Native.Nat.{ℕ, zero, suc}
 use lib.ListN.{replicate}
 use Rattle.words.specs.Kinds.{Fref, Mem}
 use Rattle.words.specs.Words.{words_after, size_of, fills, eqs}
@@ -15,7 +14,7 @@ use Rattle.bitset.specs.Bitset.{also}
 use Rattle.wellformed.specs.Fresh.{fresh_words}
 use Rattle.wellformed.specs.Entry.{most_of, names_in, types_in, all, deepest, float_ok, zero_filled, values_ok, ok_entry}
 use Rattle.words.specs.Columns.{every}
-use Rattle.wellformed.specs.Form.{all_zero, heads_at, ok_rows, ok_entries, well_formed, used_count, used_words}
+use Rattle.wellformed.specs.Form.{all_zero, heads_at, ok_rows, ok_entries, well_formed, used_words}
 use Rattle.call.specs.Call.{Reply, handle, flag, call, ask}
 use Rattle.call.specs.Handles.{types_rows}
 use Rattle.source.specs.Packed.{of_bytes, packed}
@@ -31,9 +30,8 @@ use Rattle.finals.specs.Final.{all_final, is_final_within}
 use Rattle.make_ro.specs.ReadOnly.{read_only_each, make_ro_within}
 use Rattle.every_call.specs.Run.{Call, make_int, get_str, get_struct, meet, meet_list, isa, join, dual, glb, lub, make_ro, run, all_typed}
 use Rattle.every_call.specs.MeetList.{meet_list_rows, merge_from}
-use Rattle.demand3.specs.Demand3.{some, reaches_within, reaches, leaves, all_added, Gave, Isa, Plain, Bracketing, single, pair, whole, none, more, AllPlain, SameSet, Laws}
+use Rattle.demand3.specs.Demand3.{some, reaches_within, reaches, leaves, Gave, Isa, Plain, Bracketing, single, pair, whole, none, more, AllPlain, SameSet, Laws}
 use Rattle.demand3.proofs.Demand3.{demand3}
-use Rattle.demand3.proofs.Counted.{counted}
 
 abbrev lent : List ℕ
 lent = replicate 200 0
@@ -310,11 +308,3 @@ glb_above_shown = laws.glb_above 94 25 plain.0 others.4
 -- the struct whose field is not final isa the struct whose field is
 pub read_only_above_shown : Isa run calls start 144 149
 read_only_above_shown = laws.read_only_above 144 149 plain.4 others.5
-
--- ---- document 02, Slip 4: word 0 is 154 in the end, and so the calls have reported 60 words in all
-
-pub counted_shown : all_added run calls start ≡ 60
-counted_shown =
-    let c : used_count (leaves run calls start) ≡ 94 + all_added run calls start = counted.from_fresh start (lent, refl, refl) calls in
-    let n : used_count (leaves run calls start) ≡ 154 = rw computed.1 refl in
-    omega (arith, c, n)

@@ -1,13 +1,12 @@
--- Demand 3: the laws of every list of calls from a fresh store, or from a loaded one. The statement is `Demand3`; proofs/Demand3.antt proves it. `Call` and `run` (every_call/specs/Run.antt) are
+-- Demand 3: the laws of every list of calls from a fresh store, or from a loaded one. The statement is `Demand3`, at the end; proofs/Demand3.antt proves it. `Call` and `run` (every_call/specs/Run.antt) are
 -- those that the contracts of the functions cite: "the makers of `Types`, meet, isa, dual, join, glb, lub, is_final and make_ro .. Each other call that takes a store joins the list when it
 -- lands".
--- The quoted words are document 01's, "Demand 3's list", unless another place is named. The merge of a whole list is document 02's Slip 1, a loaded store its Slip 3, and what calls report its Slip 4 (`Counted`, behind `Demand3`).
-use Rattle.std.specs.Prelude.{◌≡◌, Bool, true, false, ◌||◌, ◌⊎◌, ◌↔◌, List, [], ◌∷◌, ℕ, zero, suc, ◌+◌, eqb, take, drop}
+-- The quoted words are document 01's, "Demand 3's list", unless another place is named. The merge of a whole list is document 02's Slip 1, a loaded store its Slip 3.
+use Rattle.std.specs.Prelude.{◌≡◌, Bool, true, false, ◌||◌, ◌⊎◌, ◌↔◌, List, [], ◌∷◌, ℕ, zero, suc, eqb, take, drop}
 use Rattle.words.specs.Kinds.{Fref, Mem}
 use Rattle.words.specs.Words.{size_of}
 use Rattle.wellformed.specs.Entry.{types_in, all}
-use Rattle.wellformed.specs.Fresh.{fresh_length}
-use Rattle.wellformed.specs.Form.{right_length, used_count, used_words}
+use Rattle.wellformed.specs.Form.{right_length, used_words}
 use Rattle.call.specs.Call.{Outcome, handle, number, flag}
 use Rattle.call.specs.Handles.{types_rows}
 use Rattle.words.specs.Columns.{word, kind_on}
@@ -48,11 +47,6 @@ module _ (does : Call → List ℕ → Outcome) where
   unfoldable pub leaves : List Call → List ℕ → List ℕ
   leaves [] ws = ws
   leaves (c ∷ cs) ws = leaves cs (does c ws).words
-
-  -- document 02, Slip 4: the sum of all that the calls of a list report
-  unfoldable pub all_added : List Call → List ℕ → ℕ
-  all_added [] ws = 0
-  all_added (c ∷ cs) ws = (does c ws).added + all_added cs (does c ws).words
 
   -- an accepted call: c is one of the list, and h is the handle that it handed back, on the store that the calls before it left
   abbrev pub Gave : List Call → List ℕ → Call → ℕ → Type 0
@@ -149,12 +143,3 @@ LoadedStore ws = (f vs : List ℕ) × (l : ℕ) × AreBytes f × ((load_call f v
 -- demand 3: of every list of calls cs, "with any arguments", from every such store. The ends of an Int are 64-bit words, and a text is bytes; all else is any numbers at all.
 abbrev pub Demand3 : Type 0
 Demand3 = (ws : List ℕ) → FreshStore ws ⊎ LoadedStore ws → (cs : List Call) → all_typed cs ≡ true → Laws run cs ws
-
--- ---- document 02, Slip 4: how much the calls of a list add
-
--- word 0 of the store that a list leaves, of every list of calls, with any numbers at all
-pub record Counted : Type 0 where
-  -- "In each of demand 3's lists from a fresh store, 94 plus all reported sums is word 0, refused calls counting 0."
-  pub from_fresh : (ws : List ℕ) → FreshStore ws → (cs : List Call) → used_count (leaves run cs ws) ≡ fresh_length + all_added run cs ws
-  -- "A load starts the count anew from the loaded word 0."
-  pub from_loaded : (ws : List ℕ) → LoadedStore ws → (cs : List Call) → used_count (leaves run cs ws) ≡ used_count ws + all_added run cs ws

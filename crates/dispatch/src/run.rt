@@ -1,6 +1,6 @@
 // One line of a script: its words are read, and the call that it names is made. A call is lent the list, which is the first `len` words, and where that is an opened store, its
 // index and its memory. A call that fills an output is lent one beside them. A list that a script has remembered stands in `kept`. The file that it keeps is the first `file_size`
-// bytes of `file`, and a list is saved in `saved` first. `added` is what the line before reported.
+// bytes of `file`, and a list is saved in `saved` first.
 ghost use Rattle.std.specs.Prelude.{◌≤◌, length};
 ghost use Rattle.dispatch.specs.Held.{Held};
 
@@ -33,7 +33,6 @@ pub fn line(
     file: &mut [u8],
     file_size: &mut usize,
     saved: &mut [u8],
-    added: u64,
 ) -> Outcome
     requires { Held len opened words.old index.old memory.old }
     ensures { Held result.len result.opened words.new index.new memory.new }
@@ -44,13 +43,6 @@ pub fn line(
             len: len,
             opened: opened,
             reply: Reply::Nothing,
-        };
-    }
-    if check::same(&line[0..end], b"words_added") {
-        return Outcome {
-            len: len,
-            opened: opened,
-            reply: Reply::Added(added),
         };
     }
     spoken(

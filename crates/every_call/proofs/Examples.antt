@@ -5,7 +5,7 @@ use Prim.Native.Nat.{ℕ, ◌-◌, ◌^◌}
 use lib.ListN.{replicate}
 use Rattle.words.specs.Words.{words_after, size_of, eqs}
 use Rattle.words.specs.Table.{rows, entries, first_of, find_in, is_at}
-use Rattle.words.specs.Made.{there, make, words_added}
+use Rattle.words.specs.Made.{there, make}
 use Rattle.wellformed.specs.Entry.{all}
 use Rattle.wellformed.specs.Fresh.{fresh_words}
 use Rattle.call.specs.Handles.{types_rows}
@@ -14,7 +14,6 @@ use Rattle.meet_rules.specs.Rules.{pair_rule, rule_for}
 use Rattle.meet.specs.Meet.{follow, meet_within}
 use Rattle.walk_rules.specs.Tables.{form_for}
 use Rattle.walk.specs.Walk.{follow_form, walk_within}
-use Rattle.join.specs.Join.{join_of}
 use Rattle.every_call.specs.MeetList.{merge_from, meet_list_of, meet_list_rows}
 use Rattle.every_call.specs.NonZero.{non_zero_of}
 
@@ -50,11 +49,6 @@ merge_new = refl
 pub merge_between : meet_list_of (28 ∷ 12 ∷ 9 ∷ []) fresh ≡ record { words = (fresh ++ int_entry 1 2) ++ int_entry 0 2; handle = 97 }
 unfolding merge_from meet_within follow rule_for pair_rule make find_in entries rows first_of eqs size_of words_after fresh_words
 merge_between = refl
-
--- document 02, Slip 4: the two lists report three words and six; 0..0 join 2..2, whose duals are themselves, reports 0..2 and 2..0, six words; of the two Ints that are each other's dual, 22 and 25, all is there, and their join reports 0
-pub reported : (words_added fresh (meet_list_of (9 ∷ 12 ∷ 28 ∷ []) fresh) ≡ 3) × (words_added fresh (meet_list_of (28 ∷ 12 ∷ 9 ∷ []) fresh) ≡ 6) × (words_added fresh (join_of fresh 9 28) ≡ 6) × (words_added fresh (join_of fresh 22 25) ≡ 0)
-unfolding merge_from meet_within follow rule_for pair_rule walk_within follow_form form_for make find_in entries rows first_of eqs size_of words_after fresh_words
-reported = (refl, refl, refl, refl)
 
 -- a handle that a meet of the same list would make is none yet: 0..2 would be at 94
 pub merge_tested : (meet_list_rows (9 ∷ 28 ∷ 94 ∷ []) fresh ≡ 2) × ((meet_list_of (9 ∷ 28 ∷ []) fresh).handle ≡ 94)

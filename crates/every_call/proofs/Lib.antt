@@ -1,7 +1,6 @@
 pub mod Parts
 pub mod MeetList
 pub mod Keeps
-pub mod Reports
 pub mod Cleared
 pub mod NonZero
 pub mod Examples

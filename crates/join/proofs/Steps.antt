@@ -1,20 +1,19 @@
 -- One operation after another, where the second takes the first's answer; and the steps of join. Assumes nothing.
 use mathlib.Core.Path.{◌≡◌, refl, sym, ap}
-use mathlib.Core.Bool.{Bool, true, false, cond}
+use mathlib.Core.Bool.{true}
 use mathlib.Core.List.{List, ◌++◌}
 use Prim.Native.Nat.{ℕ, suc, ◌+◌, ◌*◌, ◌-◌, ◌/◌, ◌≤◌, max}
 use native.Mathlib.Omega.{arith}
 use borrow.Author.Tests.{eq-eqb, ne_eqb}
-use lib.Dec.{eqb}
 use lib.ListN.{length, take, drop, length-append}
 use lib.Seq.{length-take-le}
 use borrow.Rule.Slice.PartMut.{put_mid}
 use Rattle.words.specs.Words.{fills}
-use Rattle.words.specs.Made.{Grown, there}
+use Rattle.words.specs.Made.{Grown}
 use Rattle.words.specs.Ran.{Ran, Runs}
 use Rattle.words.specs.declared.Interned.{Interned}
 use Rattle.words.specs.declared.Interned.TheVariants.{At, Full}
-use Rattle.words.proofs.Extend.{Extends, ext_same, ext_then}
+use Rattle.words.proofs.Extend.{Extends, ext_then}
 use Rattle.index.specs.Covers.{Covers}
 use Rattle.parts.specs.Parts.{Good, Part, Ready, ReadyOne}
 use Rattle.parts.proofs.Good.{part_weak, part_below, good_adds, part_adds, one_segments, Answers}
@@ -48,13 +47,6 @@ pub with_grows : (u : List ℕ) (a b : ℕ) → Extends u (join_with u a b).word
 with_grows u a b =
     let d = dual_of u b in
     ext_then u d.words _ (walk_grows Dual (suc b) u b) (dual_meet_grows d.words a d.handle)
-
-pub join_grows : (u : List ℕ) (a b : ℕ) → Extends u (join_of u a b).words
-join_grows u a b = go (eqb a b)
-  where
-    go : (t : Bool) → Extends u (cond t (there u a) (join_with (dual_of u a).words (dual_of u a).handle b)).words
-    go true = ext_same u
-    go false = ext_then u (dual_of u a).words _ (walk_grows Dual (suc a) u a) (with_grows (dual_of u a).words (dual_of u a).handle b)
 
 -- ---- two steps
 

@@ -58,12 +58,12 @@ pub row_12 : make_int_call 3 4 fresh94 ≡ left (refused 12) fresh94
 unfolding call make find_in first_of fresh_words eqs rows entries size_of words_after
 row_12 = rw (fresh_any 94 (omega arith) (omega arith))
 
--- the same Int in a list that has room for it, behind the fresh words; it reports the three words that it appended
-pub made_94 : make_int_call 3 4 (fresh_store 98) ≡ record { reply = handle 94; words = (97 ∷ fresh_words) ++ (int_entry 3 4 ++ (0 ∷ [])); added = 3 }
+-- the same Int in a list that has room for it, behind the fresh words
+pub made_94 : make_int_call 3 4 (fresh_store 98) ≡ left (handle 94) ((97 ∷ fresh_words) ++ (int_entry 3 4 ++ (0 ∷ [])))
 unfolding call make find_in first_of fresh_words eqs rows entries size_of words_after
 made_94 = rw (fresh_any 98 (omega arith) (omega arith))
 
--- an Int that is there, in a list without room; it reports 0
+-- an Int that is there, in a list without room
 pub found_9 : make_int_call 0 0 fresh94 ≡ left (handle 9) fresh94
 unfolding call make find_in first_of fresh_words eqs rows entries size_of words_after
 found_9 = rw (fresh_any 94 (omega arith) (omega arith))

@@ -5,12 +5,14 @@ use Prim.Native.Nat.{ℕ, suc, ◌+◌, ◌-◌, ◌*◌, ◌/◌, ◌≤◌, �
 use native.Mathlib.Nat.{mul-le-mul_right}
 use native.Mathlib.Omega.{arith}
 use borrow.Rule.Slice.PartMut.{put_mid}
-use lib.ListN.{length, take, drop}
+use lib.ListN.{length, take, drop, length-append}
+use lib.Seq.{length-take-le}
 use Rattle.words.specs.Ran.{Runs}
 use Rattle.words.specs.declared.Interned.{Interned}
 use Rattle.words.specs.declared.Interned.TheVariants.{At}
+use Rattle.words.proofs.Extend.{Extends, ext_by}
 use Rattle.parts.specs.Parts.{Ready, ReadyOne}
-use Rattle.parts.proofs.Good.{ready_segments, one_segments}
+use Rattle.parts.proofs.Good.{part_weak, ready_segments, one_segments}
 use Rattle.memo.specs.Memo.{Lines, Tells, Learned}
 use Rattle.memo.specs.declared.Recalled.{Recalled}
 use Rattle.memo.specs.declared.Recalled.TheVariants.{Is as Recalled-as-Is}
@@ -27,7 +29,7 @@ use Rattle.walk.specs.Remembered.{Remembers as RemembersWalks, Settled as Settle
 use Rattle.walk.proofs.Grows.{walk_grows}
 use Rattle.join.specs.Join.{join_of}
 use Rattle.join.specs.Memory.{Remembers as RemembersJoin, Remembered as RememberedJoin}
-use Rattle.join.proofs.Steps.{join_grows}
+use Rattle.join.proofs.Adds.{join_adds}
 use Rattle.finals.specs.Known.{Knows}
 use Rattle.finals.proofs.Knows.{knows_blank}
 use Rattle.make_ro.specs.ReadOnly.{make_ro_of}
@@ -107,8 +109,15 @@ module _ {old new memory : List ℕ} {used a b : ℕ} (rd : Ready old new used 1
 -- ---- join
 
 module _ {old new memory : List ℕ} {used a b : ℕ} (rd : Ready old new used 1 11 a b) (right : Right (take used (old ++ new)) memory) (new' : List ℕ) {r : Interned} (runs : Runs (λ u. join_of u a b) old new used new' r) where
+  join_grows : Extends (take used (old ++ new)) (join_of (take used (old ++ new)) a b).words
+  join_grows =
+      let u = take used (old ++ new) in
+      let long : length u ≡ used = length-take-le used (old ++ new) (omega (arith, rd.within, length-append old new)) in
+      let adds = join_adds u a b rd.good (part_weak (length u) 33 (omega arith) (omega arith) rd.first) (part_weak (length u) 33 (omega arith) (omega arith) rd.second) in
+      rw adds.is (ext_by u adds.more)
+
   joined_kept : RightThen old new' r memory
-  joined_kept = then_kept (ready_segments rd) right (join_of (take used (old ++ new)) a b) (join_grows (take used (old ++ new)) a b) new' runs
+  joined_kept = then_kept (ready_segments rd) right (join_of (take used (old ++ new)) a b) join_grows new' runs
 
   pub joined_own : Runs (λ u. join_of u a b) old new used new' r × RightThen old new' r memory
   joined_own = (runs, joined_kept)

@@ -9,7 +9,7 @@ use Rattle.words.proofs.Extend.{Extends, ext_length}
 use Rattle.words.proofs.Room.{fitted}
 use Rattle.wellformed.specs.Form.{used_words}
 use Rattle.call.specs.declared.Made.{Made}
-use Rattle.call.specs.Call.{Outcome, outcome}
+use Rattle.call.specs.Call.{Outcome, left, made}
 use Rattle.call.specs.Steps.{finish_in}
 use Rattle.later.proofs.Keeps.{later_set}
 use Rattle.lent_memory.specs.Memory.{Right, RightThen}
@@ -17,11 +17,11 @@ use Rattle.lent_memory.proofs.Laws.{right_later, right_blank}
 use Rattle.memory_steps.specs.Steps.{Forgot}
 
 -- an answer that fitted: the used words after the end are those that the operation left, with their number in word 0
-pub used_then : (ws ws₁ ws₂ : List ℕ) (used : ℕ) (r : Interned) (g : Grown) (m : Made) → 0 < used → used ≤ length ws → 0 < length ws₁ → Extends (take used ws) g.words → Ran used g ws ws₁ r → outcome m ws₂ ≡ finish_in used r ws₁ → (h v : ℕ) → r ≡ At h v
+pub used_then : (ws ws₁ ws₂ : List ℕ) (used : ℕ) (r : Interned) (g : Grown) (m : Made) → 0 < used → used ≤ length ws → 0 < length ws₁ → Extends (take used ws) g.words → Ran used g ws ws₁ r → left (made m) ws₂ ≡ finish_in used r ws₁ → (h v : ℕ) → r ≡ At h v
     → used_words ws₂ ≡ set (take v ws₁) 0 v
 unfolding finish_in
 used_then ws ws₁ ws₂ used r g m some within long x ran e h v k =
-    let e₁ : outcome m ws₂ ≡ finish_in used (At h v) ws₁ = rw k at e in
+    let e₁ : left (made m) ws₂ ≡ finish_in used (At h v) ws₁ = rw k at e in
     let w : ws₂ ≡ set ws₁ 0 v = ap (λ (y : Outcome). y.words) e₁ in
     let c : get_or (set ws₁ 0 v) 0 0 ≡ v = get_or-set_same ws₁ 0 v 0 long in
     let n : length (take used ws) ≡ used = length-take-le used ws within in
@@ -29,7 +29,7 @@ used_then ws ws₁ ws₂ used r g m some within long x ran e h v k =
     rw w (ap (λ (n : ℕ). take n (set ws₁ 0 v)) c ∙ take-set-lt v ws₁ 0 v low)
 
 pub kept_call : (ws ws₁ ws₂ memory memory' : List ℕ) (used : ℕ) (r : Interned) (g : Grown) (m : Made) → 0 < used → used ≤ length ws → 0 < length ws₁ → Extends (take used ws) g.words → Ran used g ws ws₁ r → RightThen [] ws₁ r memory → Forgot r memory memory'
-    → outcome m ws₂ ≡ finish_in used r ws₁ → Right (used_words ws₂) memory'
+    → left (made m) ws₂ ≡ finish_in used r ws₁ → Right (used_words ws₂) memory'
 kept_call ws ws₁ ws₂ memory memory' used r g m some within long x ran right f e = go r refl
   where
     go : (s : Interned) → r ≡ s → Right (used_words ws₂) memory'

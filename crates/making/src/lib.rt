@@ -6,7 +6,7 @@ ghost use Rattle.words.specs.Ran.{Segments, Runs};
 ghost use Rattle.index.specs.Covers.{Covers};
 ghost use Rattle.wellformed.specs.Entry.{most_counted, float_ok};
 ghost use Rattle.wellformed.specs.Form.{used_words};
-ghost use Rattle.call.specs.Call.{outcome, ◌when◌};
+ghost use Rattle.call.specs.Call.{left, made, ◌when◌};
 ghost use Rattle.call.specs.Steps.{used_of, Marked};
 ghost use Rattle.makers.specs.Entries.{stored_size, float_entry};
 ghost use Rattle.lent_memory.specs.Memory.{Right, RightThen};
@@ -167,7 +167,7 @@ pub fn append(
     requires words_value { rows_of making list.now text.now (take used words.old) ≡ 0 }
     requires right { Right (take used words.old) memory.old }
     requires covers { Covers (take used words.old) index.now }
-    ensures words_after { outcome result words.new ≡ run (appended making list.now text.now) words.old }
+    ensures words_after { left (made result) words.new ≡ run (appended making list.now text.now) words.old }
     ensures right_2 { Right (used_words words.new) memory.new }
     ensures text_value { typed (appended making list.now text.now) ≡ true }
 {

@@ -9,8 +9,7 @@ use Rattle.bitset.specs.Bitset.{nowhere}
 use Rattle.wellformed.specs.Form.{well_formed}
 use Rattle.wellformed.proofs.Before.{tests}
 use Rattle.index.specs.Covers.{Covers}
-use Rattle.call.specs.declared.Made.{Made}
-use Rattle.call.specs.Call.{outcome}
+use Rattle.call.specs.Call.{Reply, left}
 use Rattle.call.specs.Steps.{Marked}
 use Rattle.call.specs.Keep.{Keeps}
 use Rattle.later.proofs.Keeps.{later_keeps}
@@ -39,12 +38,12 @@ no_starts (w ∷ ws) = refl
 
 -- ---- over a call
 
-module _ (ws ws' : List ℕ) (c : Call) (t : typed c ≡ true) (ok : well_formed ws ≡ true) (m : Made) (q : outcome m ws' ≡ run c ws) where
-  keeps : Keeps ws (outcome m ws')
+module _ (ws ws' : List ℕ) (c : Call) (t : typed c ≡ true) (ok : well_formed ws ≡ true) (r : Reply) (q : left r ws' ≡ run c ws) where
+  keeps : Keeps ws (left r ws')
   keeps = rw q (run_keeps c t ws ok)
 
   pub after_well : well_formed ws' ≡ true
   after_well = keeps.well
 
   pub after_stale : (index : List ℕ) → length ws' ≡ length ws → IndexOf ws index → Stale ws' index
-  after_stale index same x = stale ws index ok x ws' same (later_keeps ws (outcome m ws') ok keeps) after_well
+  after_stale index same x = stale ws index ok x ws' same (later_keeps ws (left r ws') ok keeps) after_well

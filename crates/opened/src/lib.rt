@@ -4,7 +4,7 @@
 ghost use Rattle.std.specs.Prelude.{◌≡◌, true, [], ◌≤◌, length};
 ghost use Rattle.wellformed.specs.Form.{well_formed};
 ghost use Rattle.store_index.specs.StoreIndex.{index_size};
-ghost use Rattle.call.specs.Call.{left, outcome, told, done};
+ghost use Rattle.call.specs.Call.{left, made, told, done};
 ghost use Rattle.every_call.specs.Run.{run};
 ghost use Rattle.making.specs.Making.{appended};
 ghost use Rattle.asking.specs.Asking.{asked_filling, asked, output_of};
@@ -58,7 +58,7 @@ pub fn append(
     text: &[u8],
 ) -> Made
     requires { OpenStore words.old index.old memory.old }
-    ensures words_after { outcome result words.new ≡ run (appended making list.now text.now) words.old }
+    ensures words_after { left (made result) words.new ≡ run (appended making list.now text.now) words.old }
     ensures open_store { OpenStore words.new index.new memory.new }
 {
     let used = words[0] as usize;
@@ -85,7 +85,7 @@ pub fn append(
 // A call that has neither a list nor a text.
 pub fn make(words: &mut [u64], index: &mut [u64], memory: &mut [u64], making: Making) -> Made
     requires { OpenStore words.old index.old memory.old }
-    ensures words_after { outcome result words.new ≡ run (appended making [] []) words.old }
+    ensures words_after { left (made result) words.new ≡ run (appended making [] []) words.old }
     ensures open_store { OpenStore words.new index.new memory.new }
 {
     append(words, index, memory, making, &[], b"")

@@ -15,9 +15,9 @@ use Rattle.wellformed.proofs.Before.{tests}
 use Rattle.index.specs.Covers.{indexed_to, Opened}
 use Rattle.call.specs.declared.Made.{Made}
 use Rattle.call.specs.declared.Made.TheVariants as Made-variants
-use Rattle.call.specs.Call.{Outcome, handle, refused, outcome}
-use Rattle.call.specs.Steps.{Onward, finish_in}
-use Rattle.call.proofs.Ways.{begun, onward, ended}
+use Rattle.call.specs.Call.{Outcome, handle, refused, left, made}
+use Rattle.call.specs.Steps.{finish_in}
+use Rattle.call.proofs.Ways.{begun, ended}
 use Rattle.later.proofs.Keeps.{later_set}
 use Rattle.lent_memory.specs.Memory.{Right, RightThen}
 use Rattle.lent_memory.proofs.Laws.{right_later}
@@ -48,27 +48,23 @@ module _ (ws index memory types : List ℕ) (o : OpenStore ws index memory) (q :
   pub lent_opened : Opened (take used ws) (take (length index - k) (drop k index))
   lent_opened = rw (tail_all k index, is) o.whole.chains
 
-  -- the merge only appends
-  pub list_onward : (ws₁ : List ℕ) (r : Interned) → Runs (meet_list_of types) [] ws used ws₁ r → Onward used r
-  list_onward ws₁ r = onward used (meet_list_of types (take used ws)) ws ws₁ r (tests ws o.well).within (merge_grows 6 types (take used ws))
-
   pub k_fits : k ≤ length index
   k_fits = omega (arith, is, o.whole.room)
 
   -- what the merge left, and the end
-  module _ (ws₁ : List ℕ) (r : Interned) (ran : Runs (meet_list_of types) [] ws used ws₁ r) (same : length ws₁ ≡ length ws) (m : Made) (ws₂ : List ℕ) (e : outcome m ws₂ ≡ finish_in used r ws₁) (long : length ws₂ ≡ length ws₁)
+  module _ (ws₁ : List ℕ) (r : Interned) (ran : Runs (meet_list_of types) [] ws used ws₁ r) (same : length ws₁ ≡ length ws) (m : Made) (ws₂ : List ℕ) (e : left (made m) ws₂ ≡ finish_in used r ws₁) (long : length ws₂ ≡ length ws₁)
       (d : List ℕ) (lent : length d ≡ length (take (length index - k) (drop k index))) where
-    list_ended : outcome m ws₂ ≡ run (meet_list types) ws
-    list_ended = ended (meet_list_rows types) (meet_list_of types) ws used (used_is ws o.well) (used_some ws o.well) q ws₁ r same ran (outcome m ws₂) e
+    list_ended : left (made m) ws₂ ≡ run (meet_list types) ws
+    list_ended = ended (meet_list_rows types) (meet_list_of types) ws used (used_is ws o.well) (used_some ws o.well) q ws₁ r same ran (left (made m) ws₂) e
 
     list_well : well_formed ws₂ ≡ true
-    list_well = after_well ws ws₂ (meet_list types) refl o.well m list_ended
+    list_well = after_well ws ws₂ (meet_list types) refl o.well (made m) list_ended
 
     list_room : index_size (length ws₂) ≤ length (back k index d k_fits lent)
     list_room = omega (arith, o.whole.room, back_long k index d k_fits lent, long, same)
 
     stale : Stale ws₂ index
-    stale = after_stale ws ws₂ (meet_list types) refl o.well m list_ended index (long ∙ same) o.whole
+    stale = after_stale ws ws₂ (meet_list types) refl o.well (made m) list_ended index (long ∙ same) o.whole
 
     -- the bits have the entries that were there
     marked_to : indexed_to (chains_of ws₂ index) ≡ used
@@ -79,31 +75,31 @@ module _ (ws index memory types : List ℕ) (o : OpenStore ws index memory) (q :
       at : r ≡ At h v
       words : used_words ws₂ ≡ set (take v ws₁) 0 v
 
-    settled : (h added : ℕ) → m ≡ Made-variants.Handle h added → (v : ℕ) × Set h v
+    settled : (h : ℕ) → m ≡ Made-variants.Handle h → (v : ℕ) × Set h v
     unfolding finish_in
-    settled h added f = go r refl
+    settled h f = go r refl
       where
         go : (s : Interned) → r ≡ s → (v : ℕ) × Set h v
         go (At g v) a =
-            let e₁ : outcome (Made-variants.Handle h added) ws₂ ≡ finish_in used (At g v) ws₁ = rw (f, a) at e in
+            let e₁ : left (handle h) ws₂ ≡ left (handle g) (set ws₁ 0 v) = rw (f, a) at e in
             let y : handle h ≡ handle g = ap (λ (y : Outcome). y.reply) e₁ in
             let hg : h ≡ g = cc in
             let some : 0 < length ws₁ = omega (arith, same, (tests ws o.well).least) in
             let q = used_then ws ws₁ ws₂ used r (meet_list_of types (take used ws)) m (used_low ws o.well) (tests ws o.well).within some (merge_grows 6 types (take used ws)) ran e g v a in
             (v, record { at = rw hg a; words = q })
         go Full a =
-            let e₁ : outcome (Made-variants.Handle h added) ws₂ ≡ finish_in used Full ws₁ = rw (f, a) at e in
+            let e₁ : left (handle h) ws₂ ≡ finish_in used Full ws₁ = rw (f, a) at e in
             let y : handle h ≡ refused 12 = ap (λ (y : Outcome). y.reply) e₁ in
             let z : ◌≡◌ {A = ℕ} 0 1 = cc in
             absurd (omega arith)
 
     -- what marking the new entries requires, and the memory then
-    module _ (h added : ℕ) (f : m ≡ Made-variants.Handle h added) where
+    module _ (h : ℕ) (f : m ≡ Made-variants.Handle h) where
       abbrev v : ℕ
-      v = (settled h added f).0
+      v = (settled h f).0
 
       set_is : Set h v
-      set_is = (settled h added f).1
+      set_is = (settled h f).1
 
       list_unmarked : OpenedThen ws₁ r d → Unmarked ws₂ used (back k index d k_fits lent)
       list_unmarked opened =
@@ -127,11 +123,11 @@ module _ (ws index memory types : List ℕ) (o : OpenStore ws index memory) (q :
 
     -- all of it
     pub record Ended : Type 0 where
-      pub reply : outcome m ws₂ ≡ run (meet_list types) ws
+      pub reply : left (made m) ws₂ ≡ run (meet_list types) ws
       pub well : well_formed ws₂ ≡ true
       pub room : index_size (length ws₂) ≤ length (back k index d k_fits lent)
-      pub unmarked : (h added : ℕ) → m ≡ Made-variants.Handle h added → OpenedThen ws₁ r d → Unmarked ws₂ used (back k index d k_fits lent)
-      pub right : (h added : ℕ) → m ≡ Made-variants.Handle h added → (memory₁ : List ℕ) → RightThen [] ws₁ r memory₁ → Right (used_words ws₂) memory₁
+      pub unmarked : (h : ℕ) → m ≡ Made-variants.Handle h → OpenedThen ws₁ r d → Unmarked ws₂ used (back k index d k_fits lent)
+      pub right : (h : ℕ) → m ≡ Made-variants.Handle h → (memory₁ : List ℕ) → RightThen [] ws₁ r memory₁ → Right (used_words ws₂) memory₁
 
     pub list_end : Ended
     list_end = record { reply = list_ended; well = list_well; room = list_room; unmarked = list_unmarked; right = list_right }

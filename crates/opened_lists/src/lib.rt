@@ -3,7 +3,7 @@
 ghost use Rattle.std.specs.Prelude.{◌≡◌, [], take};
 ghost use Rattle.words.specs.Ran.{Runs};
 ghost use Rattle.index.specs.Covers.{Opened};
-ghost use Rattle.call.specs.Call.{outcome};
+ghost use Rattle.call.specs.Call.{left, made};
 ghost use Rattle.lent_memory.specs.Memory.{Right, RightThen};
 ghost use Rattle.every_call.specs.Cleared.{Cleared};
 ghost use Rattle.every_call.specs.MeetList.{meet_list_rows, meet_list_of};
@@ -52,7 +52,7 @@ fn merge(
 
 pub fn meet_list(words: &mut [u64], index: &mut [u64], memory: &mut [u64], types: &[u64]) -> Made
     requires { OpenStore words.old index.old memory.old }
-    ensures words_after { outcome result words.new ≡ run (meet_list types.now) words.old }
+    ensures words_after { left (made result) words.new ≡ run (meet_list types.now) words.old }
     ensures open_store { OpenStore words.new index.new memory.new }
 {
     let used = words[0] as usize;
@@ -64,9 +64,9 @@ pub fn meet_list(words: &mut [u64], index: &mut [u64], memory: &mut [u64], types
     let r = merge(words, used, &*types, &mut index[k..], memory);
     let m = call::finish(words, used, r);
     match m {
-        Made::Handle(h, added) => {
+        Made::Handle(h) => {
             store_index::mark_new(words, used, index);
-            Made::Handle(h, added)
+            Made::Handle(h)
         }
         Made::Refused(n) => {
             // the index and the memory may speak of entries that are gone

@@ -1,7 +1,7 @@
 // The makers of `Types` on an opened store: words that `opened::open` has taken, with their index and memory, and that nobody else has written since. Row 1 is not tested
 // again. What a call answers and leaves of the words is what the plain call of the same name does, and the store is open again, also where the call was refused.
 ghost use Rattle.std.specs.Prelude.{◌≡◌};
-ghost use Rattle.call.specs.Call.{left, outcome, told};
+ghost use Rattle.call.specs.Call.{left, made, told};
 ghost use Rattle.every_call.specs.Run.{run, kind, get_bool, get_int, make_int, get_float, make_float, get_tuple, get_str, get_struct, make_ary_is, make_struct_fref, get_mem_ptr, get_mem};
 ghost use Rattle.opened.specs.OpenStore.{OpenStore};
 
@@ -30,7 +30,7 @@ pub fn get_bool(words: &[u64], index: &[u64], memory: &mut [u64], value: u64) ->
 // The Int of one value.
 pub fn get_int(words: &mut [u64], index: &mut [u64], memory: &mut [u64], value: u64) -> Made
     requires { OpenStore words.old index.old memory.old }
-    ensures words_after { outcome result words.new ≡ run (get_int value) words.old }
+    ensures words_after { left (made result) words.new ≡ run (get_int value) words.old }
     ensures open_store { OpenStore words.new index.new memory.new }
 {
     opened::make(words, index, memory, Making::MakeInt(value, value))
@@ -45,7 +45,7 @@ pub fn make_int(
     max: u64,
 ) -> Made
     requires { OpenStore words.old index.old memory.old }
-    ensures words_after { outcome result words.new ≡ run (make_int min max) words.old }
+    ensures words_after { left (made result) words.new ≡ run (make_int min max) words.old }
     ensures open_store { OpenStore words.new index.new memory.new }
 {
     opened::make(words, index, memory, Making::MakeInt(min, max))
@@ -54,7 +54,7 @@ pub fn make_int(
 // The Float of a constant, by its bits.
 pub fn get_float(words: &mut [u64], index: &mut [u64], memory: &mut [u64], bits: u64) -> Made
     requires { OpenStore words.old index.old memory.old }
-    ensures words_after { outcome result words.new ≡ run (get_float bits) words.old }
+    ensures words_after { left (made result) words.new ≡ run (get_float bits) words.old }
     ensures open_store { OpenStore words.new index.new memory.new }
 {
     opened::make(words, index, memory, Making::MakeFloat(0, bits))
@@ -69,7 +69,7 @@ pub fn make_float(
     bits: u64,
 ) -> Made
     requires { OpenStore words.old index.old memory.old }
-    ensures words_after { outcome result words.new ≡ run (make_float sz bits) words.old }
+    ensures words_after { left (made result) words.new ≡ run (make_float sz bits) words.old }
     ensures open_store { OpenStore words.new index.new memory.new }
 {
     opened::make(words, index, memory, Making::MakeFloat(sz, bits))
@@ -78,7 +78,7 @@ pub fn make_float(
 // A tuple of the types whose handles are lent.
 pub fn get_tuple(words: &mut [u64], index: &mut [u64], memory: &mut [u64], types: &[u64]) -> Made
     requires { OpenStore words.old index.old memory.old }
-    ensures words_after { outcome result words.new ≡ run (get_tuple types.now) words.old }
+    ensures words_after { left (made result) words.new ≡ run (get_tuple types.now) words.old }
     ensures open_store { OpenStore words.new index.new memory.new }
 {
     opened::append(words, index, memory, Making::GetTuple, types, b"")
@@ -87,7 +87,7 @@ pub fn get_tuple(words: &mut [u64], index: &mut [u64], memory: &mut [u64], types
 // A name of lent bytes.
 pub fn get_str(words: &mut [u64], index: &mut [u64], memory: &mut [u64], name: &[u8]) -> Made
     requires { OpenStore words.old index.old memory.old }
-    ensures words_after { outcome result words.new ≡ run (get_str name.now) words.old }
+    ensures words_after { left (made result) words.new ≡ run (get_str name.now) words.old }
     ensures open_store { OpenStore words.new index.new memory.new }
 {
     opened::append(words, index, memory, Making::GetStr, &[], name)
@@ -102,7 +102,7 @@ pub fn get_struct(
     fields: &[u64],
 ) -> Made
     requires { OpenStore words.old index.old memory.old }
-    ensures words_after { outcome result words.new ≡ run (get_struct name fields.now) words.old }
+    ensures words_after { left (made result) words.new ≡ run (get_struct name fields.now) words.old }
     ensures open_store { OpenStore words.new index.new memory.new }
 {
     opened::append(words, index, memory, Making::GetStruct(name), fields, b"")
@@ -120,7 +120,7 @@ pub fn make_ary(
     text: &[u8],
 ) -> Made
     requires { OpenStore words.old index.old memory.old }
-    ensures words_after { outcome result words.new ≡ run (make_ary_is len len_alias body body_alias text.now) words.old }
+    ensures words_after { left (made result) words.new ≡ run (make_ary_is len len_alias body body_alias text.now) words.old }
     ensures open_store { OpenStore words.new index.new memory.new }
 {
     opened::append(
@@ -136,7 +136,7 @@ pub fn make_ary(
 // The forward reference of a name.
 pub fn make_struct_fref(words: &mut [u64], index: &mut [u64], memory: &mut [u64], name: u64) -> Made
     requires { OpenStore words.old index.old memory.old }
-    ensures words_after { outcome result words.new ≡ run (make_struct_fref name) words.old }
+    ensures words_after { left (made result) words.new ≡ run (make_struct_fref name) words.old }
     ensures open_store { OpenStore words.new index.new memory.new }
 {
     opened::make(words, index, memory, Making::MakeStructFref(name))
@@ -151,7 +151,7 @@ pub fn get_mem_ptr(
     nil: u64,
 ) -> Made
     requires { OpenStore words.old index.old memory.old }
-    ensures words_after { outcome result words.new ≡ run (get_mem_ptr to nil) words.old }
+    ensures words_after { left (made result) words.new ≡ run (get_mem_ptr to nil) words.old }
     ensures open_store { OpenStore words.new index.new memory.new }
 {
     opened::make(words, index, memory, Making::GetMemPtr(to, nil))
@@ -160,7 +160,7 @@ pub fn get_mem_ptr(
 // A memory of an alias and a type.
 pub fn get_mem(words: &mut [u64], index: &mut [u64], memory: &mut [u64], alias: u64, t: u64) -> Made
     requires { OpenStore words.old index.old memory.old }
-    ensures words_after { outcome result words.new ≡ run (get_mem alias t) words.old }
+    ensures words_after { left (made result) words.new ≡ run (get_mem alias t) words.old }
     ensures open_store { OpenStore words.new index.new memory.new }
 {
     opened::make(words, index, memory, Making::GetMem(alias, t))

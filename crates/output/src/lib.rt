@@ -22,8 +22,6 @@ pub fn put(
     match reply {
         Reply::Nothing => used,
         Reply::Short(answer) => put_answer(out, used, answer),
-        Reply::Made(h, _) => put_answer(out, used, script::Answer::Number(h)),
-        Reply::Added(n) => put_answer(out, used, script::Answer::Number(n)),
         Reply::Used => put_words(out, used, &words[0..counted(words)]),
         Reply::All => put_words(out, used, words),
         Reply::Output(n, k) => put_output(out, used, n, &output[0..least(k, output.len())]),

@@ -18,7 +18,7 @@ use Rattle.index.proofs.Keep.{covers_more}
 use Rattle.wellformed.specs.Entry.{all, is_alias_final}
 use Rattle.words.specs.Columns.{every, word, kind_on, count_on}
 use Rattle.call.specs.Adds.{Adds}
-use Rattle.call.proofs.Sound.{adds_none, adds_ext, adds_then}
+use Rattle.call.proofs.Sound.{adds_none, adds_then}
 use Rattle.parts.specs.Parts.{Good, Part}
 use Rattle.parts.proofs.Parts.{of_struct}
 use Rattle.parts.proofs.Good.{adds_long, adds_word, part_used, part_adds}
@@ -28,7 +28,7 @@ abbrev grown : List ℕ → Grown
 grown w = there w 0
 
 any_handle : {u : List ℕ} {g : Grown} → Adds u g → Adds u (grown g.words)
-any_handle a = record { sound = a.sound; more = a.more; is = a.is; sum = a.sum; makings = a.makings; extra = a.extra; rows = a.rows; own = a.own; ends = a.ends }
+any_handle a = record { sound = a.sound; more = a.more; is = a.is; extra = a.extra; rows = a.rows; own = a.own; ends = a.ends }
 
 pub record Grew (old new : List ℕ) (used : ℕ) (now : List ℕ) (v : ℕ) : Type 0 where
   pub start : Good (take used (old ++ new))
@@ -70,7 +70,7 @@ module _ {old new : List ℕ} {used : ℕ} {now : List ℕ} {v : ℕ} (w : Grew 
   grew_high = omega (arith, w.fits.end, w.fits.room, length-append old new)
 
   ext : Extends u₀ u
-  ext = adds_ext w.adds
+  ext = record { more = w.adds.more; is = w.adds.is }
 
   pub grew_kept : take used (old ++ now) ≡ u₀
   grew_kept =

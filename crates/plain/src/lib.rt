@@ -2,7 +2,7 @@
 // small store does not pay for a large one's; once the rows are read, is_final and make_ro may keep in the same bits which types are known to be final. Each size stands in the frame of a function of its own (`wellformed::verify_for` says
 // what keeps the frames apart).
 ghost use Rattle.std.specs.Prelude.{◌≡◌, [], ◌*◌, ◌≤◌, min, length};
-ghost use Rattle.call.specs.Call.{left, outcome, told};
+ghost use Rattle.call.specs.Call.{left, made, told};
 ghost use Rattle.every_call.specs.Run.{run};
 ghost use Rattle.making.specs.Making.{appended};
 ghost use Rattle.asking.specs.Asking.{asked_filling, asked, output_of};
@@ -18,7 +18,7 @@ use struct_calls::{Filling, OfStruct};
 
 fn append_in(words: &mut [u64], bits: &mut [u64], making: Making, list: &[u64], text: &[u8]) -> Made
     requires { min (length words.old) longest_allowed ≤ word_bits * length bits.old }
-    ensures { outcome result words.new ≡ run (appended making list.now text.now) words.old }
+    ensures { left (made result) words.new ≡ run (appended making list.now text.now) words.old }
 {
     let used = call::begin(words, bits);
     if used == 0 {
@@ -35,14 +35,14 @@ fn append_in(words: &mut [u64], bits: &mut [u64], making: Making, list: &[u64], 
 
 fn append_middle(words: &mut [u64], making: Making, list: &[u64], text: &[u8]) -> Made
     requires { min (length words.old) longest_allowed ≤ word_bits * 1024 }
-    ensures { outcome result words.new ≡ run (appended making list.now text.now) words.old }
+    ensures { left (made result) words.new ≡ run (appended making list.now text.now) words.old }
 {
     let mut bits = [0u64; wellformed::MIDDLE_MARKS];
     append_in(words, &mut bits, making, list, text)
 }
 
 fn append_large(words: &mut [u64], making: Making, list: &[u64], text: &[u8]) -> Made
-    ensures { outcome result words.new ≡ run (appended making list.now text.now) words.old }
+    ensures { left (made result) words.new ≡ run (appended making list.now text.now) words.old }
 {
     let mut bits = [0u64; wellformed::LARGE_MARKS];
     append_in(words, &mut bits, making, list, text)
@@ -51,7 +51,7 @@ fn append_large(words: &mut [u64], making: Making, list: &[u64], text: &[u8]) ->
 // With bits for a list of n words: the list's length, or where that is more than twice as long as a store may be, half of it, and so on.
 fn append_for(n: usize, words: &mut [u64], making: Making, list: &[u64], text: &[u8]) -> Made
     requires { min (length words.old) longest_allowed ≤ n }
-    ensures { outcome result words.new ≡ run (appended making list.now text.now) words.old }
+    ensures { left (made result) words.new ≡ run (appended making list.now text.now) words.old }
 {
     if n <= wellformed::SMALL_LIST {
         let mut bits = [0u64; wellformed::SMALL_MARKS];
@@ -67,14 +67,14 @@ fn append_for(n: usize, words: &mut [u64], making: Making, list: &[u64], text: &
 }
 
 pub fn append(words: &mut [u64], making: Making, list: &[u64], text: &[u8]) -> Made
-    ensures { outcome result words.new ≡ run (appended making list.now text.now) words.old }
+    ensures { left (made result) words.new ≡ run (appended making list.now text.now) words.old }
 {
     append_for(words.len(), words, making, list, text)
 }
 
 // A call that has neither a list nor a text.
 pub fn make(words: &mut [u64], making: Making) -> Made
-    ensures { outcome result words.new ≡ run (appended making [] []) words.old }
+    ensures { left (made result) words.new ≡ run (appended making [] []) words.old }
 {
     append(words, making, &[], b"")
 }

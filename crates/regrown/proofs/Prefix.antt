@@ -28,7 +28,7 @@ use Rattle.call.specs.Call.{Outcome, stored, call}
 use Rattle.call.specs.Adds.{Sound, Fitting, Adds}
 use Rattle.call.proofs.Agree.{heads_same, rows_behind, starts_only, and_starts}
 use Rattle.call.proofs.Sound.{in_used, start_used, make_adds}
-use Rattle.call.proofs.Keep.{well_sound, adds_longer, well_again, used_grown}
+use Rattle.call.proofs.Keep.{well_sound, well_again, used_grown}
 use Rattle.parts.proofs.Good.{well_good}
 use Rattle.every_call.specs.Run.{Call, run, typed}
 use Rattle.loaded.proofs.Small.{below_take, below_drop}
@@ -213,7 +213,7 @@ module _ (ws vs : List ℕ) (ok : well_formed ws ≡ true) (r : Reached ws vs) (
       let m = n ws vs ok r more in
       let low : 1 ≤ length u₁ = (sound ws vs ok r).low in
       let front : 1 ≤ length (take k ws) = omega (arith, front_long ws vs ok r, (s ws vs ok r).enough) in
-      ap (drop 1) (used_grown vs g r.well (adds_longer vs r.well g adds) room) ∙ drop-set-lt 1 g.words 0 (length g.words) (omega arith)
+      ap (drop 1) (used_grown vs g r.well adds room) ∙ drop-set-lt 1 g.words 0 (length g.words) (omega arith)
       ∙ ap (drop 1) words_are ∙ drop-append-le 1 u₁ e₁ low ∙ ap (λ (l : List ℕ). l ++ e₁) r.same
       ∙ sym (drop-append-le 1 (take k ws) e₁ front) ∙ ap (drop 1) (sym (take-add k m ws)) ∙ ap (λ (i : ℕ). slice 1 i ws) (sym counted)
 

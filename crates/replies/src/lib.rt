@@ -8,10 +8,6 @@ pub enum Reply {
     // no line
     Nothing,
     Short(script::Answer),
-    // a handle, and how many words the call appended
-    Made(u64, u64),
-    // what the line before reported
-    Added(u64),
     // the used words of the list
     Used,
     // all words of the list
@@ -60,7 +56,7 @@ pub fn done(answer: Done) -> Reply {
 
 pub fn made(answer: Made) -> Reply {
     match answer {
-        Made::Handle(h, added) => Reply::Made(h, added),
+        Made::Handle(h) => Reply::Short(Answer::Number(h)),
         Made::Refused(n) => Reply::Short(Answer::Refused(n)),
     }
 }
@@ -75,16 +71,6 @@ pub fn told(answer: call::Answer) -> Reply {
         call::Answer::Absent => Reply::Short(Answer::Absent),
         call::Answer::Constant(bits) => Reply::Short(Answer::Constant(bits)),
         call::Answer::Size(w) => Reply::Short(Answer::Size(w)),
-    }
-}
-
-// What is reported once a line has answered: a call that appended reports its words, and any other line 0. An empty line and one that asks for the report leave it as it was.
-pub fn added_then(reply: Reply, before: u64) -> u64 {
-    match reply {
-        Reply::Nothing => before,
-        Reply::Added(n) => n,
-        Reply::Made(_, n) => n,
-        _ => 0,
     }
 }
 

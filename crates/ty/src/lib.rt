@@ -2,7 +2,7 @@
 // leaves is `run` of the call (every_call/specs/Run.antt), which is its definition in every_call/specs/Ty.antt or Others.antt. "Above" is the way that isa goes: where a isa b, b is above a, so that Bot is above all
 // types and Top below all.
 ghost use Rattle.std.specs.Prelude.{◌≡◌, length};
-ghost use Rattle.call.specs.Call.{left, outcome, told};
+ghost use Rattle.call.specs.Call.{left, made, told};
 ghost use Rattle.every_call.specs.Others.{struct_fields_output, offsets_output};
 ghost use Rattle.every_call.specs.Run.{run, meet, meet_list, isa, dual, glb, lub, join, is_final, make_ro, make_init, make_zero, non_zero, is_high_is, is_high_or_constant_is, is_constant_is, is_fref_is, log_size_is, int_min, int_max, int_value_is, int_mask, float_sz, float_is_f32, float_value, float_reading_is, struct_name, struct_fields, find, find_alias, is_ary_is, offset, offsets, ary_base_is, ary_scale_is};
 
@@ -16,14 +16,14 @@ use walk_rules::Walk;
 
 // The merge of two types: of types that reach no memory type and no forward reference the lowest type above both.
 pub fn meet(words: &mut [u64], a: u64, b: u64) -> Made
-    ensures { outcome result words.new ≡ run (meet a b) words.old }
+    ensures { left (made result) words.new ≡ run (meet a b) words.old }
 {
     plain::make(words, Making::Meet(a, b))
 }
 
 // The merge of a lent list, of up to 4,096 types, from left to right, starting at Top. What is made on the way is appended too; a refusal leaves the store as before the first.
 pub fn meet_list(words: &mut [u64], types: &[u64]) -> Made
-    ensures { outcome result words.new ≡ run (meet_list types.now) words.old }
+    ensures { left (made result) words.new ≡ run (meet_list types.now) words.old }
 {
     plain::append(words, Making::MeetList, types, b"")
 }
@@ -37,28 +37,28 @@ pub fn isa(words: &[u64], a: u64, b: u64) -> Answer
 
 // The type turned over: Bot for Top, the ends of an Int changed, and so on through the parts.
 pub fn dual(words: &mut [u64], a: u64) -> Made
-    ensures { outcome result words.new ≡ run (dual a) words.old }
+    ensures { left (made result) words.new ≡ run (dual a) words.old }
 {
     plain::make(words, Making::Walk(Walk::Dual, a))
 }
 
 // The fixed type that the Rust calls its greatest lower bound, and that stands above it: Bot, the Int of all numbers, and so on through the parts.
 pub fn glb(words: &mut [u64], a: u64) -> Made
-    ensures { outcome result words.new ≡ run (glb a) words.old }
+    ensures { left (made result) words.new ≡ run (glb a) words.old }
 {
     plain::make(words, Making::Walk(Walk::Glb, a))
 }
 
 // The fixed type that the Rust calls its least upper bound, and that stands below it: Top, the Int of no number, and so on through the parts.
 pub fn lub(words: &mut [u64], a: u64) -> Made
-    ensures { outcome result words.new ≡ run (lub a) words.old }
+    ensures { left (made result) words.new ≡ run (lub a) words.old }
 {
     plain::make(words, Making::Walk(Walk::Lub, a))
 }
 
 // The dual of the meet of the duals: of types that reach no memory type and no forward reference the highest type below both.
 pub fn join(words: &mut [u64], a: u64, b: u64) -> Made
-    ensures { outcome result words.new ≡ run (join a b) words.old }
+    ensures { left (made result) words.new ≡ run (join a b) words.old }
 {
     plain::make(words, Making::Join(a, b))
 }
@@ -72,7 +72,7 @@ pub fn is_final(words: &[u64], a: u64) -> Answer
 
 // The read-only form: every field of a struct final, and so on through the types of the fields that were not; other types themselves.
 pub fn make_ro(words: &mut [u64], a: u64) -> Made
-    ensures { outcome result words.new ≡ run (make_ro a) words.old }
+    ensures { left (made result) words.new ≡ run (make_ro a) words.old }
 {
     plain::make(words, Making::MakeRo(a))
 }
@@ -95,7 +95,7 @@ pub fn make_zero(words: &[u64], a: u64) -> Answer
 
 // The type without zero: an Int whose range begins or ends with 0 is cut there, and 0..0 becomes 1..1; a pointer becomes void; another type its glb.
 pub fn non_zero(words: &mut [u64], a: u64) -> Made
-    ensures { outcome result words.new ≡ run (non_zero a) words.old }
+    ensures { left (made result) words.new ≡ run (non_zero a) words.old }
 {
     plain::make(words, Making::NonZero(a))
 }

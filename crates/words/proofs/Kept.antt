@@ -14,9 +14,9 @@ use Rattle.words.specs.Made.{Grown, make}
 use Rattle.words.specs.declared.Found.{Found}
 use Rattle.words.specs.declared.Found.TheVariants.{At, Nothing}
 use Rattle.words.proofs.Grow.{fills_append, rows_append, one_fills, one_row, found_in, own_snoc}
-use Rattle.words.proofs.Extend.{Extends, ext_same, ext_then, ext_length}
+use Rattle.words.proofs.Extend.{Extends, ext_same, ext_by, ext_then, ext_length}
 use Rattle.words.proofs.Room.{Fit, fit_front}
-use Rattle.words.proofs.Placed.{make_there, make_new, make_extends}
+use Rattle.words.proofs.Placed.{make_there, make_new}
 
 -- an operation keeps the used words, with its entries behind theirs
 pub record Appends (u : List ℕ) (g : Grown) : Type 0 where
@@ -57,7 +57,7 @@ module _ (u e : List ℕ) (low : 1 ≤ length u) (full : fills 0 (drop 1 u) ≡ 
       go : (f : Found) → find_in u e ≡ f → Appends u (make u e)
       go (At h) q = rw (make_there u e h q) (appends_none u h full)
       go Nothing q = rw (make_new u e q) record {
-        ext = rw (make_new u e q) at (make_extends u e);
+        ext = ext_by u e;
         full = fills_more;
         extra = record { at = length u; words = e } ∷ [];
         rows = entries_append;

@@ -1,18 +1,18 @@
 -- What `intern` hands back on each of its three ways is what `make` says. Assumes nothing.
 use mathlib.Core.Path.{◌≡◌, refl, sym, ap, ◌∙◌}
-use mathlib.Core.List.{List, [], ◌++◌, append-nil, append_assoc}
+use mathlib.Core.List.{List, ◌++◌, append-nil, append_assoc}
 use Prim.Native.Nat.{ℕ, ◌+◌, ◌-◌, ◌≤◌, ◌<◌}
 use native.Mathlib.Omega.{arith}
 use borrow.Rule.Slice.PartMut.{put_mid}
 use lib.ListN.{length, take, drop, length-drop, length-append, drop_of_length-le, take-append-drop}
 use lib.Seq.{take_all, drop-drop, length-take-le}
 use Rattle.words.specs.Table.{find_in}
-use Rattle.words.specs.Made.{Grown, Makings, none, next, words_added, make}
+use Rattle.words.specs.Made.{make}
 use Rattle.words.specs.Ran.{Segments, Ran}
 use Rattle.words.specs.declared.Found.{Found}
 use Rattle.words.specs.declared.Found.TheVariants.{At as FoundAt, Nothing}
 use Rattle.words.specs.declared.Interned.TheVariants.{At, Full}
-use Rattle.words.proofs.Extend.{Extends, ext_length}
+use Rattle.words.proofs.Extend.{Extends, ext_same, ext_by}
 use Rattle.words.proofs.Room.{fit, over}
 use Rattle.words.proofs.Join.{take_past, drop_past}
 
@@ -69,24 +69,5 @@ pub make_extends : (u e : List ℕ) → Extends u (make u e).words
 make_extends u e = go (find_in u e) refl
   where
     go : (f : Found) → find_in u e ≡ f → Extends u (make u e).words
-    go (FoundAt h) q = record { more = []; is = rw (make_there u e h q) (sym (append-nil u)); sum = 0 + words_added u (make u e); makings = next none e }
-    go Nothing q = record { more = e; is = rw (make_new u e q); sum = 0 + words_added u (make u e); makings = next none e }
-
--- ---- what is reported
-
--- "0 for one found"
-pub added_there : (u e : List ℕ) (h : ℕ) → find_in u e ≡ FoundAt h → words_added u (make u e) ≡ 0
-added_there u e h q = rw (make_there u e h q) (omega arith)
-
--- "the words it appended"
-pub added_new : (u e : List ℕ) → find_in u e ≡ Nothing → words_added u (make u e) ≡ length e
-added_new u e q = rw (make_new u e q) (omega (arith, length-append u e))
-
--- the sum of what makings report is the number of all words that they append
-pub makings_long : {u v : List ℕ} {n : ℕ} → Makings u v n → length v ≡ length u + n
-makings_long none = omega arith
-makings_long (next {v = v} p e) = omega (arith, makings_long p, ext_length v (make v e).words (make_extends v e))
-
--- an operation that only makes entries reports their sum
-pub added_sum : (u : List ℕ) (g : Grown) (x : Extends u g.words) → words_added u g ≡ x.sum
-added_sum u g x = omega (arith, makings_long x.makings)
+    go (FoundAt h) q = rw (make_there u e h q) (ext_same u)
+    go Nothing q = rw (make_new u e q) (ext_by u e)

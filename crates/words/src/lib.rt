@@ -196,7 +196,7 @@ pub fn find(old: &[u64], new: &[u64], used: usize, from: usize, entry: &[u64]) -
     }
 }
 
-// An entry's handle and the number of words used then, or no room for it. What a making, or an operation, has appended is that number less the one that it was given: 0 for an entry that was found.
+// An entry's handle and the number of words used then, or no room for it.
 #[derive(Drop)]
 pub enum Interned {
     At(usize, usize),

@@ -97,27 +97,12 @@ pub enum Reply {
     Searched(Option<u64>, u64),
 }
 
-/// A reply, and document 02's Slip 4 beside it.
-#[derive(Debug, Clone, Copy, PartialEq, Eq)]
-pub struct Reported {
-    pub reply: Reply,
-    /// The words that the call reports.
-    pub added: u64,
-}
-
-impl Reported {
-    /// Of a call that appends nothing, or is refused: "refused calls counting 0".
-    pub fn nothing(reply: Reply) -> Reported {
-        Reported { reply, added: 0 }
-    }
-}
-
 type Answered = Result<Reply, Refusal>;
 
 impl Store<'_> {
     /// The call on words that are well formed.
-    pub fn reported(&mut self, call: &Call, output: &mut [u64]) -> Reported {
-        self.or_restore(|store| made(store, call, output)).unwrap_or_else(|row| Reported::nothing(Reply::Refused(row)))
+    pub fn answer(&mut self, call: &Call, output: &mut [u64]) -> Reply {
+        self.or_restore(|store| made(store, call, output)).unwrap_or_else(Reply::Refused)
     }
 }
 
@@ -128,9 +113,10 @@ fn yes_or_no(yes: bool) -> Reply {
     }
 }
 
-/// The calls that can append: "Every call above it reports its sum."
-fn made(store: &mut Store, call: &Call, output: &mut [u64]) -> Result<Reported, Refusal> {
-    let made = match *call {
+/// The calls that answer a handle.
+fn made(store: &mut Store, call: &Call, output: &mut [u64]) -> Answered {
+    let handle = match *call {
+        Call::GetBool(value) => makers::get_bool(value)?,
         Call::GetInt(value) => store.make_int(value as i64, value as i64)?,
         Call::MakeInt(min, max) => store.make_int(min as i64, max as i64)?,
         Call::GetFloat(bits) => makers::make_float(store, 0, bits)?,
@@ -149,18 +135,9 @@ fn made(store: &mut Store, call: &Call, output: &mut [u64]) -> Result<Reported, 
         Call::Glb(a) => glb_lub::glb(store, a)?,
         Call::Lub(a) => glb_lub::lub(store, a)?,
         Call::MakeRo(a) => finals::make_ro(store, a)?,
-        Call::NonZero(a) => scalars::non_zero(store, a)?,
-        _ => return there(store, call, output).map(Reported::nothing),
-    };
-    Ok(Reported { reply: Reply::Handle(made.handle), added: made.added })
-}
-
-/// The calls that answer the handle of an entry that is there.
-fn there(store: &mut Store, call: &Call, output: &mut [u64]) -> Answered {
-    let handle = match *call {
-        Call::GetBool(value) => makers::get_bool(value)?,
         Call::MakeInit(a) => scalars::make_init(store, a)?,
         Call::MakeZero(a) => scalars::make_zero(store, a)?,
+        Call::NonZero(a) => scalars::non_zero(store, a)?,
         Call::StructName(s) => structs::name(store, s)?,
         _ => return asked(store, call, output),
     };

@@ -5,9 +5,8 @@ use std::collections::HashMap;
 use crate::dual::Known;
 use crate::entry::Handle;
 use crate::kind::Kinds;
-use crate::refusals::{take, Refusal};
+use crate::refusals::{take, Made, Refusal};
 use crate::store::Store;
-use crate::sum::{Made, Making, Sum};
 use crate::types::{Field, Type};
 
 /// The types that this call has asked, with their answers.
@@ -42,30 +41,27 @@ fn all_final(store: &Store, asked: &mut Asked, a: Handle) -> bool {
 /// "make_ro: as the Rust": a pointer whose struct stays is itself, and so is a struct that is final.
 fn read_only(store: &mut Store, known: &mut Known, asked: &mut Asked, a: Handle) -> Made {
     if let Some(&answer) = known.get(&a) {
-        return Ok(Making::found(answer));
+        return Ok(answer);
     }
     let answer = match store.ty(a) {
-        Type::MemPtr { to, nil } => {
-            let mut sum = Sum::default();
-            match sum.take(read_only(store, known, asked, to)?) {
-                same if same == to => sum.with(Making::found(a)),
-                other => sum.with(store.make_ptr(other, nil)?),
-            }
-        }
+        Type::MemPtr { to, nil } => match read_only(store, known, asked, to)? {
+            same if same == to => a,
+            other => store.make_ptr(other, nil)?,
+        },
         Type::Struct { n: Some(n) } if !all_final(store, asked, a) => read_only_struct(store, known, asked, a, n)?,
-        _ => Making::found(a),
+        _ => a,
     };
-    known.insert(a, answer.handle);
+    known.insert(a, answer);
     Ok(answer)
 }
 
 /// All fields final; "`make_ro` keeps a final field's inner type".
 fn read_only_struct(store: &mut Store, known: &mut Known, asked: &mut Asked, a: Handle, n: usize) -> Made {
-    let (mut fields, mut sum) = (Vec::with_capacity(n), Sum::default());
+    let mut fields = Vec::with_capacity(n);
     for i in 0..n {
         let f = store.field(a, i);
-        let ty = if f.final_field { f.ty } else { sum.take(read_only(store, known, asked, f.ty)?) };
+        let ty = if f.final_field { f.ty } else { read_only(store, known, asked, f.ty)? };
         fields.push(Field { ty, final_field: true, ..f });
     }
-    Ok(sum.with(store.make_struct(store.name(a), &fields)?))
+    store.make_struct(store.name(a), &fields)
 }

@@ -4,9 +4,8 @@ use crate::dual::{known_or, struct_by_parts, tuple_by_parts, Known};
 use crate::entry::Handle;
 use crate::fresh::{BOT, CTRL, FLOAT_BOT, FLOAT_TOP, INT_BOT, INT_TOP, TOP, XCTRL};
 use crate::kind::Kinds;
-use crate::refusals::take;
+use crate::refusals::{take, Made};
 use crate::store::Store;
-use crate::sum::{Made, Making, Sum};
 use crate::types::Type;
 
 /// The call.
@@ -33,22 +32,20 @@ fn upper(store: &mut Store, known: &mut Known, a: Handle) -> Made {
 fn glb_rules(store: &mut Store, known: &mut Known, a: Handle) -> Made {
     match store.ty(a) {
         // "Bot, Top, XCtrl to Bot; Ctrl stays; Int 25, Float 61": the Ctrl of the fresh store
-        Type::Bot | Type::Top | Type::XCtrl => Ok(Making::found(BOT)),
-        Type::Ctrl => Ok(Making::found(CTRL)),
-        Type::Int { .. } => Ok(Making::found(INT_BOT)),
-        Type::Float(_) => Ok(Making::found(FLOAT_BOT)),
+        Type::Bot | Type::Top | Type::XCtrl => Ok(BOT),
+        Type::Ctrl => Ok(CTRL),
+        Type::Int { .. } => Ok(INT_BOT),
+        Type::Float(_) => Ok(FLOAT_BOT),
         Type::Tuple { n } => tuple_by_parts(store, known, a, n, lower),
         Type::Struct { n: Some(n) } => struct_by_parts(store, known, a, n, lower, false),
-        Type::Struct { n: None } => Ok(Making::found(a)),
+        Type::Struct { n: None } => Ok(a),
         Type::MemPtr { to, .. } => {
-            let mut sum = Sum::default();
-            let to = sum.take(lower(store, known, to)?);
-            Ok(sum.with(store.make_ptr(to, true)?))
+            let to = lower(store, known, to)?;
+            store.make_ptr(to, true)
         }
         Type::Mem { alias, t } => {
-            let mut sum = Sum::default();
-            let t = sum.take(lower(store, known, t)?);
-            Ok(sum.with(store.make_mem(alias, t)?))
+            let t = lower(store, known, t)?;
+            store.make_mem(alias, t)
         }
     }
 }
@@ -57,21 +54,19 @@ fn glb_rules(store: &mut Store, known: &mut Known, a: Handle) -> Made {
 fn lub_rules(store: &mut Store, known: &mut Known, a: Handle) -> Made {
     match store.ty(a) {
         // "Bot, Top, XCtrl and tuples to Top; Ctrl to XCtrl; Int 22, Float 49"
-        Type::Bot | Type::Top | Type::XCtrl | Type::Tuple { .. } => Ok(Making::found(TOP)),
-        Type::Ctrl => Ok(Making::found(XCTRL)),
-        Type::Int { .. } => Ok(Making::found(INT_TOP)),
-        Type::Float(_) => Ok(Making::found(FLOAT_TOP)),
+        Type::Bot | Type::Top | Type::XCtrl | Type::Tuple { .. } => Ok(TOP),
+        Type::Ctrl => Ok(XCTRL),
+        Type::Int { .. } => Ok(INT_TOP),
+        Type::Float(_) => Ok(FLOAT_TOP),
         Type::Struct { n: Some(n) } => struct_by_parts(store, known, a, n, upper, false),
-        Type::Struct { n: None } => Ok(Making::found(a)),
+        Type::Struct { n: None } => Ok(a),
         Type::MemPtr { to, .. } => {
-            let mut sum = Sum::default();
-            let to = sum.take(upper(store, known, to)?);
-            Ok(sum.with(store.make_ptr(to, false)?))
+            let to = upper(store, known, to)?;
+            store.make_ptr(to, false)
         }
         Type::Mem { alias, t } => {
-            let mut sum = Sum::default();
-            let t = sum.take(upper(store, known, t)?);
-            Ok(sum.with(store.make_mem(alias, t)?))
+            let t = upper(store, known, t)?;
+            store.make_mem(alias, t)
         }
     }
 }

@@ -1,6 +1,6 @@
 //! Words that are known to be well formed, for many calls on a long list: row 1 is tested once, and equal entries are found by an index.
 
-use crate::call::{Call, Reply, Reported};
+use crate::call::{Call, Reply};
 use crate::store::{Marks, Store};
 use crate::{fresh, row_one};
 
@@ -20,15 +20,10 @@ impl Held {
 
     /// What `answer` answers on the same words, and leaves in words and output.
     pub fn answer(&mut self, call: &Call, output: &mut [u64]) -> Reply {
-        self.reported(call, output).reply
-    }
-
-    /// What `reported` tells of the same words, likewise.
-    pub fn reported(&mut self, call: &Call, output: &mut [u64]) -> Reported {
         if let Call::Fresh = call {
-            return Reported::nothing(self.write_fresh());
+            return self.write_fresh();
         }
-        Store::new(&mut self.words, &mut self.marks).reported(call, output)
+        Store::new(&mut self.words, &mut self.marks).answer(call, output)
     }
 
     fn write_fresh(&mut self) -> Reply {

@@ -3,8 +3,8 @@
 //! where the two differ, one of them reads a document wrongly.
 //!
 //! The modules go in document 01's order: the store (`entry`, `fresh`, `row_one`, `store`, `making`, `types`), the calls turned back
-//! (`refusals`), and then the calls; document 02's search for an entry is in `search`, its saved catalogue in `catalogue`, and what makings
-//! and the calls above them report in `sum`. Sentences in quotes are a document's, 01's where no slip is named.
+//! (`refusals`), and then the calls; document 02's search for an entry is in `search`, its saved catalogue in `catalogue`. Sentences in
+//! quotes are a document's, 01's where no slip is named.
 
 mod call;
 mod catalogue;
@@ -26,10 +26,9 @@ mod scalars;
 mod search;
 mod store;
 mod structs;
-mod sum;
 mod types;
 
-pub use call::{Call, Reply, Reported};
+pub use call::{Call, Reply};
 pub use held::Held;
 use store::{Marks, Store};
 
@@ -40,26 +39,21 @@ pub fn well_formed(words: &[u64]) -> bool {
 
 /// The call on whatever words. Afterwards words and output hold what the document says; `StructFields` and `Offsets` alone use the output.
 pub fn answer(words: &mut [u64], call: &Call, output: &mut [u64]) -> Reply {
-    reported(words, call, output).reply
-}
-
-/// The same, and beside its answer what the call reports (document 02, Slip 4): the words it appended, 0 where it is refused.
-pub fn reported(words: &mut [u64], call: &Call, output: &mut [u64]) -> Reported {
     // "One call writes a fresh store into a lent list [..]; of row 1 it tests the length only".
     if let Call::Fresh = call {
-        return Reported::nothing(match fresh::write(words) {
+        return match fresh::write(words) {
             true => Reply::Done,
             false => Reply::Refused(1),
-        });
+        };
     }
     match row_one::kinds_at(words) {
-        Some(kinds) => Store::new(words, &mut Marks::new(kinds)).reported(call, output),
-        None => Reported::nothing(Reply::Refused(1)),
+        Some(kinds) => Store::new(words, &mut Marks::new(kinds)).answer(call, output),
+        None => Reply::Refused(1),
     }
 }
 
 /// Document 02, Slip 3: writes the store and a label as a file. Afterwards the output holds what the slip says; the answer is the file's
-/// length. It appends nothing, and neither does the loader to a store: both report 0.
+/// length.
 pub fn save(words: &[u64], label: &[u8], output: &mut [u8]) -> Reply {
     catalogue::save(words, label, output).map_or_else(Reply::Refused, Reply::Number)
 }

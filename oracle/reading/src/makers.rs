@@ -3,9 +3,8 @@
 use crate::entry::{depth_around, Handle, DEEPEST, MOST};
 use crate::fresh;
 use crate::kind::Kinds;
-use crate::refusals::{alias_is_accepted, flag_is_accepted, float_is_accepted, refuse_if, take, Found, Refusal};
+use crate::refusals::{alias_is_accepted, flag_is_accepted, float_is_accepted, refuse_if, take, Made, Refusal};
 use crate::store::Store;
-use crate::sum::{Made, Sum};
 use crate::types::{Field, Type};
 
 /// Row 6: "depth over 32", of a type around these.
@@ -13,7 +12,7 @@ fn refuse_if_deep(store: &Store, types: impl IntoIterator<Item = Handle>) -> Res
     refuse_if(depth_around(store.words(), types) > DEEPEST, 6)
 }
 
-pub fn get_bool(value: u64) -> Found {
+pub fn get_bool(value: u64) -> Made {
     refuse_if(!flag_is_accepted(value), 4)?;
     Ok(if value == 1 { fresh::INT_TRUE } else { fresh::INT_ZERO })
 }
@@ -78,11 +77,10 @@ pub fn make_ary(store: &mut Store, (len, len_alias): (Handle, u64), (body, body_
     // 10: "array body a pointer without nil"
     refuse_if(matches!(store.ty(body), Type::MemPtr { nil: false, .. }), 10)?;
     // "Parts are made first, left to right."
-    let mut sum = Sum::default();
-    let name = sum.take(store.make_name(&[b"[", text, b"]"].concat())?);
-    let len_name = sum.take(store.make_name(b"#")?);
-    let body_name = sum.take(store.make_name(b"[]")?);
+    let name = store.make_name(&[b"[", text, b"]"].concat())?;
+    let len_name = store.make_name(b"#")?;
+    let body_name = store.make_name(b"[]")?;
     let len = Field { fname: len_name, ty: len, alias: len_alias, final_field: true };
     let body = Field { fname: body_name, ty: body, alias: body_alias, final_field: false };
-    Ok(sum.with(store.make_struct(name, &[len, body])?))
+    store.make_struct(name, &[len, body])
 }

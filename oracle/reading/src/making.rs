@@ -2,8 +2,8 @@
 
 use crate::entry::{head, name_words, right_depth, Handle};
 use crate::kind;
+use crate::refusals::Made;
 use crate::store::Store;
-use crate::sum::Made;
 use crate::types::Field;
 
 impl Store<'_> {

@@ -9,8 +9,8 @@ use crate::store::Store;
 /// A number of the table.
 pub type Refusal = u8;
 
-/// A handle of an entry that is there, or the row that applies.
-pub type Found = Result<Handle, Refusal>;
+/// A handle, or the row that applies.
+pub type Made = Result<Handle, Refusal>;
 
 pub fn refuse_if(applies: bool, row: Refusal) -> Result<(), Refusal> {
     match applies {

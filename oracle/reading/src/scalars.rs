@@ -6,9 +6,8 @@ use crate::fresh::{
 };
 use crate::glb_lub::glb;
 use crate::kind::Kinds;
-use crate::refusals::{take, Found, Refusal};
+use crate::refusals::{take, Made, Refusal};
 use crate::store::Store;
-use crate::sum::{Made, Making};
 use crate::types::Type;
 
 /// Any type that a call is about: rows 2 and 3.
@@ -24,7 +23,7 @@ pub fn kind(store: &Store, a: Handle) -> Result<u64, Refusal> {
 }
 
 /// As the Rust: what a variable of this type begins with; other types are themselves.
-pub fn make_init(store: &Store, a: Handle) -> Found {
+pub fn make_init(store: &Store, a: Handle) -> Made {
     Ok(match asked(store, a)? {
         Type::Int { .. } => INT_ZERO,
         Type::Float(_) => FLOAT_ZERO,
@@ -35,7 +34,7 @@ pub fn make_init(store: &Store, a: Handle) -> Found {
 }
 
 /// "`make_zero` (Int, Float, pointer; else 3)".
-pub fn make_zero(store: &Store, a: Handle) -> Found {
+pub fn make_zero(store: &Store, a: Handle) -> Made {
     take(store, [(a, Kinds::WITH_ZERO)])?;
     Ok(match store.ty(a) {
         Type::Int { .. } => INT_ZERO,
@@ -47,11 +46,11 @@ pub fn make_zero(store: &Store, a: Handle) -> Found {
 /// As the Rust: an end that is 0 moves away from it, pointers are 91, and other types are their glb. "`non_zero` of 0..0 is 1..1".
 pub fn non_zero(store: &mut Store, a: Handle) -> Made {
     match asked(store, a)? {
-        Type::Int { min, max } if min > max => Ok(Making::found(a)),
+        Type::Int { min, max } if min > max => Ok(a),
         Type::Int { min: 0, max } => store.make_int(1, max.max(1)),
         Type::Int { min, max: 0 } => store.make_int(min, -1),
-        Type::Int { .. } => Ok(Making::found(a)),
-        Type::MemPtr { .. } => Ok(Making::found(PTR_VOID)),
+        Type::Int { .. } => Ok(a),
+        Type::MemPtr { .. } => Ok(PTR_VOID),
         _ => glb(store, a),
     }
 }

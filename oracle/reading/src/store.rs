@@ -4,8 +4,7 @@ use std::collections::HashMap;
 
 use crate::entry::{kind, length, Handle};
 use crate::kind::NO_ENTRY;
-use crate::refusals::Refusal;
-use crate::sum::{Made, Making};
+use crate::refusals::{Made, Refusal};
 
 /// What is known of a store's words besides the words.
 pub struct Marks {
@@ -85,11 +84,10 @@ impl<'w> Store<'w> {
         entry_at(self.words, handle)
     }
 
-    /// "Making an entry hands back the lowest handle of an equal entry, else appends one." 12 where it does not fit. Document 02, Slip 4:
-    /// it reports "the words it appended, 0 for one found".
+    /// "Making an entry hands back the lowest handle of an equal entry, else appends one." 12 where it does not fit.
     pub fn make(&mut self, entry: &[u64]) -> Made {
         match self.find(entry) {
-            Some(handle) => Ok(Making::found(handle)),
+            Some(handle) => Ok(handle),
             None => self.append(entry),
         }
     }
@@ -118,7 +116,7 @@ impl<'w> Store<'w> {
         if let Some(index) = &mut self.marks.index {
             index.insert(entry.into(), handle);
         }
-        Ok(Making::appended(handle, entry.len()))
+        Ok(handle)
     }
 
     /// From now on each entry that is not there is answered 12.

@@ -2,13 +2,13 @@
 
 use crate::entry::Handle;
 use crate::kind::Kinds;
-use crate::refusals::{alias_is_accepted, refuse_if, take, Found, Refusal};
+use crate::refusals::{alias_is_accepted, refuse_if, take, Made, Refusal};
 use crate::scalars::log_size;
 use crate::store::Store;
 use crate::types::Type;
 
 /// The name of a struct or forward reference.
-pub fn name(store: &Store, s: Handle) -> Found {
+pub fn name(store: &Store, s: Handle) -> Made {
     take(store, [(s, Kinds::STRUCTS)])?;
     Ok(store.name(s))
 }

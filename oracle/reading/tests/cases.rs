@@ -13,7 +13,7 @@ fn scripts_of_the_folder() {
         println!("CASES names no folder of scripts: none is run");
         return;
     };
-    for name in ["twelve.txt", "limits.txt", "refusals.txt", "slip-01.txt", "slip-02.txt", "slip-03.txt", "slip-04.txt"] {
+    for name in ["twelve.txt", "limits.txt", "refusals.txt", "slip-01.txt", "slip-02.txt", "slip-03.txt"] {
         let path = std::path::Path::new(&folder).join(name);
         let text = std::fs::read_to_string(&path).unwrap_or_else(|why| panic!("{}: {why}", path.display()));
         let (answers, wrong) = compare(&mut Script::default(), &text);

@@ -4,7 +4,7 @@ mod common;
 mod rebuilt;
 
 use common::List;
-use reading::{reported, well_formed, Call, Held, Reply};
+use reading::{answer, well_formed, Call, Held, Reply};
 
 struct Chance(u64);
 
@@ -184,9 +184,9 @@ fn a_held_store_through_many_calls() {
         for _ in 0..150 {
             let before = List { words: list.words.clone() };
             by_chance(&mut chance, &before, &mut |call| {
-                let told = reported(&mut list.words, call, &mut [0; 6]);
-                assert_eq!(held.reported(call, &mut [0; 6]), told, "{call:?}");
-                full += u32::from(told.reply == Reply::Refused(12));
+                let reply = answer(&mut list.words, call, &mut [0; 6]);
+                assert_eq!(held.answer(call, &mut [0; 6]), reply, "{call:?}");
+                full += u32::from(reply == Reply::Refused(12));
             });
             assert!(held.words() == list.words);
         }

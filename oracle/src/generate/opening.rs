@@ -67,7 +67,7 @@ impl Opening {
 
     fn put(&mut self, name: &'static str, answer: Answer) {
         self.list.steps.push(Step { id: self.next, name, args: vec![], text: vec![] });
-        self.list.asked.push(Asked { call: Call { name, numbers: vec![], text: vec![] }, answer, added: Some(0) });
+        self.list.asked.push(Asked { call: Call { name, numbers: vec![], text: vec![] }, answer });
         self.next += 1;
     }
 }

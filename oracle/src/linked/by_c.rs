@@ -1,12 +1,10 @@
 //! The library by its functions as C declares them. They are lent the words for the answer too, with guard words around these, so that it shows
 //! when a function writes one that it may not.
 
-mod added;
-
 use super::cell::{flag, signed, size, Cell, Lent, Shape};
 use super::door::{Door, Lists};
+use reading::Call;
 use reading::Reply::{self, Filled, Handle, Number};
-use reading::{Call, Reported};
 use Shape::{Either, One, Perhaps, Search};
 
 /// Lent words, or an opened store.
@@ -139,14 +137,6 @@ impl Door for ByC<'_> {
         let mut cell = Cell::new();
         let (status, shape) = run(self, call, output, &cell.lend());
         cell.reply(status, shape)
-    }
-
-    fn reported(&mut self, call: &Call, output: &mut [u64]) -> Result<Reported, String> {
-        let mut cell = Cell::new();
-        match added::run(self, call, &cell.lend()) {
-            Some(status) => cell.reported(status),
-            None => self.answer(call, output).map(Reported::nothing),
-        }
     }
 
     /// There is one function for lent words and opened stores: it reads the words alone.

@@ -1,8 +1,8 @@
 //! The library by the crate `ferigulan`: plain calls by its functions over lent words, opened ones by its `OpenedStore`.
 
 use super::door::Door;
-use ferigulan::{calls, Handle, Made, OpenedStore, Reading, Refusal, Search};
-use reading::{Call, Reply, Reported};
+use ferigulan::{calls, Handle, OpenedStore, Reading, Refusal, Search};
+use reading::{Call, Reply};
 
 /// The calls of an enum as calls of the crate. `$call!` makes one of a name and arguments: a function, or a method.
 macro_rules! asked {
@@ -71,36 +71,6 @@ macro_rules! asked {
     };
 }
 
-/// The calls that can append, by what reports how many words they appended (document 02, Slip 4): nothing for the others. `$call!` is as above.
-macro_rules! made {
-    ($given:expr, $call:ident) => {
-        match *$given {
-            Call::GetInt(value) => Some($call!(get_int(value as i64))),
-            Call::MakeInt(min, max) => Some($call!(make_int(min as i64, max as i64))),
-            Call::GetFloat(bits) => Some($call!(get_float(f64::from_bits(bits)))),
-            Call::MakeFloat(size, bits) => Some($call!(make_float(size as i64, f64::from_bits(bits)))),
-            Call::GetTuple(types) => Some($call!(get_tuple(&all_at(types)))),
-            Call::GetStr(name) => Some($call!(get_str(name))),
-            Call::GetStruct(name, fields) => Some($call!(get_struct(at(name), fields))),
-            Call::MakeAry(length, length_alias, body, body_alias, text) => {
-                Some($call!(make_ary(at(length), length_alias, at(body), body_alias, text)))
-            }
-            Call::MakeStructFref(name) => Some($call!(make_struct_fref(at(name)))),
-            Call::GetMemPtr(to, nil) => Some($call!(get_mem_ptr(at(to), nil))),
-            Call::GetMem(alias, t) => Some($call!(get_mem(alias, at(t)))),
-            Call::Meet(a, b) => Some($call!(meet(at(a), at(b)))),
-            Call::MeetList(types) => Some($call!(meet_list(&all_at(types)))),
-            Call::Dual(a) => Some($call!(dual(at(a)))),
-            Call::Join(a, b) => Some($call!(join(at(a), at(b)))),
-            Call::Glb(a) => Some($call!(glb(at(a)))),
-            Call::Lub(a) => Some($call!(lub(at(a)))),
-            Call::MakeRo(a) => Some($call!(make_ro(at(a)))),
-            Call::NonZero(a) => Some($call!(non_zero(at(a)))),
-            _ => None,
-        }
-    };
-}
-
 /// Words that the functions are lent.
 pub struct Plain<'l>(pub &'l mut [u64]);
 
@@ -115,17 +85,6 @@ impl Door for Plain<'_> {
             Call::FindEntry(entry) => told(calls::find_entry(words, entry), searched),
             call => asked!(call, output, function),
         })
-    }
-
-    fn reported(&mut self, call: &Call, output: &mut [u64]) -> Result<Reported, String> {
-        let words = &mut *self.0;
-        macro_rules! function {
-            ($name:ident($($arg:expr),*)) => { calls::added::$name(words, $($arg),*) };
-        }
-        match made!(call, function) {
-            Some(made) => Ok(reported(made)),
-            None => self.answer(call, output).map(Reported::nothing),
-        }
     }
 
     fn save(&mut self, label: &[u8], file: &mut [u8]) -> Result<Reply, String> {
@@ -154,16 +113,6 @@ impl Door for OpenedStore<'_> {
             Call::FindEntry(entry) => searched(self.find_entry(entry)),
             call => asked!(call, output, method),
         })
-    }
-
-    fn reported(&mut self, call: &Call, output: &mut [u64]) -> Result<Reported, String> {
-        macro_rules! method {
-            ($name:ident($($arg:expr),*)) => { self.added().$name($($arg),*) };
-        }
-        match made!(call, method) {
-            Some(made) => Ok(reported(made)),
-            None => self.answer(call, output).map(Reported::nothing),
-        }
     }
 
     fn save(&mut self, label: &[u8], file: &mut [u8]) -> Result<Reply, String> {
@@ -198,12 +147,6 @@ fn told<T>(answer: Result<T, Refusal>, reply: impl FnOnce(T) -> Reply) -> Reply 
 
 fn handle(answer: Result<Handle, Refusal>) -> Reply {
     told(answer, |handle| Reply::Handle(handle.word()))
-}
-
-/// The crate has no number for a call that is refused: it reports 0.
-fn reported(made: Result<Made, Refusal>) -> Reported {
-    let added = made.map_or(0, |made| made.added as u64);
-    Reported { reply: handle(made.map(|made| made.handle)), added }
 }
 
 fn flag(answer: Result<bool, Refusal>) -> Reply {

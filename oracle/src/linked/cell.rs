@@ -1,33 +1,27 @@
 //! The words for the answer that a function is lent in C, with guard words around them.
 
-use reading::{Reply, Reported};
+use reading::Reply;
 
 /// What stands around the words for the answer, and what stands in them before a call.
 const GUARD: u64 = 0x0dd5_0dd5_0dd5_0dd5;
 const BEFORE: u64 = 0xe5e5_0000_0000_e5e5;
 
-/// A word, with guards behind it.
-#[repr(C)]
-struct Word {
-    word: u64,
-    guards: [u64; 4],
-}
-
 /// One object, so that a function that writes past a word writes a guard.
 #[repr(C)]
 pub struct Cell {
     guards: [u64; 4],
-    which: Word,
-    count: Word,
-    added: Word,
-    answer: Word,
+    which: u64,
+    between: [u64; 4],
+    count: u64,
+    also_between: [u64; 4],
+    answer: u64,
+    behind: [u64; 4],
 }
 
 /// The words of a cell as a function is lent them.
 pub struct Lent {
     pub which: *mut u64,
     pub count: *mut u64,
-    pub added: *mut u64,
     pub answer: *mut u64,
 }
 
@@ -45,54 +39,24 @@ pub enum Shape {
 
 impl Cell {
     pub fn new() -> Cell {
-        let guards = [GUARD; 4];
-        let word = || Word { word: BEFORE, guards };
-        Cell { guards, which: word(), count: word(), added: word(), answer: word() }
+        let guard = [GUARD; 4];
+        Cell { guards: guard, which: BEFORE, between: guard, count: BEFORE, also_between: guard, answer: BEFORE, behind: guard }
     }
 
-    /// The four words. The pointers come from the whole cell, so that a write beside a word is a write into the cell.
+    /// The three words. The pointers come from the whole cell, so that a write beside a word is a write into the cell.
     pub fn lend(&mut self) -> Lent {
         let cell = std::ptr::from_mut(self);
-        // SAFETY: all four words are inside the cell.
-        unsafe {
-            Lent {
-                which: &raw mut (*cell).which.word,
-                count: &raw mut (*cell).count.word,
-                added: &raw mut (*cell).added.word,
-                answer: &raw mut (*cell).answer.word,
-            }
-        }
-    }
-
-    /// What stands in the words after a call, if the guards around them do.
-    fn words(&self) -> Result<[u64; 4], String> {
-        let cell = std::hint::black_box(self);
-        let words = [&cell.which, &cell.count, &cell.added, &cell.answer];
-        if cell.guards != [GUARD; 4] || words.iter().any(|word| word.guards != [GUARD; 4]) {
-            return Err("it wrote beside the words for the answer".to_string());
-        }
-        Ok(words.map(|word| word.word))
-    }
-
-    /// What a function has returned and told that is lent the word for the words appended: it writes that in any case.
-    pub fn reported(&self, status: u32) -> Result<Reported, String> {
-        let [which, count, added, answer] = self.words()?;
-        match status {
-            0..=15 if added == BEFORE => Err("it left the word for what it appended".to_string()),
-            0 if [which, count] == [BEFORE; 2] => Ok(Reported { reply: Reply::Handle(answer), added }),
-            1..=15 if [which, count, answer] == [BEFORE; 3] => Ok(Reported { reply: Reply::Refused(status as u8), added }),
-            1..=15 => Err(format!("it refused the call with {status}, and wrote the word for the answer: {answer}")),
-            0 => Err(format!("it left {which}, {count} and {answer} in the words for the answer")),
-            _ => Err(format!("it returned {status}")),
-        }
+        // SAFETY: all three fields are inside the cell.
+        unsafe { Lent { which: &raw mut (*cell).which, count: &raw mut (*cell).count, answer: &raw mut (*cell).answer } }
     }
 
     /// The reply that a function has returned and told.
     pub fn reply(&self, status: u32, shape: Shape) -> Result<Reply, String> {
-        let [which, count, added, answer] = self.words()?;
-        if added != BEFORE {
-            return Err(format!("it wrote {added} where it was lent no word"));
+        let cell = std::hint::black_box(self);
+        if [cell.guards, cell.between, cell.also_between, cell.behind] != [[GUARD; 4]; 4] {
+            return Err("it wrote beside the words for the answer".to_string());
         }
+        let (which, count, answer) = (cell.which, cell.count, cell.answer);
         match (status, shape) {
             (1..=15, _) if [which, count, answer] == [BEFORE; 3] => Ok(Reply::Refused(status as u8)),
             (1..=15, _) => {

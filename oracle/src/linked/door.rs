@@ -1,14 +1,11 @@
 //! The library, by one of the ways to it: the crate `ferigulan`, or its functions as C declares them.
 
-use reading::{Call, Reply, Reported};
+use reading::{Call, Reply};
 
 /// A lent list and the calls on it.
 pub trait Door {
     /// What the library replies; or what it did that no call may do.
     fn answer(&mut self, call: &Call, output: &mut [u64]) -> Result<Reply, String>;
-
-    /// The same by a function that reports how many words it appended, where the call can append: else it reports 0.
-    fn reported(&mut self, call: &Call, output: &mut [u64]) -> Result<Reported, String>;
 
     /// Writes the list's store and a label as a file: likewise.
     fn save(&mut self, label: &[u8], file: &mut [u8]) -> Result<Reply, String>;

@@ -33,8 +33,8 @@ impl Entries {
         let used = words.first().map_or(0, |used| (*used).min(words.len() as u64)) as usize;
         while self.end < used {
             let head = words[self.end];
-            let (kind, depth) = (head as u8, head / 256 % 256);
-            let Some(size) = entry_size(head).filter(|size| self.end + size <= used) else {
+            let (kind, depth, n) = (head as u8, head / 256 % 256, (head / 65_536 % 256) as usize);
+            let Some(size) = size_of(kind, n).filter(|size| self.end + size <= used) else {
                 return;
             };
             let entry = &words[self.end..self.end + size];
@@ -73,10 +73,8 @@ impl Shelf for Entries {
     }
 }
 
-/// How many words the entry of a head has, if there is such a kind.
-pub fn entry_size(head: u64) -> Option<usize> {
-    let n = (head / 65_536 % 256) as usize;
-    match head as u8 {
+fn size_of(kind: u8, n: usize) -> Option<usize> {
+    match kind {
         0 => Some(1 + n.div_ceil(8)),
         1..=4 => Some(1),
         5 | 6 | 10 | 11 => Some(3),

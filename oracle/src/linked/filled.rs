@@ -1,6 +1,5 @@
 //! Differences in long lists. A list that one step fills would be shown by thousands of lines: other lists are tried in its place.
 
-use crate::script::WORDS_ADDED;
 use crate::session::Answer;
 use crate::shrink::Shown;
 use crate::steps::{Arg, Asked, Step};
@@ -21,9 +20,8 @@ pub fn others(steps: &[Step], shown: &Shown) -> Vec<Vec<Step>> {
         let alone = on_late_types(last).into_iter().map(|late| [before, std::slice::from_ref(&raised), &late].concat());
         return [same].into_iter().chain(alone).collect();
     }
-    // a difference in what a call reports is shown by a line behind it
-    let calls: Vec<Asked> = shown.asked[shown.first_of_last..].iter().filter(|asked| asked.call.name != WORDS_ADDED).cloned().collect();
-    let as_steps = as_steps(&calls, steps[at].id + 1);
+    let calls = &shown.asked[shown.first_of_last..];
+    let as_steps = as_steps(calls, steps[at].id + 1);
     let open = Step { id: steps[at].id + calls.len() + 1, name: "open", args: vec![], text: vec![] };
     let last_ones = [1, 8, 64, 512].into_iter().filter(|many| *many < calls.len()).map(|many| {
         let first = calls.len() - many;

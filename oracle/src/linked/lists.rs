@@ -8,7 +8,6 @@ use super::trial::{By, Way};
 use super::unfolded::ROOM;
 use crate::generate::{list, Lists, Menu, SHORT};
 use crate::random::Random;
-use crate::script::WORDS_ADDED;
 use crate::steps::{Arg, Step};
 use crate::store::LONGEST;
 use crate::values;
@@ -23,8 +22,6 @@ pub struct Menus {
     searches: bool,
     /// Whether files are written and loaded among them.
     catalogues: bool,
-    /// Whether some lists go by the functions that report how many words they appended.
-    reports: bool,
 }
 
 /// A list to be run.
@@ -37,8 +34,8 @@ impl Menus {
     pub fn read(names: &str) -> Result<Menus, String> {
         let menu = |lists: Lists| -> Result<Menu, String> {
             let mut menu = Menu::read(names)?;
-            // every word, and what is reported, is compared after each call
-            (menu.dump, menu.reports) = (false, false);
+            // every word is compared after each call
+            menu.dump = false;
             menu.lists = lists;
             Ok(menu)
         };
@@ -46,8 +43,7 @@ impl Menus {
         let long = Lists { length: long_length, are_filled: true, most_calls: 1500, ..short };
         let has = |words: &[&str]| names.split(',').any(|name| words.contains(&name));
         let (searches, catalogues) = (has(&["all", "find_entry"]), has(&["all", "save", "load"]));
-        let reports = has(&["all", WORDS_ADDED]);
-        Ok(Menus { short: menu(short)?, long: menu(long)?, damaged: 35, searches, catalogues, reports })
+        Ok(Menus { short: menu(short)?, long: menu(long)?, damaged: 35, searches, catalogues })
     }
 
     /// Lists of calls most of which merge the same types again and again, in stores that calls alone have made.
@@ -84,21 +80,9 @@ impl Menus {
             true => with_catalogues(steps, &mut random),
             false => steps,
         };
-        Made { steps, way: Way { by, holds, reports: self.are_reported(seed, plant), plant } }
-    }
-
-    /// Whether the list of this seed goes by the functions that report: by a chance of its own, so that its calls are the same in any case.
-    /// A planted mistake is in the one kind of functions or in the other.
-    fn are_reported(&self, seed: u64, plant: Option<Plant>) -> bool {
-        match plant {
-            Some(plant) => plant.is_of_reports(),
-            None => self.reports && Random::new(seed ^ 0x7265_706f_7274).percent(OFTEN_REPORTED),
-        }
+        Made { steps, way: Way { by, holds, plant } }
     }
 }
-
-/// So many lists in a hundred go by the functions that report; the others by those that do not.
-const OFTEN_REPORTED: usize = 60;
 
 /// One list in so many is a long one: a call there takes as long as hundreds of others.
 const LISTS_A_LONG_ONE: usize = 200;

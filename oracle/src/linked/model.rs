@@ -25,8 +25,6 @@ pub struct Model {
     pub is_loaded: bool,
     pub entries: Entries,
     pub outcomes: Outcomes,
-    /// What the last line reported: the words that a call has appended, 0 for any other line.
-    pub added: u64,
     /// The output of the last call, and that of the last file.
     pub output: Vec<u64>,
     pub bytes: Vec<u8>,
@@ -47,7 +45,6 @@ impl Model {
             is_loaded: false,
             entries,
             outcomes,
-            added: 0,
             output: vec![],
             bytes: vec![],
             file: vec![],
@@ -106,7 +103,6 @@ impl Model {
     /// Runs a line: a call, or one that is about the list.
     pub fn run(&mut self, call: &Call) -> Answer {
         self.output = output(call);
-        self.added = 0;
         match (call.name, &call.numbers[..]) {
             ("list", [n]) => self.lend(vec![0; *n as usize]),
             ("list", [n, value]) => self.lend(vec![*value; *n as usize]),
@@ -160,17 +156,16 @@ impl Model {
 
     fn call(&mut self, call: &Call) -> Answer {
         let typed = typed(call).unwrap_or_else(|| panic!("{call}: no call of document 01"));
-        let told = match &mut self.words {
-            Words::Plain(words) => reading::reported(words, &typed, &mut self.output),
-            Words::Held(held) => held.reported(&typed, &mut self.output),
+        let reply = match &mut self.words {
+            Words::Plain(words) => reading::answer(words, &typed, &mut self.output),
+            Words::Held(held) => held.answer(&typed, &mut self.output),
         };
-        self.added = told.added;
         let words = match &self.words {
             Words::Plain(words) => words,
             Words::Held(held) => held.words(),
         };
         self.entries.read_on(words);
-        answer(&typed, told.reply, &self.output)
+        answer(&typed, reply, &self.output)
     }
 
     /// The number that an argument stands for now.

@@ -2,11 +2,10 @@
 //! something else, or changes what it has answered or written.
 
 mod catalogue;
-mod reports;
 
 use super::door::Door;
 use super::entries::Entries;
-use reading::{Call, Reply, Reported};
+use reading::{Call, Reply};
 
 /// A mistake: its name, what the library would do wrong, and how that is done.
 #[derive(Clone, Copy)]
@@ -16,36 +15,17 @@ pub struct Plant {
     answer: fn(&mut dyn Door, &Call, &mut [u64]) -> Answered,
     save: fn(&mut dyn Door, &[u8], &mut [u8]) -> Answered,
     load: fn(&mut dyn Door, &[u8]) -> Answered,
-    /// Only in what is reported, by the functions that do: lists are run by these then.
-    report: Option<fn(&mut dyn Door, &Call, &mut [u64]) -> Result<Reported, String>>,
     /// Whether a store that is opened again has the memory of answers of the time before.
     pub keeps_memory: bool,
 }
 
 const fn plant(name: &'static str, what: &'static str, answer: fn(&mut dyn Door, &Call, &mut [u64]) -> Answered) -> Plant {
-    Plant {
-        name,
-        what,
-        answer,
-        save: |door, label, file| door.save(label, file),
-        load: |door, file| door.load(file),
-        report: None,
-        keeps_memory: false,
-    }
+    Plant { name, what, answer, save: |door, label, file| door.save(label, file), load: |door, file| door.load(file), keeps_memory: false }
 }
 
 /// A mistake of the writer of files alone.
 const fn save_plant(name: &'static str, what: &'static str, save: fn(&mut dyn Door, &[u8], &mut [u8]) -> Answered) -> Plant {
     Plant { save, ..plant(name, what, |door, call, output| door.answer(call, output)) }
-}
-
-/// A mistake in what calls report alone.
-const fn report_plant(
-    name: &'static str,
-    what: &'static str,
-    report: fn(&mut dyn Door, &Call, &mut [u64]) -> Result<Reported, String>,
-) -> Plant {
-    Plant { report: Some(report), ..plant(name, what, |door, call, output| door.answer(call, output)) }
 }
 
 /// A mistake of the loader alone.
@@ -85,11 +65,6 @@ pub const PLANTS: &[Plant] = &[
     load_plant("room-first", "the loader tests the list's length before the label's: 5 after 12", catalogue::room_first),
     load_plant("rest-kept", "the loader leaves the list's rest as it was", catalogue::rest_kept),
     load_plant("wants-a-store", "the loader refuses a list that is no store before", catalogue::wants_a_store),
-    report_plant("last-making", "a call reports the words of its last making alone", reports::last_making),
-    report_plant("refused-reports", "a call that is refused with 12 reports three words", reports::refused_reports),
-    report_plant("entries-for-words", "a call reports 1 for each entry", reports::entries_for_words),
-    report_plant("found-counts", "a maker reports the words of an entry that it finds", reports::found_counts),
-    report_plant("on-the-way", "a merge of a list reports no more than its answer's words", reports::on_the_way),
 ];
 
 impl Plant {
@@ -99,18 +74,6 @@ impl Plant {
 
     pub fn answer(&self, door: &mut dyn Door, call: &Call, output: &mut [u64]) -> Result<Reply, String> {
         (self.answer)(door, call, output)
-    }
-
-    pub fn is_of_reports(&self) -> bool {
-        self.report.is_some()
-    }
-
-    /// By the functions that report.
-    pub fn reported(&self, door: &mut dyn Door, call: &Call, output: &mut [u64]) -> Result<Reported, String> {
-        match self.report {
-            Some(report) => report(door, call, output),
-            None => door.reported(call, output),
-        }
     }
 
     pub fn save(&self, door: &mut dyn Door, label: &[u8], file: &mut [u8]) -> Answered {

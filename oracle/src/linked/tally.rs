@@ -65,52 +65,6 @@ impl Searches {
     }
 }
 
-/// The calls that can append, asked by functions that report how many words they appended.
-#[derive(Default)]
-pub struct Reports {
-    appended: u64,
-    /// Of these, those that handed back what was there before.
-    on_the_way: u64,
-    found: u64,
-    refused: u64,
-    opened: u64,
-    damaged: u64,
-    /// The words that were reported, in all and by the call that has most.
-    words: u64,
-    most: u64,
-}
-
-impl Reports {
-    /// Takes note of a call that was asked while so many words were used.
-    pub fn add(&mut self, answer: &Answer, added: u64, used: u64, told: &Circumstances) {
-        let is_there = matches!(answer, Answer::Number(handle) if *handle < used);
-        match answer {
-            Answer::Refused(_) => self.refused += 1,
-            _ if added == 0 => self.found += 1,
-            _ => self.appended += 1,
-        }
-        self.on_the_way += u64::from(is_there && added > 0);
-        self.opened += u64::from(told.is_open);
-        self.damaged += u64::from(told.is_damaged);
-        self.words += added;
-        self.most = self.most.max(added);
-    }
-
-    fn print(&self) {
-        let calls = self.appended + self.found + self.refused;
-        if calls == 0 {
-            return;
-        }
-        let [calls, opened, damaged] = [calls, self.opened, self.damaged].map(grouped);
-        println!("calls by functions that report what they appended: {calls}; {opened} on opened stores, {damaged} on damaged words");
-        let [appended, on_the_way, found, refused] = [self.appended, self.on_the_way, self.found, self.refused].map(grouped);
-        println!(
-            "  {appended} appended words, {on_the_way} of them beside an answer that was there; {found} found all; {refused} were refused"
-        );
-        println!("  words reported: {}, at most {} by one call", grouped(self.words), grouped(self.most));
-    }
-}
-
 #[derive(Default)]
 pub struct Tally {
     /// How many calls of a name, by the reply: 0 for accepted ones, else the refusal.
@@ -135,7 +89,6 @@ pub struct Tally {
     /// The merges of lists on stores that calls alone have made.
     pub merges: Merges,
     searches: Searches,
-    pub reports: Reports,
 }
 
 impl Tally {
@@ -196,7 +149,6 @@ impl Tally {
         );
         self.merges.print();
         self.searches.print();
-        self.reports.print();
     }
 
     fn print_calls(&self) {

@@ -3,7 +3,6 @@
 
 mod catalogue;
 mod opening;
-mod reports;
 
 use super::by_c::ByC;
 use super::by_crate::Plain;
@@ -19,7 +18,6 @@ use crate::script::Call;
 use crate::session::{Answer, Session, KEPT};
 use crate::steps::{Asked, Step};
 use ferigulan::calls;
-use reading::Reported;
 
 /// How a list is run. It stays the same while the list is made short.
 #[derive(Clone, Copy)]
@@ -27,8 +25,6 @@ pub struct Way {
     pub by: By,
     /// Whether the reading tests a list once and holds it, or tests it anew for each call.
     pub holds: bool,
-    /// Whether calls that can append go by the functions that report how many words they appended.
-    pub reports: bool,
     /// A mistake to be found.
     pub plant: Option<Plant>,
 }
@@ -52,8 +48,6 @@ pub struct Trial<'s, 'a, 't> {
     original: Session<'a, 't>,
     calls: u64,
     law: Law,
-    /// What word 0 is by what calls have reported.
-    count: u64,
     /// What the last opening was lent, and the lengths of list and memory.
     index: Guarded,
     memory: Guarded,
@@ -83,7 +77,6 @@ impl<'s, 'a, 't> Trial<'s, 'a, 't> {
             original,
             calls: 0,
             law: Law::default(),
-            count: 0,
             index: Guarded::filled(0, 0),
             memory: Guarded::filled(0, 0),
             last_lengths: [0; 2],
@@ -156,12 +149,11 @@ impl<'s, 'a, 't> Trial<'s, 'a, 't> {
         self.original.run(call);
         let answer = self.model.run(call);
         self.write_down(call, answer);
-        self.start_count();
     }
 
     fn write_down(&mut self, call: &Call, answer: Answer) {
         if self.keeps_lines {
-            self.asked.push(Asked { call: call.clone(), answer: answer.clone(), added: Some(self.model.added) });
+            self.asked.push(Asked { call: call.clone(), answer: answer.clone() });
         }
         self.last = answer;
     }
@@ -209,18 +201,17 @@ impl<'s, 'a, 't> Trial<'s, 'a, 't> {
         self.write_down(call, reading);
         let mut output = Guarded::filled(output_length(call), KEPT);
         let (lent_output, around) = output.split();
-        let (library, added) = self.ask(call, door, lent_output).map_err(|what| Difference::new(format!("; {what}")))?;
+        let library = self.ask(call, door, lent_output).map_err(|what| Difference::new(format!("; {what}")))?;
         if library != self.last || original.as_ref().is_some_and(|answer| *answer != self.last) {
             return Err(Difference::new(answers(original.as_ref(), &self.last, &library)));
         }
         if !are_kept(guards) || !are_kept(&around) {
             return Err(Difference::new("; a word beside a lent list was written".to_string()));
         }
-        let skips_words = is_filling && self.calls % FILLING_CALLS != 0;
-        if !skips_words {
-            self.compare_words(door.words(), output.words())?;
+        if is_filling && self.calls % FILLING_CALLS != 0 {
+            return Ok(());
         }
-        self.compare_reports(call, original.and(self.original.added()), added, door.words(), &told)?;
+        self.compare_words(door.words(), output.words())?;
         self.compare_with_the_law(call, is_open)
     }
 
@@ -253,19 +244,16 @@ impl<'s, 'a, 't> Trial<'s, 'a, 't> {
         Ok(())
     }
 
-    /// What the library answers and reports. Where it is not asked for what it reports, that is what the reading does.
-    fn ask(&self, call: &Call, door: &mut dyn Door, output: &mut [u64]) -> Result<(Answer, u64), String> {
+    fn ask(&self, call: &Call, door: &mut dyn Door, output: &mut [u64]) -> Result<Answer, String> {
         if call.name == "check" {
-            return Ok((Answer::Flag(calls::well_formed(door.words())), 0));
+            return Ok(Answer::Flag(calls::well_formed(door.words())));
         }
         let typed = typed(call).expect("a call of document 01");
-        let told = match (self.way.reports, &self.way.plant) {
-            (true, Some(plant)) => plant.reported(door, &typed, output)?,
-            (true, None) => door.reported(&typed, output)?,
-            (false, Some(plant)) => Reported { reply: plant.answer(door, &typed, output)?, added: self.model.added },
-            (false, None) => Reported { reply: door.answer(&typed, output)?, added: self.model.added },
+        let reply = match &self.way.plant {
+            Some(plant) => plant.answer(door, &typed, output),
+            None => door.answer(&typed, output),
         };
-        Ok((answer(&typed, told.reply, output), told.added))
+        Ok(answer(&typed, reply?, output))
     }
 
     fn compare_words(&self, words: &[u64], output: &[u64]) -> Result<(), Difference> {

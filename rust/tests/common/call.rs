@@ -1,5 +1,5 @@
 //! The calls as values, so that one list of calls can be made in each of the three forms, and their answers as words.
-use ferigulan::{calls, Handle, Kind, Made, OpenedStore, Reading, Refusal, Store};
+use ferigulan::{calls, Handle, Kind, OpenedStore, Reading, Refusal, Store};
 
 #[derive(Clone, Debug)]
 pub enum Call {
@@ -102,108 +102,77 @@ impl Words for Reading {
     }
 }
 
-/// Makes `$call` by `$form!`, which is handed `$on`, whether the call may append (`make`) or not (`ask`), a function's name and its arguments.
+/// Makes `$call` by `$form!`, which is handed `$on`, a function's name and its arguments.
 macro_rules! make {
     ($call:expr, $output:expr, $form:ident $on:ident) => {
         match $call {
-            Call::Kind(h) => $form!($on ask kind(*h)),
-            Call::GetBool(value) => $form!($on ask get_bool(*value)),
-            Call::GetInt(value) => $form!($on make get_int(*value)),
-            Call::MakeInt(min, max) => $form!($on make make_int(*min, *max)),
-            Call::GetFloat(bits) => $form!($on make get_float(f64::from_bits(*bits))),
-            Call::MakeFloat(sz, bits) => $form!($on make make_float(*sz, f64::from_bits(*bits))),
-            Call::GetTuple(types) => $form!($on make get_tuple(types)),
-            Call::GetStr(name) => $form!($on make get_str(name)),
-            Call::GetStruct(name, fields) => $form!($on make get_struct(*name, fields)),
-            Call::MakeAry(len, len_alias, body, body_alias, text) => $form!($on make make_ary(*len, *len_alias, *body, *body_alias, text)),
-            Call::MakeStructFref(name) => $form!($on make make_struct_fref(*name)),
-            Call::GetMemPtr(to, nil) => $form!($on make get_mem_ptr(*to, *nil)),
-            Call::GetMem(alias, t) => $form!($on make get_mem(*alias, *t)),
-            Call::Meet(a, b) => $form!($on make meet(*a, *b)),
-            Call::MeetList(types) => $form!($on make meet_list(types)),
-            Call::Isa(a, b) => $form!($on ask isa(*a, *b)),
-            Call::Dual(a) => $form!($on make dual(*a)),
-            Call::Join(a, b) => $form!($on make join(*a, *b)),
-            Call::Glb(a) => $form!($on make glb(*a)),
-            Call::Lub(a) => $form!($on make lub(*a)),
-            Call::IsFinal(a) => $form!($on ask is_final(*a)),
-            Call::MakeRo(a) => $form!($on make make_ro(*a)),
-            Call::MakeInit(a) => $form!($on ask make_init(*a)),
-            Call::MakeZero(a) => $form!($on ask make_zero(*a)),
-            Call::NonZero(a) => $form!($on make non_zero(*a)),
-            Call::IsHigh(a) => $form!($on ask is_high(*a)),
-            Call::IsHighOrConstant(a) => $form!($on ask is_high_or_constant(*a)),
-            Call::IsConstant(a) => $form!($on ask is_constant(*a)),
-            Call::IsFref(a) => $form!($on ask is_fref(*a)),
-            Call::LogSize(a) => $form!($on ask log_size(*a)),
-            Call::IntMin(a) => $form!($on ask int_min(*a)),
-            Call::IntMax(a) => $form!($on ask int_max(*a)),
-            Call::IntValue(a) => $form!($on ask int_value(*a)),
-            Call::IntMask(a) => $form!($on ask int_mask(*a)),
-            Call::FloatSz(a) => $form!($on ask float_sz(*a)),
-            Call::FloatIsF32(a) => $form!($on ask float_is_f32(*a)),
-            Call::FloatValue(a) => $form!($on ask float_value(*a)),
-            Call::FloatReading(a) => $form!($on ask float_reading(*a)),
-            Call::StructName(s) => $form!($on ask struct_name(*s)),
-            Call::StructFields(s, _) => $form!($on ask struct_fields(*s, $output)),
-            Call::Find(s, name) => $form!($on ask find(*s, *name)),
-            Call::FindAlias(s, alias) => $form!($on ask find_alias(*s, *alias)),
-            Call::IsAry(s) => $form!($on ask is_ary(*s)),
-            Call::Offset(s, index) => $form!($on ask offset(*s, *index)),
-            Call::Offsets(s, _) => $form!($on ask offsets(*s, $output)),
-            Call::AryBase(s) => $form!($on ask ary_base(*s)),
-            Call::AryScale(s) => $form!($on ask ary_scale(*s)),
+            Call::Kind(h) => $form!($on kind(*h)),
+            Call::GetBool(value) => $form!($on get_bool(*value)),
+            Call::GetInt(value) => $form!($on get_int(*value)),
+            Call::MakeInt(min, max) => $form!($on make_int(*min, *max)),
+            Call::GetFloat(bits) => $form!($on get_float(f64::from_bits(*bits))),
+            Call::MakeFloat(sz, bits) => $form!($on make_float(*sz, f64::from_bits(*bits))),
+            Call::GetTuple(types) => $form!($on get_tuple(types)),
+            Call::GetStr(name) => $form!($on get_str(name)),
+            Call::GetStruct(name, fields) => $form!($on get_struct(*name, fields)),
+            Call::MakeAry(len, len_alias, body, body_alias, text) => $form!($on make_ary(*len, *len_alias, *body, *body_alias, text)),
+            Call::MakeStructFref(name) => $form!($on make_struct_fref(*name)),
+            Call::GetMemPtr(to, nil) => $form!($on get_mem_ptr(*to, *nil)),
+            Call::GetMem(alias, t) => $form!($on get_mem(*alias, *t)),
+            Call::Meet(a, b) => $form!($on meet(*a, *b)),
+            Call::MeetList(types) => $form!($on meet_list(types)),
+            Call::Isa(a, b) => $form!($on isa(*a, *b)),
+            Call::Dual(a) => $form!($on dual(*a)),
+            Call::Join(a, b) => $form!($on join(*a, *b)),
+            Call::Glb(a) => $form!($on glb(*a)),
+            Call::Lub(a) => $form!($on lub(*a)),
+            Call::IsFinal(a) => $form!($on is_final(*a)),
+            Call::MakeRo(a) => $form!($on make_ro(*a)),
+            Call::MakeInit(a) => $form!($on make_init(*a)),
+            Call::MakeZero(a) => $form!($on make_zero(*a)),
+            Call::NonZero(a) => $form!($on non_zero(*a)),
+            Call::IsHigh(a) => $form!($on is_high(*a)),
+            Call::IsHighOrConstant(a) => $form!($on is_high_or_constant(*a)),
+            Call::IsConstant(a) => $form!($on is_constant(*a)),
+            Call::IsFref(a) => $form!($on is_fref(*a)),
+            Call::LogSize(a) => $form!($on log_size(*a)),
+            Call::IntMin(a) => $form!($on int_min(*a)),
+            Call::IntMax(a) => $form!($on int_max(*a)),
+            Call::IntValue(a) => $form!($on int_value(*a)),
+            Call::IntMask(a) => $form!($on int_mask(*a)),
+            Call::FloatSz(a) => $form!($on float_sz(*a)),
+            Call::FloatIsF32(a) => $form!($on float_is_f32(*a)),
+            Call::FloatValue(a) => $form!($on float_value(*a)),
+            Call::FloatReading(a) => $form!($on float_reading(*a)),
+            Call::StructName(s) => $form!($on struct_name(*s)),
+            Call::StructFields(s, _) => $form!($on struct_fields(*s, $output)),
+            Call::Find(s, name) => $form!($on find(*s, *name)),
+            Call::FindAlias(s, alias) => $form!($on find_alias(*s, *alias)),
+            Call::IsAry(s) => $form!($on is_ary(*s)),
+            Call::Offset(s, index) => $form!($on offset(*s, *index)),
+            Call::Offsets(s, _) => $form!($on offsets(*s, $output)),
+            Call::AryBase(s) => $form!($on ary_base(*s)),
+            Call::AryScale(s) => $form!($on ary_scale(*s)),
         }
     };
 }
 
 macro_rules! function {
-    ($words:ident $shape:ident $name:ident($($arg:expr),*)) => {
+    ($words:ident $name:ident($($arg:expr),*)) => {
         calls::$name($words, $($arg),*).map(Words::words)
     };
 }
 
 macro_rules! method {
-    ($store:ident $shape:ident $name:ident($($arg:expr),*)) => {
+    ($store:ident $name:ident($($arg:expr),*)) => {
         $store.$name($($arg),*).map(Words::words)
     };
 }
 
-macro_rules! function_added {
-    ($words:ident make $name:ident($($arg:expr),*)) => {
-        Some(calls::added::$name($words, $($arg),*))
-    };
-    ($words:ident ask $name:ident($($arg:expr),*)) => {{
-        $(let _ = $arg;)*
-        None
-    }};
-}
-
-macro_rules! method_added {
-    ($store:ident make $name:ident($($arg:expr),*)) => {
-        Some($store.added().$name($($arg),*))
-    };
-    ($store:ident ask $name:ident($($arg:expr),*)) => {{
-        $(let _ = $arg;)*
-        None
-    }};
-}
-
 macro_rules! name {
-    ($on:ident $shape:ident $name:ident($($arg:expr),*)) => {{
+    ($on:ident $name:ident($($arg:expr),*)) => {{
         $(let _ = $arg;)*
         stringify!($name)
-    }};
-}
-
-macro_rules! reporting_name {
-    ($on:ident make $name:ident($($arg:expr),*)) => {{
-        $(let _ = $arg;)*
-        Some(concat!(stringify!($name), "_added"))
-    }};
-    ($on:ident ask $name:ident($($arg:expr),*)) => {{
-        $(let _ = $arg;)*
-        None
     }};
 }
 
@@ -212,14 +181,12 @@ impl Call {
         make!(self, (), name self)
     }
 
-    /// The name of the form that tells how many words it appended, if the call may append.
-    pub fn reporting_name(&self) -> Option<&'static str> {
-        make!(self, (), reporting_name self)
-    }
-
     /// Whether the call may append to the words; it then answers a handle.
     pub fn appends(&self) -> bool {
-        self.reporting_name().is_some()
+        let makes =
+            ["get_int", "make_int", "get_float", "make_float", "get_tuple", "get_str", "get_struct", "make_ary", "make_struct_fref"];
+        let others = ["get_mem_ptr", "get_mem", "meet", "meet_list", "join", "dual", "glb", "lub", "make_ro", "non_zero"];
+        makes.contains(&self.name()) || others.contains(&self.name())
     }
 
     /// An output as this call wants it; it has no words where the call takes none.
@@ -240,18 +207,5 @@ impl Call {
 
     pub fn on_opened(&self, store: &mut OpenedStore<'_>, output: &mut [u64]) -> Told {
         make!(self, output, method store)
-    }
-
-    /// The handle, and how many words were appended; nothing of a call that appends none.
-    pub fn on_words_added(&self, words: &mut [u64]) -> Option<Result<Made, Refusal>> {
-        make!(self, (), function_added words)
-    }
-
-    pub fn on_store_added(&self, store: &mut Store<'_>) -> Option<Result<Made, Refusal>> {
-        make!(self, (), method_added store)
-    }
-
-    pub fn on_opened_added(&self, store: &mut OpenedStore<'_>) -> Option<Result<Made, Refusal>> {
-        make!(self, (), method_added store)
     }
 }

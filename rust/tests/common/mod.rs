@@ -1,6 +1,5 @@
 //! What several tests share. Each of them uses a part of it.
 #![allow(dead_code)]
-pub mod by_c;
 pub mod call;
 pub mod files;
 pub mod play;

@@ -14,7 +14,7 @@ fn merged() -> Result<(i64, i64), Refusal> {
     let mut store = Store::fresh(&mut words)?;
     let (counter, eight) = (store.make_int(0, 7)?, store.get_int(8)?);
     let plain = store.meet(counter, eight)?;
-    let opened = store.open(&mut index, &mut [])?.added().meet(eight, counter)?.handle;
+    let opened = store.open(&mut index, &mut [])?.meet(eight, counter)?;
     let mut file = [0; file_length(4, 128)];
     let length = store.save_into(b"lift", &mut file)?;
     let mut others = [7; 128];

@@ -49,7 +49,7 @@ fn argument(word: &str) -> &str {
 fn each_line_that_help_names_is_a_call() {
     let help = ferigulan(&["help", "script"], "").text();
     let usages: Vec<&str> = help.lines().filter(|line| line.starts_with("  ")).map(|line| line[..33].trim()).collect();
-    assert_eq!(usages.len(), 71);
+    assert_eq!(usages.len(), 70);
     let lines = usages.iter().map(|usage| usage.replace("HEX", "61").replace("W..", "1 5 0 0").replace("H..", "5 6"));
     let lines = lines.map(|line| line.split(' ').map(argument).collect::<Vec<_>>().join(" "));
     let ran = ferigulan(&["run"], lines.collect::<Vec<_>>().join("\n"));
@@ -60,7 +60,7 @@ fn each_line_that_help_names_is_a_call() {
 #[test]
 fn what_is_no_call_is_told_with_its_place() {
     let script = "fresh 100\nfoo 1\nget_int 5\nint  5\nint 0x\nmeet 5\npoke 100 1\nlist 1048577\nfields 18 1048577\nstr 616\n".to_string()
-        + "meet_rep 131073 5\nmeet_rep 5\nstr \n check\ncheck\r\nx\0\u{1b}y\nfind_entry\nwords_added 5\n";
+        + "meet_rep 131073 5\nmeet_rep 5\nstr \n check\ncheck\r\nx\0\u{1b}y\nfind_entry\n";
     let ran = ferigulan(&["run"], script);
     let messages = [
         "2: there is no call 'foo'",
@@ -79,7 +79,6 @@ fn what_is_no_call_is_told_with_its_place() {
         "15: the line ends in a carriage return",
         "16: there is no call 'x\\x00\\x1by'",
         "17: it is written 'find_entry W..'",
-        "18: it is written 'words_added'",
     ];
     assert_eq!(ran.err.lines().collect::<Vec<_>>(), messages.map(|message| format!("standard input:{message}")));
     assert_eq!(ran.text().lines().filter(|line| line.ends_with(" => ?")).count(), messages.len());

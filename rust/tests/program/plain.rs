@@ -49,8 +49,7 @@ const NAMES: &str =
     "list fresh poke peek dump dumpall check open close kind get_bool int float tuple str struct fref ptr mem ary meet isa \
     dual join glb lub is_final make_ro make_init make_zero non_zero is_high is_high_or_constant is_constant is_fref \
     log_size min max value mask sz is_f32 float_value reading name fields find find_alias is_ary offset offsets ary_base \
-    ary_scale meet_list meet_rep keep kept find_entry save load reload file fadd fpoke fcut words_added words_added \
-    words_added words_added get_int foo";
+    ary_scale meet_list meet_rep keep kept find_entry save load reload file fadd fpoke fcut get_int foo";
 
 fn random_number(random: &mut Random) -> String {
     const HANDLES: [u64; 24] = [1, 3, 5, 6, 7, 8, 9, 12, 15, 18, 20, 22, 25, 40, 55, 58, 61, 64, 76, 85, 88, 94, 97, 100];
@@ -93,7 +92,6 @@ fn random_line(random: &mut Random) -> String {
         "dual" | "kind" | "glb" => 1,
         "meet" | "isa" | "join" | "ptr" | "meet_rep" => 2,
         "keep" | "kept" | "load" | "reload" | "file" | "fadd" | "save" => 0,
-        "words_added" => random.of(&[0, 0, 0, 0, 0, 0, 0, 1]),
         "struct" => 5,
         "find_entry" => random.of(&[0, 0, 0, 1, 3]),
         _ => random.below(4),
@@ -146,64 +144,6 @@ fn plain_looks_for_entries() {
     assert_eq!(ran.text(), format!("-1\nok\n{answers}ok\nok\n{answers}ok\n-1\n"));
     let long = format!("fresh 94\nfind_entry 261{}\n", " 0".repeat(131_000));
     assert_eq!(ferigulan(&["run", "--plain"], long).text(), "ok\nabsent 12\n");
-}
-
-/// What each line reports: a line and the number that `words_added` prints behind it.
-const REPORTED: [(&str, &str, u64); 22] = [
-    ("words_added", "0", 0),
-    ("fresh 109", "ok", 0),
-    ("int 0 7", "94", 3),
-    ("int 0 7", "94", 0),
-    ("int 8", "97", 3),
-    ("meet 94 97", "100", 3),
-    ("meet 97 94", "100", 0),
-    ("isa 94 100", "1", 0),
-    ("str 61", "103", 2),
-    ("peek 0", "105", 0),
-    ("tuple", "105", 1),
-    ("tuple 2", "-2", 0),
-    ("meet_list 28 12 9", "-12", 0),
-    ("meet_list 12 28", "106", 3),
-    ("foo", "? foo", 0),
-    ("int 1 2", "106", 0),
-    ("int 0 2", "-12", 0),
-    ("words_added 1", "? words_added 1", 0),
-    ("str", "-12", 0),
-    ("glb 94", "25", 0),
-    ("check", "1", 0),
-    ("get_bool 1", "12", 0),
-];
-
-/// The script whose lines are these, each with `words_added` behind it, and what it prints.
-fn reported<'a>(lines: impl Iterator<Item = (&'a str, &'a str, u64)>) -> (String, String) {
-    lines.map(|(line, answer, added)| (format!("{line}\nwords_added\n"), format!("{answer}\n{added}\n"))).unzip()
-}
-
-/// Plain and opened, which `words_added` leaves open.
-#[test]
-fn plain_tells_how_many_words_were_added() {
-    let (script, printed) = reported(REPORTED.into_iter());
-    assert_eq!(ferigulan(&["run", "--plain"], script).text(), printed);
-    let opened = REPORTED[..2].iter().chain(&[("open", "ok", 0)]).chain(&REPORTED[2..]).copied();
-    let (script, printed) = reported(opened);
-    assert_eq!(ferigulan(&["run", "--plain"], script).text(), printed);
-}
-
-/// Passed over are empty lines, comments and `words_added` itself; not lines that are no calls, or that change the list.
-#[test]
-fn plain_tells_of_the_last_line_that_says_something() {
-    let long = "x".repeat(LONGEST);
-    let script = format!("fresh 200\nint 3\n\n; a comment\nwords_added\n  ; another\nwords_added ; again\n{long}\nwords_added\n");
-    let printed = format!("ok\n94\n3\n3\n? {long}\n0\n");
-    assert_eq!(ferigulan(&["run", "--plain"], script).text(), printed);
-    for line in ["fresh", "list 94", "poke 99 0", "open", "close", "save 40", "reload", "load 00", "keep", "fadd 00"] {
-        let script = format!("fresh 200\nint 3\n{line}\nwords_added\nopen\nint 4\n{line}\nwords_added\n");
-        let ran = ferigulan(&["run", "--plain"], script).text();
-        assert_eq!((ran.lines().nth(3), ran.lines().last()), (Some("0"), Some("0")), "{line}");
-    }
-    // each script begins anew
-    let two = ferigulan(&["run", "--plain", "examples/merge.txt", "-"], "words_added\n");
-    assert!(two.text().ends_with("\n0\n"));
 }
 
 #[test]

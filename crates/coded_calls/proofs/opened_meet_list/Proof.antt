@@ -1,5 +1,5 @@
 -- `coded_calls::opened_meet_list` meets its contract.
-use Rattle.codes.proofs.Told.{coded_made}
+use Rattle.codes.proofs.Told.{coded}
 use borrow.Author.Rules.{rules}
 use Rattle.coded_calls.proofs.opened_meet_list.Statement.{statement}
 use Rattle.coded_calls.proofs.opened_meet_list.Tie as tie
@@ -20,7 +20,7 @@ same-length-3 : tie.Need-same-length-3
 same-length-3 c = search rules
 
 returns : tie.Need-returns
-returns c = (search coded_made, search rules)
+returns c = (search coded, search rules)
 
 pub opened-meet-list-spec : {M : Type 1} → statement M
 opened-meet-list-spec =

@@ -1,6 +1,6 @@
 -- A call that no row turns back: its operation, and the end, by the ways that every call goes.
 use Rattle.std.proofs.Common.{sym, ◌∙◌, arith, rules}
-use Rattle.call.proofs.Ways.{begun, onward, ended}
+use Rattle.call.proofs.Ways.{begun, ended}
 use Rattle.making.proofs.As.{appended_is}
 use Rattle.making.proofs.Grows.{making_grows}
 use Rattle.every_call.proofs.Cleared.{whole}
@@ -21,9 +21,8 @@ finish-requires : tie.Need-finish-requires
 finish-requires c κs =
     let s = c.before.before.before.before.before.before.before.before.before.before.before.before.before.before.before.before.before.before.before.before.before.before in
     let g = begun _ _ s.requires.0.0 s.requires.0.1 in
-    let o = c.before.before.before.before.before.before.before.before.before.before.before.operate in
-    let k = o.auto.1.0 in
-    ((omega (arith, g.some, k), omega (arith, g.within, k)), onward _ _ _ _ _ g.within (making_grows s.args.making s.args.list.now s.args.text.now _) o.ensures.0)
+    let k = c.before.before.before.before.before.before.before.before.before.before.before.operate.auto.1.0 in
+    (omega (arith, g.some, k), omega (arith, g.within, k))
 
 same_length : tie.Need-same-length
 same_length c = search rules

@@ -62,7 +62,7 @@ extend-requires c κs =
     let s = c.before.before.before.before.before.before.before.before.before.before.before.before.before.before.before.before.before.before.before.before.before.before.before.before in
     let a = c.before.before.before.before.before.before.before.append in
     let k = appended s.args.making s.args.list.now s.args.text.now in
-    (after_well _ _ k a.ensures.1.1 s.requires.well a.result a.ensures.0, after_stale _ _ k a.ensures.1.1 s.requires.well a.result a.ensures.0 _ a.auto.0 s.requires.whole)
+    (after_well _ _ k a.ensures.1.1 s.requires.well _ a.ensures.0, after_stale _ _ k a.ensures.1.1 s.requires.well _ a.ensures.0 _ a.auto.0 s.requires.whole)
 
 same-length-3 : tie.Need-same-length-3
 same-length-3 c = search rules
@@ -78,7 +78,7 @@ returns-2 c =
     let s = c.before.before.before.before.before.before.before.before.before.before.before.before.before.before.before.before.before.before.before.before.before.before.before.before.before.before.before in
     let a = c.before.before.before.before.before.before.before.before.before.before.append in
     let k = appended s.args.making s.args.list.now s.args.text.now in
-    (a.ensures.0, record { well = after_well _ _ k a.ensures.1.1 s.requires.well a.result a.ensures.0; whole = c.before.before.extend.ensures; right = a.ensures.1.0 })
+    (a.ensures.0, record { well = after_well _ _ k a.ensures.1.1 s.requires.well _ a.ensures.0; whole = c.before.before.extend.ensures; right = a.ensures.1.0 })
 
 pub append-spec : {M : Type 1} → statement M
 append-spec =

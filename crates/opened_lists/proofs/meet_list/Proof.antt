@@ -2,13 +2,13 @@
 use mathlib.Core.Path.{sym, ap, ◌∙◌}
 use native.Mathlib.Omega.{arith}
 use Rattle.call.specs.declared.Made.{Made}
-use Rattle.call.specs.Call.{outcome}
+use Rattle.call.specs.Call.{left, made}
 use Rattle.call.proofs.Ways.{turned}
 use Rattle.every_call.specs.MeetList.{meet_list_rows, meet_list_of}
 use Rattle.store_index.proofs.Index.{marks_long}
 use Rattle.store_index.proofs.Store.{first_word, few_words, used_is, used_some, used_within}
 use Rattle.opened.proofs.Store.{marked_rows}
-use Rattle.opened_lists.proofs.Ends.{list_ready, lent_opened, list_onward, list_end}
+use Rattle.opened_lists.proofs.Ends.{list_ready, lent_opened, list_end}
 use borrow.Author.Rules.{rules}
 use Rattle.opened_lists.proofs.meet_list.Statement.{statement}
 use Rattle.opened_lists.proofs.meet_list.Tie as tie
@@ -61,9 +61,8 @@ merge-requires c κs =
 finish-requires : tie.Need-finish-requires
 finish-requires c κs =
     let s = c.before.before.before.before.before.before.before.before.before.before.before.before.before.before.before.before.before.before.before.before.before in
-    let q = sym c.before.before.before.before.before.before.before.before.before.before.before.before.list-rows.ensures ∙ c.before.before.before.before.before.before.before.before.before.before.before.if1.false in
-    let g = c.before.before.before.before.before.before.before.merge in
-    ((omega (arith, first_word _ s.requires.well, g.auto.0), omega (arith, used_within _ s.requires.well, g.auto.0)), list_onward _ _ _ _ s.requires q _ c.before.before.before.before.before.before.before.before.before.before.before.before.before.before.before.marks-size.ensures.0 _ _ g.ensures.0)
+    let k = c.before.before.before.before.before.before.before.merge.auto.0 in
+    (omega (arith, first_word _ s.requires.well, k), omega (arith, used_within _ s.requires.well, k))
 
 enum-known-m : tie.Need-enum-known-m
 enum-known-m c = search rules
@@ -75,7 +74,7 @@ mark-new-requires c κs =
     let g = c.before.before.before.before.before.before.before.before.before.before.before.before.before.before.before.merge in
     let f = c.before.before.before.before.before.before.before.finish in
     let e = list_end _ _ _ _ s.requires q _ c.before.before.before.before.before.before.before.before.before.before.before.before.before.before.before.before.before.before.before.before.before.before.before.marks-size.ensures.0 _ _ g.ensures.0 g.auto.0 f.result _ f.ensures f.auto.0 g.new.1.1.1.0 g.auto.1.1.1.0 in
-    (e.well, e.unmarked _ _ c.before.before.before.m.given.1 g.ensures.1.0)
+    (e.well, e.unmarked _ c.before.before.before.m.given.1 g.ensures.1.0)
 
 enum-known-m-2 : tie.Need-enum-known-m-2
 enum-known-m-2 c = search rules
@@ -106,7 +105,7 @@ returns-2 c =
     let f = c.before.before.before.before.before.before.before.before.before.before.finish in
     let e = list_end _ _ _ _ s.requires q _ c.before.before.before.before.before.before.before.before.before.before.before.before.before.before.before.before.before.before.before.before.before.before.before.before.before.before.marks-size.ensures.0 _ _ g.ensures.0 g.auto.0 f.result _ f.ensures f.auto.0 g.new.1.1.1.0 g.auto.1.1.1.0 in
     let h = c.before.before.before.before.before.before.m.given.1 in
-    (ap (λ (x : Made). outcome x f.new.0) (sym h) ∙ e.reply, record { well = e.well; whole = c.before.before.mark-new.ensures; right = e.right _ _ h _ g.ensures.1.1 })
+    (ap (λ (x : Made). left (made x) f.new.0) (sym h) ∙ e.reply, record { well = e.well; whole = c.before.before.mark-new.ensures; right = e.right _ h _ g.ensures.1.1 })
 
 same-length-6 : tie.Need-same-length-6
 same-length-6 c = search rules
@@ -124,7 +123,7 @@ returns-3 c =
     let g = c.before.before.before.before.before.before.before.before.before.before.before.before.before.before.before.before.before.before.before.before.before.merge in
     let f = c.before.before.before.before.before.before.before.before.before.before.before.before.before.finish in
     let e = list_end _ _ _ _ s.requires q _ c.before.before.before.before.before.before.before.before.before.before.before.before.before.before.before.before.before.before.before.before.before.before.before.before.before.before.before.before.before.marks-size.ensures.0 _ _ g.ensures.0 g.auto.0 f.result _ f.ensures f.auto.0 g.new.1.1.1.0 g.auto.1.1.1.0 in
-    (ap (λ (x : Made). outcome x f.new.0) (sym c.before.before.before.before.before.before.before.before.before.m2.given.1) ∙ e.reply, c.before.before.before.before.build.ensures)
+    (ap (λ (x : Made). left (made x) f.new.0) (sym c.before.before.before.before.before.before.before.before.before.m2.given.1) ∙ e.reply, c.before.before.before.before.build.ensures)
 
 pub meet-list-spec : {M : Type 1} → statement M
 meet-list-spec =

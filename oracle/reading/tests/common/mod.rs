@@ -1,7 +1,7 @@
 //! A lent list on which each call is run in both ways, plain and held, and asked for what every call must keep.
 #![allow(dead_code)]
 
-use reading::{load, reported, save, well_formed, Call, Held, Reply, Reported};
+use reading::{answer, load, save, well_formed, Call, Held, Reply};
 
 pub struct List {
     pub words: Vec<u64>,
@@ -18,45 +18,26 @@ impl List {
         self.call_with(call, &mut [])
     }
 
+    /// The call. Checked besides: the held way answers and leaves the same; a refusal changes nothing; what is answered once is answered
+    /// again with nothing appended.
     pub fn call_with(&mut self, call: &Call, output: &mut [u64]) -> Reply {
-        self.reported_with(call, output).reply
-    }
-
-    /// The words that a call reports.
-    pub fn added(&mut self, call: &Call) -> u64 {
-        self.reported_with(call, &mut []).added
-    }
-
-    /// The call. Checked besides: the held way answers and leaves the same; a refusal changes nothing; what is reported is what word 0 has
-    /// grown by; what is answered once is answered again with nothing appended, which is reported.
-    pub fn reported_with(&mut self, call: &Call, output: &mut [u64]) -> Reported {
         let (words, before) = (self.words.clone(), output.to_vec());
-        let told = reported(&mut self.words, call, output);
-        if let Reply::Refused(_) = told.reply {
+        let reply = answer(&mut self.words, call, output);
+        if let Reply::Refused(_) = reply {
             assert!(self.words == words && output == before, "{call:?} is refused and changes a word");
         }
-        self.check_report(call, &words, told.added);
-        self.check_held(call, (words, before), told, output);
+        self.check_held(call, (words, before), reply, output);
         let (words, after) = (self.words.clone(), output.to_vec());
-        assert_eq!(reported(&mut self.words, call, output), Reported { added: 0, ..told }, "{call:?} the second time");
+        assert_eq!(answer(&mut self.words, call, output), reply, "{call:?} the second time");
         assert!(self.words == words && output == after, "{call:?} changes a word the second time");
-        told
+        reply
     }
 
-    /// "94 plus all reported sums is word 0", call by call. A fresh store starts the count.
-    fn check_report(&self, call: &Call, before: &[u64], added: u64) {
-        match (call, before.first(), self.words.first()) {
-            (Call::Fresh, ..) => assert_eq!(added, 0),
-            (_, Some(before), Some(after)) => assert_eq!(Some(*after), before.checked_add(added), "{call:?} reports {added}"),
-            _ => assert_eq!(added, 0),
-        }
-    }
-
-    fn check_held(&self, call: &Call, (words, mut held_output): (Vec<u64>, Vec<u64>), told: Reported, output: &[u64]) {
+    fn check_held(&self, call: &Call, (words, mut held_output): (Vec<u64>, Vec<u64>), reply: Reply, output: &[u64]) {
         match Held::new(words) {
-            Err(words) => assert!(!well_formed(&words) && (told.reply == Reply::Refused(1) || *call == Call::Fresh)),
+            Err(words) => assert!(!well_formed(&words) && (reply == Reply::Refused(1) || *call == Call::Fresh)),
             Ok(mut held) => {
-                assert_eq!(held.reported(call, &mut held_output), told, "{call:?} held");
+                assert_eq!(held.answer(call, &mut held_output), reply, "{call:?} held");
                 assert!(held.words() == self.words && held_output == output, "{call:?} held leaves other words");
                 assert!(well_formed(held.words()));
             }

@@ -12,12 +12,7 @@ pub struct Script {
     kept: Vec<u64>,
     /// The file that was last written; the empty one before.
     pub file: Vec<u8>,
-    /// What the last line reported: words that a call has appended, 0 for every other line.
-    added: u64,
 }
-
-/// How often a handle stands in a list at most: where it is more often, the line is no call.
-const MOST_REPEATED: u64 = 131_072;
 
 /// "Numbers are decimal (a negative one stands for its two's complement word) or 0x hex".
 fn number(word: &str) -> Option<u64> {
@@ -40,10 +35,6 @@ fn joined(words: &[u64]) -> String {
 impl Script {
     /// The answer that a line prints.
     pub fn run(&mut self, line: &str) -> String {
-        if line == "words_added" {
-            return self.added.to_string();
-        }
-        self.added = 0;
         let (call, rest) = line.split_once(' ').unwrap_or((line, ""));
         let answer = self.on_the_list(call, rest).or_else(|| self.on_the_file(call, rest)).or_else(|| self.call(call, rest));
         answer.unwrap_or_else(|| format!("? {line}"))
@@ -98,7 +89,6 @@ impl Script {
             ("struct", [name, fields @ ..]) => self.reply(&Call::GetStruct(*name, fields), 0),
             ("find_entry", entry @ [_, ..]) => self.reply(&Call::FindEntry(entry), 0),
             ("meet_list", types) => self.reply(&Call::MeetList(types), 0),
-            ("meet_rep", &[count, _]) if count > MOST_REPEATED => None,
             ("meet_rep", &[count, t]) => self.reply(&Call::MeetList(&vec![t; count as usize]), 0),
             ("fields", &[s, length]) => self.reply(&Call::StructFields(s), length),
             ("offsets", &[s, length]) => self.reply(&Call::Offsets(s), length),
@@ -110,9 +100,8 @@ impl Script {
 
     fn reply(&mut self, call: &Call, length: u64) -> Option<String> {
         let mut output = vec![7777; length as usize];
-        let told = self.on_words(|list| list.reported_with(call, &mut output));
-        self.added = told.added;
-        Some(match told.reply {
+        let reply = self.on_words(|list| list.call_with(call, &mut output));
+        Some(match reply {
             Reply::Refused(row) => format!("-{row}"),
             Reply::Done => "ok".to_string(),
             Reply::Handle(number) | Reply::Number(number) => number.to_string(),
@@ -130,11 +119,11 @@ impl Script {
     }
 
     /// The words as a list that checks what a call must keep.
-    fn on_words<T>(&mut self, call: impl FnOnce(&mut List) -> T) -> T {
+    fn on_words(&mut self, call: impl FnOnce(&mut List) -> Reply) -> Reply {
         let mut list = List { words: std::mem::take(&mut self.words) };
-        let told = call(&mut list);
+        let reply = call(&mut list);
         self.words = list.words;
-        told
+        reply
     }
 }
 

@@ -54,7 +54,6 @@ impl Trial<'_, '_, '_> {
         self.compare_kept("file", lent.bytes(), &file)?;
         if let Answer::Number(_) = self.last {
             self.law = Law::default();
-            self.start_count();
             let made = self.original.load(self.model.words());
             made.map_err(|at| Difference::new(format!("; the Rust makes no such entry as that at {at}, or made it before")))?;
         }

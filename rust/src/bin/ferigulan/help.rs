@@ -100,10 +100,6 @@ words more: where they start, and how many they are. save prints its length,
 and then all OUTLEN bytes, which hold 77 where nothing was written; the file is
 kept. load and reload tell the label's length. 'catalogue' shows files.
 
-words_added tells how many words the line before it appended: 0 where nothing
-was new, where it was refused, and where it is no call that appends. Empty
-lines, comments and words_added itself are passed over.
-
 ";
 
 pub fn script() -> String {

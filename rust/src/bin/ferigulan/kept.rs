@@ -1,6 +1,5 @@
-//! What a script keeps beside its list: the list as it once was, a file, and how many words the last line appended.
+//! What a script keeps beside its list: the list as it once was, and a file.
 use crate::script::Said;
-use crate::session::Reply;
 use crate::spell::Answer;
 use crate::spelling::grouped;
 use ferigulan::calls;
@@ -8,39 +7,27 @@ use ferigulan::calls;
 /// What each byte of an output holds before a call.
 const BLANK: u8 = 0x77;
 
-/// List and file are empty, as a script's list is at its beginning, until the script says otherwise.
+/// Both are empty, as a script's list is at its beginning, until the script says otherwise.
 pub struct Kept {
     list: Vec<u64>,
     /// The last file that was written, or what the script has made of it.
     file: Vec<u8>,
     /// How many bytes a file, and its output, may have.
     most: u64,
-    /// How many words the last line appended, of those that say something and do not ask for this number.
-    added: usize,
 }
 
 impl Kept {
     pub fn new(most: u64) -> Kept {
-        Kept { list: Vec::new(), file: Vec::new(), most, added: 0 }
+        Kept { list: Vec::new(), file: Vec::new(), most }
     }
 
-    /// Takes note of how many words a line appended: none where it is no call.
-    pub fn note(&mut self, reply: &Reply) {
-        match reply {
-            Reply::Nothing | Reply::Answer(Answer::Added(_)) => (),
-            Reply::Answer(answer) => self.added = answer.added(),
-            Reply::Malformed(_) => self.added = 0,
-        }
-    }
-
-    /// Answers a line about the list as it was, about the file, or about the line before.
+    /// Answers a line about the list as it was, or about the file.
     pub fn answer(&mut self, words: &[u64], said: Said, text: &[u8]) -> Result<Option<Answer>, String> {
         match said {
             ("keep", []) => words.clone_into(&mut self.list),
             ("kept", []) => return Ok(Some(Answer::Flag(words == self.list))),
             ("save", &[length]) => return self.save(words, text, length).map(Some),
             ("file", []) => return Ok(Some(Answer::File(self.file.clone()))),
-            ("words_added", []) => return Ok(Some(Answer::Added(self.added))),
             ("fadd", []) => self.lengthen(text)?,
             ("fpoke", &[at, byte]) => *self.byte(at)? = u8::try_from(byte).map_err(|_| format!("{byte} is no byte"))?,
             ("fcut", &[length]) => self.file.truncate(usize::try_from(length).unwrap_or(usize::MAX)),

@@ -46,7 +46,6 @@ pub const LINES: &[Usage] = &[
     Usage { name: "fadd", arguments: "HEX", call: "", does: "adds bytes to its end" },
     Usage { name: "fpoke", arguments: "I B", call: "", does: "sets its byte I to B" },
     Usage { name: "fcut", arguments: "N", call: "", does: "cuts it to at most N bytes" },
-    Usage { name: "words_added", arguments: "", call: "", does: "how many words the line before it appended" },
     Usage { name: "open", arguments: "", call: "open", does: "opens the store: the same answers, sooner" },
     Usage { name: "close", arguments: "", call: "", does: "closes it; so do poke, list, fresh and load" },
 ];
@@ -83,7 +82,6 @@ impl Session {
                 more = self.run_opened(script, page)?;
             } else {
                 let reply = reply(&script.line, |said| self.answer(said, &script.line.text));
-                self.kept.note(&reply);
                 page.put(&script.line, &reply, &self.words, &self.output)?;
                 more = advance(script, page)?;
             }
@@ -99,17 +97,20 @@ impl Session {
         self.memory.resize(memory_len(n), 0);
         let mut store = Store::from_words(&mut self.words);
         let opened = store.as_mut().map_err(|refusal| *refusal).and_then(|store| store.open(&mut self.index, &mut self.memory));
-        let told = Reply::Answer(opened.as_ref().map_or_else(|refusal| Answer::Refused(*refusal), |_| Answer::Accepted));
-        self.kept.note(&told);
-        page.put(&script.line, &told, &[], &[])?;
-        let Ok(mut opened) = opened else { return advance(script, page) };
+        let mut opened = match opened {
+            Ok(opened) => opened,
+            Err(refusal) => {
+                page.put(&script.line, &Reply::Answer(Answer::Refused(refusal)), &[], &[])?;
+                return advance(script, page);
+            }
+        };
+        page.put(&script.line, &Reply::Answer(Answer::Accepted), &[], &[])?;
         while advance(script, page)? {
             if ends_opened(&script.line) {
                 return Ok(true);
             }
             let mut lent = Lent { text: &script.line.text, output: &mut self.output, most_output: self.limits.output };
             let reply = reply(&script.line, |said| answer_opened(&mut opened, said, &mut lent, &mut self.kept));
-            self.kept.note(&reply);
             page.put(&script.line, &reply, opened.words(), &self.output)?;
         }
         Ok(false)

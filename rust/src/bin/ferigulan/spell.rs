@@ -4,15 +4,13 @@ use crate::names::quoted;
 use crate::readable::{constant, float_size, readable};
 use crate::spelling::{grouped, hex, row};
 use crate::wrong::used;
-use ferigulan::{Handle, Kind, Made, Reading, Refusal, Search, LONGEST_LABEL};
+use ferigulan::{Handle, Kind, Reading, Refusal, Search, LONGEST_LABEL};
 
 /// What a line of the script answers.
 pub enum Answer {
     Accepted,
     Refused(Refusal),
     Handle(Handle),
-    /// The handle that a call which may append hands back, and how many words it appended.
-    Made(Made),
     Kind(Kind),
     Number(u64),
     Signed(i64),
@@ -33,8 +31,6 @@ pub enum Answer {
     Loaded(Vec<u8>),
     /// The kept file.
     File(Vec<u8>),
-    /// How many words the last line before appended.
-    Added(usize),
     /// The used words of the list.
     Used,
     /// All words of the list.
@@ -58,20 +54,12 @@ pub fn size(size: i8) -> Answer {
 }
 
 impl Answer {
-    /// How many words the line appended: a call that may append tells it, and any other line has appended nothing.
-    pub fn added(&self) -> usize {
-        match self {
-            Answer::Made(made) => made.added,
-            _ => 0,
-        }
-    }
-
     /// The answer as `calls` prints it, with the words of the list and of the output.
     pub fn plain(&self, words: &[u64], output: &[u64]) -> String {
         match self {
             Answer::Accepted => "ok".to_string(),
             Answer::Refused(refusal) => format!("-{}", refusal.number()),
-            Answer::Handle(handle) | Answer::Made(Made { handle, .. }) => handle.to_string(),
+            Answer::Handle(handle) => handle.to_string(),
             Answer::Kind(kind) => kind.number().to_string(),
             Answer::Number(n) | Answer::LogSize(n) => n.to_string(),
             Answer::Signed(n) | Answer::Mask(n) => format!("={n}"),
@@ -87,7 +75,6 @@ impl Answer {
             Answer::Saved(n, output) => format!("{n} : {}", hex(output)),
             Answer::Loaded(label) => label.len().to_string(),
             Answer::File(bytes) => hex(bytes),
-            Answer::Added(n) => n.to_string(),
             Answer::Used => row(&words[..used(words)]),
             Answer::All => row(words),
         }
@@ -98,7 +85,7 @@ impl Answer {
     pub fn meaning(&self, words: &[u64]) -> String {
         match self {
             Answer::Refused(refusal) => refusal.to_string(),
-            Answer::Handle(handle) | Answer::Made(Made { handle, .. }) => readable(words, handle.word()),
+            Answer::Handle(handle) => readable(words, handle.word()),
             Answer::Kind(kind) => kind_name(*kind).to_string(),
             Answer::Mask(mask) => format!("{mask:#x}"),
             Answer::LogSize(0) => "1 byte".to_string(),
@@ -111,7 +98,6 @@ impl Answer {
             }
             Answer::Search(Search { handle: None, count }) => compared(*count),
             Answer::Loaded(label) => format!("the label {}; {} words used", quoted(label, LONGEST_LABEL), used(words)),
-            Answer::Added(n) => if *n == 1 { "word added" } else { "words added" }.to_string(),
             Answer::Accepted | Answer::Number(_) | Answer::Signed(_) | Answer::Absent => String::new(),
             Answer::Filled(_) | Answer::Saved(..) | Answer::File(_) | Answer::Used | Answer::All => String::new(),
         }

@@ -54,36 +54,24 @@ fn repeated(n: u64, handle: u64) -> Result<Vec<Handle>, String> {
     Ok(vec![h(handle); n as usize])
 }
 
-/// The call on lent words, which tests row 1 first. One that `makes` what it answers is made by the function that also tells how many words
-/// it appended.
-macro_rules! on_words {
-    (answers $words:ident $call:ident $(, $argument:expr)*) => { calls::$call($words $(, $argument)*) };
-    (makes $words:ident $call:ident $(, $argument:expr)*) => { calls::added::$call($words $(, $argument)*) };
-}
-
-/// The same call on an opened store.
-macro_rules! on_opened {
-    (answers $store:ident $call:ident $(, $argument:expr)*) => { $store.$call($($argument),*) };
-    (makes $store:ident $call:ident $(, $argument:expr)*) => { $store.added().$call($($argument),*) };
-}
-
-/// The table, and its two readings. A line that is none of these answers nothing.
+/// The table, and its two readings: the call on lent words, which tests row 1 first, and the same call on an opened store. A line that is
+/// none of these answers nothing.
 macro_rules! table {
     ($lent:ident: $(
-        $name:literal $arguments:literal $does:literal $numbers:pat => $call:ident($($argument:expr),*) $tells:ident $answer:path;
+        $name:literal $arguments:literal $does:literal $numbers:pat => $call:ident($($argument:expr),*) answers $answer:path;
     )*) => {
         pub const CALLS: &[Usage] = &[$(Usage { name: $name, arguments: $arguments, call: stringify!($call), does: $does },)*];
 
         pub fn plain(words: &mut [u64], name: &str, numbers: &[u64], $lent: &mut Lent) -> Result<Option<Answer>, String> {
             Ok(Some(match (name, numbers) {
-                $(($name, $numbers) => on_words!($tells words $call $(, $argument)*).map_or_else(Answer::Refused, $answer),)*
+                $(($name, $numbers) => calls::$call(words $(, $argument)*).map_or_else(Answer::Refused, $answer),)*
                 _ => return Ok(None),
             }))
         }
 
         pub fn opened(store: &mut OpenedStore, name: &str, numbers: &[u64], $lent: &mut Lent) -> Result<Option<Answer>, String> {
             Ok(Some(match (name, numbers) {
-                $(($name, $numbers) => on_opened!($tells store $call $(, $argument)*).map_or_else(Answer::Refused, $answer),)*
+                $(($name, $numbers) => store.$call($($argument),*).map_or_else(Answer::Refused, $answer),)*
                 _ => return Ok(None),
             }))
         }
@@ -93,31 +81,31 @@ macro_rules! table {
 table! { lent:
     "kind" "H" "the kind of a type" &[a] => kind(h(a)) answers Answer::Kind;
     "get_bool" "V" "the Int 0 or 1" &[v] => get_bool(v) answers Answer::Handle;
-    "int" "V" "the Int of one number" &[v] => get_int(v as i64) makes Answer::Made;
-    "int" "MIN MAX" "the Int of a range" &[min, max] => make_int(min as i64, max as i64) makes Answer::Made;
-    "float" "BITS" "the Float of one constant" &[bits] => get_float(f64::from_bits(bits)) makes Answer::Made;
-    "float" "SZ BITS" "the Float of a size" &[sz, bits] => make_float(sz as i64, f64::from_bits(bits)) makes Answer::Made;
-    "tuple" "H.." "a tuple" types => get_tuple(&handles(types)) makes Answer::Made;
-    "str" "HEX" "a name" &[] => get_str(lent.text) makes Answer::Made;
-    "struct" "NAME W.." "a struct" &[name, ref fields @ ..] => get_struct(h(name), fields) makes Answer::Made;
-    "fref" "NAME" "a forward reference" &[name] => make_struct_fref(h(name)) makes Answer::Made;
-    "ptr" "TO NIL" "a pointer" &[to, nil] => get_mem_ptr(h(to), nil) makes Answer::Made;
-    "mem" "ALIAS T" "a memory type" &[alias, t] => get_mem(alias, h(t)) makes Answer::Made;
+    "int" "V" "the Int of one number" &[v] => get_int(v as i64) answers Answer::Handle;
+    "int" "MIN MAX" "the Int of a range" &[min, max] => make_int(min as i64, max as i64) answers Answer::Handle;
+    "float" "BITS" "the Float of one constant" &[bits] => get_float(f64::from_bits(bits)) answers Answer::Handle;
+    "float" "SZ BITS" "the Float of a size" &[sz, bits] => make_float(sz as i64, f64::from_bits(bits)) answers Answer::Handle;
+    "tuple" "H.." "a tuple" types => get_tuple(&handles(types)) answers Answer::Handle;
+    "str" "HEX" "a name" &[] => get_str(lent.text) answers Answer::Handle;
+    "struct" "NAME W.." "a struct" &[name, ref fields @ ..] => get_struct(h(name), fields) answers Answer::Handle;
+    "fref" "NAME" "a forward reference" &[name] => make_struct_fref(h(name)) answers Answer::Handle;
+    "ptr" "TO NIL" "a pointer" &[to, nil] => get_mem_ptr(h(to), nil) answers Answer::Handle;
+    "mem" "ALIAS T" "a memory type" &[alias, t] => get_mem(alias, h(t)) answers Answer::Handle;
     "ary" "LEN LALIAS BODY BALIAS HEX" "an array" &[len, len_alias, body, body_alias]
-        => make_ary(h(len), len_alias, h(body), body_alias, lent.text) makes Answer::Made;
-    "meet" "A B" "the merge of two types" &[a, b] => meet(h(a), h(b)) makes Answer::Made;
-    "meet_list" "H.." "the merge of a list of types, from Top on" types => meet_list(&handles(types)) makes Answer::Made;
-    "meet_rep" "N H" "the merge of a list of N times one type" &[n, a] => meet_list(&repeated(n, a)?) makes Answer::Made;
+        => make_ary(h(len), len_alias, h(body), body_alias, lent.text) answers Answer::Handle;
+    "meet" "A B" "the merge of two types" &[a, b] => meet(h(a), h(b)) answers Answer::Handle;
+    "meet_list" "H.." "the merge of a list of types, from Top on" types => meet_list(&handles(types)) answers Answer::Handle;
+    "meet_rep" "N H" "the merge of a list of N times one type" &[n, a] => meet_list(&repeated(n, a)?) answers Answer::Handle;
     "isa" "A B" "whether it would be the second" &[a, b] => isa(h(a), h(b)) answers Answer::Flag;
-    "dual" "A" "the type turned over" &[a] => dual(h(a)) makes Answer::Made;
-    "join" "A B" "the merge from the other side" &[a, b] => join(h(a), h(b)) makes Answer::Made;
-    "glb" "A" "the fixed lower type" &[a] => glb(h(a)) makes Answer::Made;
-    "lub" "A" "the fixed upper type" &[a] => lub(h(a)) makes Answer::Made;
+    "dual" "A" "the type turned over" &[a] => dual(h(a)) answers Answer::Handle;
+    "join" "A B" "the merge from the other side" &[a, b] => join(h(a), h(b)) answers Answer::Handle;
+    "glb" "A" "the fixed lower type" &[a] => glb(h(a)) answers Answer::Handle;
+    "lub" "A" "the fixed upper type" &[a] => lub(h(a)) answers Answer::Handle;
     "is_final" "A" "whether all fields on the way are final" &[a] => is_final(h(a)) answers Answer::Flag;
-    "make_ro" "A" "the read-only form" &[a] => make_ro(h(a)) makes Answer::Made;
+    "make_ro" "A" "the read-only form" &[a] => make_ro(h(a)) answers Answer::Handle;
     "make_init" "A" "what a variable of the type begins with" &[a] => make_init(h(a)) answers Answer::Handle;
     "make_zero" "A" "the zero of an Int, Float or pointer" &[a] => make_zero(h(a)) answers Answer::Handle;
-    "non_zero" "A" "the type without zero" &[a] => non_zero(h(a)) makes Answer::Made;
+    "non_zero" "A" "the type without zero" &[a] => non_zero(h(a)) answers Answer::Handle;
     "is_high" "A" "whether it is high" &[a] => is_high(h(a)) answers Answer::Flag;
     "is_high_or_constant" "A" "whether it is high or a constant" &[a] => is_high_or_constant(h(a)) answers Answer::Flag;
     "is_constant" "A" "whether it is a constant" &[a] => is_constant(h(a)) answers Answer::Flag;

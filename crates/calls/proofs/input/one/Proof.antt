@@ -18,9 +18,6 @@ part-list-end c = search rules
 put-requires : tie.Need-put-requires
 put-requires c κs = c.before.before.before.before.before.before.before.before.before.before.before.before.before.before.before.before.before.before.before.before.before.before.before.before.before.before.before.before.before.before.before.requires.1
 
-added-then-requires : tie.Need-added-then-requires
-added-then-requires c κs = search rules
-
 same_length : tie.Need-same-length
 same_length c = search rules
 
@@ -45,7 +42,6 @@ one_spec =
     part-list-start
     part-list-end
     put-requires
-    added-then-requires
     same_length
     same-length-2
     same-length-3
