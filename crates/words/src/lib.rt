@@ -1,5 +1,7 @@
 // The store: reading its words, looking through its entries one by one, and writing an entry. A store's words stand in two segments, `old` and
 // then `new`; entries are appended to `new` only.
+#![tactic(auto)]
+
 ghost use Rattle.std.specs.Prelude.{◌≡◌, true, ◌+◌, ◌-◌, ◌*◌, ◌^◌, ◌<◌, ◌≤◌, ◌∷◌, ◌++◌, length, take, drop, get_or, replicate};
 ghost use Rattle.std.proofs.Math.Seq.{slice};
 ghost use Rattle.words.specs.Words.{words_after, size_of, eqs, fills};
@@ -12,14 +14,14 @@ pub mod fresh;
 pub mod kinds;
 pub mod limits;
 
-#[derive(Drop)]
+#[derive(Clone, Copy)]
 pub enum Found {
     At(usize),
     Nothing,
 }
 
 // What a search tells: the lowest equal entry, and how many entries it did not pass over (specs/Search.antt).
-#[derive(Drop)]
+#[derive(Clone, Copy)]
 pub struct Search {
     pub found: Found,
     pub count: usize,
@@ -197,7 +199,7 @@ pub fn find(old: &[u64], new: &[u64], used: usize, from: usize, entry: &[u64]) -
 }
 
 // An entry's handle and the number of words used then, or no room for it.
-#[derive(Drop)]
+#[derive(Clone, Copy)]
 pub enum Interned {
     At(usize, usize),
     Full,

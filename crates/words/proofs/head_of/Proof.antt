@@ -6,14 +6,14 @@ use lib.ListN.{get_or-eq_default}
 use Rattle.words.proofs.head_of.Statement.{statement}
 use Rattle.words.proofs.head_of.Tie as tie
 
+returns-then-entry-eq0 : tie.Need-returns-then-entry-eq0
+returns-then-entry-eq0 c = sym (get_or-eq_default c.args.entry.now 0 {n = 0} (omega arith))
+
+bounds-entry-0 : tie.Need-bounds-entry-0
+bounds-entry-0 c = search rules
+
 returns : tie.Need-returns
-returns c = sym (get_or-eq_default c.before.args.entry.now 0 {n = 0} (omega arith))
+returns c = search rules
 
-shared-slice-read-result : tie.Need-shared-slice-read-result
-shared-slice-read-result c = search rules
-
-returns-2 : tie.Need-returns-2
-returns-2 c = search rules
-
-pub head-of-spec : {M : Type 1} → statement M
-head-of-spec = tie.close (tie.spec returns shared-slice-read-result returns-2)
+pub head_of_spec : {M : Type 1} → statement M
+head_of_spec = tie.close (tie.spec returns-then-entry-eq0 bounds-entry-0 returns)

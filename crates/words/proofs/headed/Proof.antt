@@ -5,35 +5,35 @@ use borrow.Author.Rules.{rules}
 use Rattle.words.proofs.headed.Statement.{statement}
 use Rattle.words.proofs.headed.Tie as tie
 
-sub-write : tie.Need-overflow-sub-write
-sub-write c = search rules
+slice_bounds-write-count : tie.Need-slice_bounds-write-count
+slice_bounds-write-count c = search rules
 
-part-write-start : tie.Need-slice-bounds-write-start
-part-write-start c = search rules
+slice_bounds-write-start : tie.Need-slice_bounds-write-start
+slice_bounds-write-start c = search rules
 
-part-write-end : tie.Need-slice-bounds-write-end
-part-write-end c = search rules
+slice_bounds-write-end : tie.Need-slice_bounds-write-end
+slice_bounds-write-end c = search rules
 
 write-requires : tie.Need-write-requires
 write-requires c κs = search rules
 
-slice-write-dst : tie.Need-slice-write-dst
-slice-write-dst c = search rules
+bounds-dst-0 : tie.Need-bounds-dst-0
+bounds-dst-0 c = search rules
 
-same_length : tie.Need-same-length
-same_length c = simp length-set (search rules)
+shape_of-dst : tie.Need-shape_of-dst
+shape_of-dst c = simp length-set (search rules)
 
 returns : tie.Need-returns
 returns c = search headed_all
 
-pub headed-spec : {M : Type 1} → statement M
-headed-spec =
+pub headed_spec : {M : Type 1} → statement M
+headed_spec =
     tie.close
     (tie.spec
-    sub-write
-    part-write-start
-    part-write-end
+    slice_bounds-write-count
+    slice_bounds-write-start
+    slice_bounds-write-end
     write-requires
-    slice-write-dst
-    same_length
+    bounds-dst-0
+    shape_of-dst
     returns)

@@ -15,63 +15,63 @@ use Rattle.words.proofs.pass_over.Statement.{statement}
 use Rattle.words.proofs.pass_over.Tie as tie
 use Rattle.words.proofs.pass_over.Lts as lts
 
-abbrev invariant-loop : tie.invariant-loop
-invariant-loop words from to head size at₀ last₀ n₀ at last n =
+abbrev invariant-loop-at : tie.invariant-loop-at
+invariant-loop-at words from to head size at₀ last₀ n₀ at last n =
     (from ≤ at) × (n ≡ size_of last) × (fills 0 (slice at to words) ≡ true) × ((base : ℕ) → from_head head (rows (base + from) 0 (slice from to words)) ≡ from_head head (rows (base + at) 0 (slice at to words)))
 
-abbrev decreases-loop : tie.decreases-loop
-decreases-loop words from to head size at₀ last₀ n₀ at last n = to - at
+abbrev decreases-loop-at : tie.decreases-loop-at
+decreases-loop-at words from to head size at₀ last₀ n₀ at last n = to - at
 
-loop-holds : tie.Need-loop-init invariant-loop decreases-loop
-loop-holds c = (search rules, c.before.requires.2, c.before.requires.1, λ (base : ℕ). refl)
+loop-at-init : tie.Need-loop-at-init invariant-loop-at decreases-loop-at
+loop-at-init c = (search rules, c.requires.2, c.requires.1, λ (base : ℕ). refl)
 
-mul-w : tie.Need-overflow-mul-w invariant-loop decreases-loop
-mul-w c = search rules
+offset_bounds-words-at : tie.Need-offset_bounds-words-at invariant-loop-at decreases-loop-at
+offset_bounds-words-at c = search rules
 
-shared-slice-read-w : tie.Need-shared-slice-read-w invariant-loop decreases-loop
-shared-slice-read-w c = search rules
+bounds-words-at : tie.Need-bounds-words-at invariant-loop-at decreases-loop-at
+bounds-words-at c = search rules
 
-returns : tie.Need-returns invariant-loop decreases-loop
-returns c = search stops
+returns-then-w-head : tie.Need-returns-then-w-head invariant-loop-at decreases-loop-at
+returns-then-w-head c = search stops
 
-size-after-requires : tie.Need-size-after-requires invariant-loop decreases-loop
-size-after-requires c κs = c.before.before.before.loop.invariant.1
+size_after-n-requires : tie.Need-size_after-n-requires invariant-loop-at decreases-loop-at
+size_after-n-requires c κs = c.loop-at.invariant.1
 
 -- the entry that a turn passes over ends within the words looked through
-here : (c : tie.After-size-after invariant-loop decreases-loop) → c.before.before.before.before.loop.at + c.size-after.result ≤ c.before.before.before.before.before.before.args.to
+here : (c : tie.After-size_after-n invariant-loop-at decreases-loop-at) → c.loop-at.at + c.size_after-n.result ≤ c.args.to
 here c =
     let l = c.before.before.before.before in
-    omega (arith, inside _ _ _ l.before.before.requires.0 c.before.before.before.loop-test.true l.loop.invariant.2)
+    omega (arith, inside _ _ _ l.requires.0 c.loop-at-test.true l.loop-at.invariant.2)
 
-add_at : tie.Need-overflow-add-at invariant-loop decreases-loop
-add_at c = omega (arith, here c)
+overflow_add-at : tie.Need-overflow_add-at invariant-loop-at decreases-loop-at
+overflow_add-at c = omega (arith, here c)
 
-loop-less : tie.Need-loop-smaller invariant-loop decreases-loop
-loop-less c =
+loop-at-smaller : tie.Need-loop-at-smaller invariant-loop-at decreases-loop-at
+loop-at-smaller c =
     let l = c.before.before.before.before in
-    omega (arith, here c, size_pos (get_or l.before.before.args.words.now l.loop.at 0))
+    omega (arith, here c, size_pos (get_or l.args.words.now l.loop-at.at 0))
 
-loop-again : tie.Need-loop-preserved invariant-loop decreases-loop
-loop-again c =
+loop-at-preserved : tie.Need-loop-at-preserved invariant-loop-at decreases-loop-at
+loop-at-preserved c =
     let l = c.before.before.before.before in
-    let p = passes _ _ _ _ _ l.before.before.requires.0 l.loop.invariant.0 l.loop.invariant.2 l.loop.invariant.3 c.before.before.before.loop-test.true c.before.if1.false _ c.size-after.ensures in
-    (p.0, c.size-after.ensures, p.1, p.2)
+    let p = passes _ _ _ _ _ l.requires.0 l.loop-at.invariant.0 l.loop-at.invariant.2 l.loop-at.invariant.3 c.loop-at-test.true c.if-w-head.false _ c.size_after-n.ensures in
+    (p.0, c.size_after-n.ensures, p.1, p.2)
 
-returns-2 : tie.Need-returns-2 invariant-loop decreases-loop
-returns-2 c = search none_more
+returns : tie.Need-returns invariant-loop-at decreases-loop-at
+returns c = search none_more
 
-pub pass-over-spec : {M : Type 1} → statement M
-pass-over-spec =
+pub pass_over_spec : {M : Type 1} → statement M
+pass_over_spec =
     tie.close
     (tie.spec
-    invariant-loop
-    decreases-loop
-    loop-holds
-    mul-w
-    shared-slice-read-w
-    returns
-    size-after-requires
-    add_at
-    loop-less
-    loop-again
-    returns-2)
+    invariant-loop-at
+    decreases-loop-at
+    loop-at-init
+    offset_bounds-words-at
+    bounds-words-at
+    returns-then-w-head
+    size_after-n-requires
+    overflow_add-at
+    loop-at-smaller
+    loop-at-preserved
+    returns)

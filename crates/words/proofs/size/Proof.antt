@@ -5,57 +5,57 @@ use borrow.Author.Rules.{rules}
 use Rattle.words.proofs.size.Statement.{statement}
 use Rattle.words.proofs.size.Tie as tie
 
-least-size-requires : tie.Need-least-size-requires
-least-size-requires c κs = search rules
+least_size-requires : tie.Need-least_size-requires
+least_size-requires c κs = search rules
 
-returns : tie.Need-returns
-returns c = search no_count
+returns-then-head-lt-COUNT : tie.Need-returns-then-head-lt-COUNT
+returns-then-head-lt-COUNT c = search no_count
 
-add-result : tie.Need-overflow-add-result
-add-result c = search rules
+overflow_add-result : tie.Need-overflow_add-result
+overflow_add-result c = search rules
 
-add-result-2 : tie.Need-overflow-add-result-2
-add-result-2 c = search rules
+overflow_add-result-in-0 : tie.Need-overflow_add-result-in-0
+overflow_add-result-in-0 c = search rules
 
-add-result-3 : tie.Need-overflow-add-result-3
-add-result-3 c = search rules
+overflow_add-result-in-7 : tie.Need-overflow_add-result-in-7
+overflow_add-result-in-7 c = search rules
 
-mul-result : tie.Need-overflow-mul-result
-mul-result c = search rules
+overflow_mul-result : tie.Need-overflow_mul-result
+overflow_mul-result c = search rules
 
-add-result-4 : tie.Need-overflow-add-result-4
-add-result-4 c = search rules
+overflow_add-result-in-8 : tie.Need-overflow_add-result-in-8
+overflow_add-result-in-8 c = search rules
 
-least-size-requires-2 : tie.Need-least-size-requires-2
-least-size-requires-2 c κs = search rules
+least_size-requires-in_default : tie.Need-least_size-requires-in_default
+least_size-requires-in_default c κs = search rules
 
-returns-2 : tie.Need-returns-2
-returns-2 c = sym (name_size _ c.match.keys1)
+returns-in-0 : tie.Need-returns-in-0
+returns-in-0 c = sym (name_size _ c.in-0.is)
 
-returns-3 : tie.Need-returns-3
-returns-3 c = sym (tuple_size _ c.match.keys2)
+returns-in-7 : tie.Need-returns-in-7
+returns-in-7 c = sym (tuple_size _ c.in-7.is)
 
-returns-4 : tie.Need-returns-4
-returns-4 c = sym (struct_size_is _ c.match.keys3)
+returns-in-8 : tie.Need-returns-in-8
+returns-in-8 c = sym (struct_size_is _ c.in-8.is)
 
-returns-5 : tie.Need-returns-5
-returns-5 c =
-    let no = c.before.match.rest in
-    uncounted _ _ no.0.0.1 no.0.1 no.1 c.least-size2.ensures
+returns-in_default : tie.Need-returns-in_default
+returns-in_default c =
+    let no = c.in_default.in_default-own.rest in
+    uncounted _ _ no.0.0.1 no.0.1 no.1 c.least_size-in_default.ensures
 
-pub size-spec : {M : Type 1} → statement M
-size-spec =
+pub size_spec : {M : Type 1} → statement M
+size_spec =
     tie.close
     (tie.spec
-    least-size-requires
-    returns
-    add-result
-    add-result-2
-    add-result-3
-    mul-result
-    add-result-4
-    least-size-requires-2
-    returns-2
-    returns-3
-    returns-4
-    returns-5)
+    least_size-requires
+    returns-then-head-lt-COUNT
+    overflow_add-result
+    overflow_add-result-in-0
+    overflow_add-result-in-7
+    overflow_mul-result
+    overflow_add-result-in-8
+    least_size-requires-in_default
+    returns-in-0
+    returns-in-7
+    returns-in-8
+    returns-in_default)

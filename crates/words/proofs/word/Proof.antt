@@ -4,39 +4,39 @@ use borrow.Author.Rules.{rules}
 use Rattle.words.proofs.word.Statement.{statement}
 use Rattle.words.proofs.word.Tie as tie
 
-mul-result : tie.Need-overflow-mul-result
-mul-result c = search rules
+offset_bounds-old-p : tie.Need-offset_bounds-old-p
+offset_bounds-old-p c = search rules
 
-shared-slice-read-result : tie.Need-shared-slice-read-result
-shared-slice-read-result c = search rules
+bounds-old-p : tie.Need-bounds-old-p
+bounds-old-p c = search rules
+
+returns-then-p-old : tie.Need-returns-then-p-old
+returns-then-p-old c = search in_first
+
+overflow_sub-result : tie.Need-overflow_sub-result
+overflow_sub-result c = search rules
+
+offset_bounds-new-p : tie.Need-offset_bounds-new-p
+offset_bounds-new-p c = search rules
+
+bounds-new-p : tie.Need-bounds-new-p
+bounds-new-p c = search rules
+
+returns-then-p-used : tie.Need-returns-then-p-used
+returns-then-p-used c = search in_second
 
 returns : tie.Need-returns
-returns c = search in_first
+returns c = search in_none
 
-sub-result : tie.Need-overflow-sub-result
-sub-result c = search rules
-
-mul-result-2 : tie.Need-overflow-mul-result-2
-mul-result-2 c = search rules
-
-shared-slice-read-result-2 : tie.Need-shared-slice-read-result-2
-shared-slice-read-result-2 c = search rules
-
-returns-2 : tie.Need-returns-2
-returns-2 c = search in_second
-
-returns-3 : tie.Need-returns-3
-returns-3 c = search in_none
-
-pub word-spec : {M : Type 1} → statement M
-word-spec =
+pub word_spec : {M : Type 1} → statement M
+word_spec =
     tie.close
     (tie.spec
-    mul-result
-    shared-slice-read-result
-    returns
-    sub-result
-    mul-result-2
-    shared-slice-read-result-2
-    returns-2
-    returns-3)
+    offset_bounds-old-p
+    bounds-old-p
+    returns-then-p-old
+    overflow_sub-result
+    offset_bounds-new-p
+    bounds-new-p
+    returns-then-p-used
+    returns)

@@ -8,55 +8,55 @@ use Rattle.words.proofs.Copy.{front, front_none, front_more, front_all}
 use Rattle.words.proofs.write.Statement.{statement}
 use Rattle.words.proofs.write.Tie as tie
 
-abbrev invariant-loop : tie.invariant-loop
-invariant-loop dst₀ entry i₀ dst i = (i ≤ length entry) × (length dst ≡ length dst₀) × (dst ≡ front entry i dst₀)
+abbrev invariant-loop-i : tie.invariant-loop-i
+invariant-loop-i dst₀ entry i₀ dst i = (i ≤ length entry) × (length dst ≡ length dst₀) × (dst ≡ front entry i dst₀)
 
-abbrev decreases-loop : tie.decreases-loop
-decreases-loop dst₀ entry i₀ dst i = length entry - i
+abbrev decreases-loop-i : tie.decreases-loop-i
+decreases-loop-i dst₀ entry i₀ dst i = length entry - i
 
-loop-holds : tie.Need-loop-init invariant-loop decreases-loop
-loop-holds c = (search rules, refl, front_none _ _)
+loop-i-init : tie.Need-loop-i-init invariant-loop-i decreases-loop-i
+loop-i-init c = (search rules, refl, front_none _ _)
 
-mul-dst : tie.Need-overflow-mul-dst invariant-loop decreases-loop
-mul-dst c = search rules
+offset_bounds-entry-i : tie.Need-offset_bounds-entry-i invariant-loop-i decreases-loop-i
+offset_bounds-entry-i c = search rules
 
-shared-slice-read-dst : tie.Need-shared-slice-read-dst invariant-loop decreases-loop
-shared-slice-read-dst c = search rules
+bounds-entry-i : tie.Need-bounds-entry-i invariant-loop-i decreases-loop-i
+bounds-entry-i c = search rules
 
-mul-dst-2 : tie.Need-overflow-mul-dst-2 invariant-loop decreases-loop
-mul-dst-2 c = search rules
+offset_bounds-dst-i : tie.Need-offset_bounds-dst-i invariant-loop-i decreases-loop-i
+offset_bounds-dst-i c = search rules
 
-slice-write-dst : tie.Need-slice-write-dst invariant-loop decreases-loop
-slice-write-dst c = search rules
+bounds-dst-i : tie.Need-bounds-dst-i invariant-loop-i decreases-loop-i
+bounds-dst-i c = search rules
 
-add-i : tie.Need-overflow-add-i invariant-loop decreases-loop
-add-i c = search rules
+overflow_add-i : tie.Need-overflow_add-i invariant-loop-i decreases-loop-i
+overflow_add-i c = search rules
 
-loop-less : tie.Need-loop-smaller invariant-loop decreases-loop
-loop-less c = search rules
+loop-i-smaller : tie.Need-loop-i-smaller invariant-loop-i decreases-loop-i
+loop-i-smaller c = search rules
 
-loop-again : tie.Need-loop-preserved invariant-loop decreases-loop
-loop-again c = (search rules, simp length-set (search rules), search front_more)
+loop-i-preserved : tie.Need-loop-i-preserved invariant-loop-i decreases-loop-i
+loop-i-preserved c = (search rules, simp length-set (search rules), search front_more)
 
-same_length : tie.Need-same-length invariant-loop decreases-loop
-same_length c = search rules
+shape_of-dst : tie.Need-shape_of-dst invariant-loop-i decreases-loop-i
+shape_of-dst c = search rules
 
-returns : tie.Need-returns invariant-loop decreases-loop
+returns : tie.Need-returns invariant-loop-i decreases-loop-i
 returns c = search front_all
 
 pub write_spec : {M : Type 1} → statement M
 write_spec =
     tie.close
     (tie.spec
-    invariant-loop
-    decreases-loop
-    loop-holds
-    mul-dst
-    shared-slice-read-dst
-    mul-dst-2
-    slice-write-dst
-    add-i
-    loop-less
-    loop-again
-    same_length
+    invariant-loop-i
+    decreases-loop-i
+    loop-i-init
+    offset_bounds-entry-i
+    bounds-entry-i
+    offset_bounds-dst-i
+    bounds-dst-i
+    overflow_add-i
+    loop-i-smaller
+    loop-i-preserved
+    shape_of-dst
     returns)
