@@ -1,4 +1,6 @@
 // The maker of array types, on a store that row 1 has passed. It makes four entries in a row, and leaves word 0 to the call.
+#![tactic(auto)]
+
 ghost use Rattle.std.specs.Prelude.{◌+◌, ◌≤◌, ◌++◌, length, take};
 ghost use Rattle.index.specs.Covers.{Covers};
 ghost use Rattle.words.specs.Ran.{Segments, Runs};

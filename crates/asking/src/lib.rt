@@ -1,4 +1,6 @@
 // The calls that only read, as values: one function for their rows and one for their answers, on a store that row 1 has passed.
+#![tactic(auto)]
+
 ghost use Rattle.std.specs.Prelude.{◌≡◌, not, cond, [], eqb, length, take};
 ghost use Rattle.index.specs.Covers.{Covers};
 ghost use Rattle.wellformed.specs.Entry.{is_flag};
@@ -16,7 +18,7 @@ use of_values::{OfFloat, OfInt};
 use struct_calls::{Filling, OfStruct};
 use words::kinds;
 
-#[derive(Drop)]
+#[derive(Clone, Copy)]
 pub enum Asking {
     Kind(u64),
     GetBool(u64),

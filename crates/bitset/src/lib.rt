@@ -1,4 +1,6 @@
 // A set of numbers as bits of words: 64 to a word. A caller sees the set as a test, `bit_at`, and never a bit.
+#![tactic(auto)]
+
 ghost use Rattle.std.specs.Prelude.{◌≡◌, ◌+◌, ◌<◌, ◌/◌, length};
 ghost use Rattle.bitset.specs.Bitset.{word_bits, bit_at, also, nowhere};
 

@@ -1,4 +1,6 @@
 // What every call begins and ends with, and the tests that calls make on handles.
+#![tactic(auto)]
+
 ghost use Rattle.std.specs.Prelude.{◌≡◌, ◌++◌, ◌+◌, ◌*◌, ◌≤◌, ◌<◌, min, length, take};
 ghost use Rattle.words.specs.Words.{depth_of};
 ghost use Rattle.bitset.specs.Bitset.{bit_at, word_bits};
@@ -11,7 +13,7 @@ ghost use Rattle.wellformed.specs.Form.{longest_allowed};
 use words::{Interned, kinds};
 
 // The answer of a call that hands back a handle.
-#[derive(Drop)]
+#[derive(Clone, Copy)]
 pub enum Made {
     Handle(u64),
     Refused(u8),
@@ -19,7 +21,7 @@ pub enum Made {
 
 // The answer of a call that only reads, by the call: a handle, a number, yes or no; a signed number, as its two's complement word; that there is none; or what a float
 // is read as, a constant with its bits or a size alone, as a two's complement word.
-#[derive(Drop)]
+#[derive(Clone, Copy)]
 pub enum Answer {
     Handle(u64),
     Number(u64),
@@ -32,7 +34,7 @@ pub enum Answer {
 }
 
 // The answer of a call that tells nothing more.
-#[derive(Drop)]
+#[derive(Clone, Copy)]
 pub enum Done {
     Accepted,
     Refused(u8),

@@ -1,4 +1,6 @@
 // The lines that are calls: which call a line names, as a value, and the call made.
+#![tactic(auto)]
+
 ghost use Rattle.std.specs.Prelude.{◌≤◌, length};
 ghost use Rattle.script.specs.Words.{Within};
 ghost use Rattle.opened.specs.OpenStore.{OpenStore};
@@ -20,7 +22,7 @@ const BLANK: u64 = 7777;
 const MOST_OUTPUT: u64 = 4096;
 
 // Whether a line has a text behind its numbers, and then how many numbers.
-#[derive(Drop)]
+#[derive(Clone, Copy)]
 pub enum Shape {
     Numbers,
     Text(usize),
@@ -63,7 +65,7 @@ pub fn repeated(name: &[u8], numbers: &mut [u64], count: Count) -> Count
 // ---- which call
 
 // The call that a line names. What it takes as a list or a text is lent beside it.
-#[derive(Drop)]
+#[derive(Clone, Copy)]
 pub enum Line {
     Append(Making),
     // the merge of a list

@@ -28,7 +28,7 @@ pub const FILE: usize = 65536;
 pub const SAVED: usize = FILE;
 
 // What is kept from line to line.
-#[derive(Drop)]
+#[derive(Clone, Copy)]
 pub struct State {
     // the length of the list that is lent to calls
     pub len: usize,

@@ -1,4 +1,6 @@
 // Runs a script of calls of the store library, read from standard input: a call a line, and a line out for each.
+#![tactic(auto)]
+
 mod input;
 
 fn main() {

@@ -1,4 +1,6 @@
 // A saved catalogue: the writer, and the loader, which checks a file's bytes before it writes a word.
+#![tactic(auto)]
+
 ghost use Rattle.std.specs.Prelude.{◌≡◌, ◌++◌, ◌+◌, ◌-◌, ◌*◌, ◌/◌, ◌<◌, ◌≤◌, min, length, take, drop, replicate, eqb};
 ghost use Rattle.bitset.specs.Bitset.{word_bits};
 ghost use Rattle.source.specs.Source.{unpacked};

@@ -1,4 +1,6 @@
 // The file of a saved catalogue (specs/File.antt): its length, and writing it.
+#![tactic(auto)]
+
 ghost use Rattle.std.specs.Prelude.{◌≡◌, ◌++◌, ◌+◌, ◌-◌, ◌*◌, ◌≤◌, length, take, drop};
 ghost use Rattle.wellformed.specs.Fresh.{fresh_length};
 ghost use Rattle.wellformed.specs.Form.{longest_allowed};

@@ -1,4 +1,6 @@
 // The ways of a call, plain and on an opened store, with their answers told as callers in C or Rust read them.
+#![tactic(auto)]
+
 ghost use Rattle.std.specs.Prelude.{◌≡◌, [], length};
 ghost use Rattle.makers.specs.Makers.{fresh_call};
 ghost use Rattle.every_call.specs.Run.{run, meet_list, save};

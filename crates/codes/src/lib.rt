@@ -1,5 +1,7 @@
 // Replies for callers in C or Rust: a function returns 0 or the number of a refusal, and its answer goes to a lent word, which keeps where the call is refused. A call that
 // answers in one of two ways has a second lent word, which tells the way.
+#![tactic(auto)]
+
 ghost use Rattle.std.specs.Prelude.{◌≡◌, cond};
 ghost use Rattle.call.specs.Call.{made, told, done};
 ghost use Rattle.codes.specs.Code.{status, answer_after, which_after};

@@ -12,7 +12,7 @@ use replies::Reply;
 use script::{Answer, Count};
 
 // What a line answers, the length that the list has then, and whether it is an opened store.
-#[derive(Drop)]
+#[derive(Clone, Copy)]
 pub struct Outcome {
     pub len: usize,
     pub opened: bool,

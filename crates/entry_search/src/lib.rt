@@ -1,12 +1,14 @@
 // The search for an entry that is given by its words, on any words whatever: row 1, and then the search, with the number of entries that it did not pass over. It is no call
 // of document 01, and refuses nothing but row 1.
+#![tactic(auto)]
+
 ghost use Rattle.std.specs.Prelude.{◌≡◌};
 ghost use Rattle.entry_search.specs.EntrySearch.{entry_search};
 ghost use Rattle.entry_search.specs.CodedSearch.{CodedSearch};
 
 use words::Found;
 
-#[derive(Drop)]
+#[derive(Clone, Copy)]
 pub enum EntrySearch {
     // its handle, and how many entries were not passed over
     Found(u64, u64),

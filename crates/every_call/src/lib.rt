@@ -1,1 +1,3 @@
 // What every call answers and leaves: definitions, no code.
+
+#![tactic(auto)]

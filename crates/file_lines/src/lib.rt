@@ -1,5 +1,7 @@
 // The lines about a saved catalogue: the list is saved as a file or loaded from one, and the file that a script keeps is shown and changed. The kept file is the first
 // `size` bytes of an array, which is as long as the longest file. A line's name ends at `stop`.
+#![tactic(auto)]
+
 ghost use Rattle.std.specs.Prelude.{◌≤◌, length};
 
 use replies::{Reply, told};
@@ -9,7 +11,7 @@ use script::{Answer, Count};
 const BLANK: u8 = 0x77;
 
 // A line about a file.
-#[derive(Drop)]
+#[derive(Clone, Copy)]
 pub enum Filing {
     Load(Loading),
     Keep(Keeping),
@@ -18,7 +20,7 @@ pub enum Filing {
 }
 
 // A line that loads a file into the list, and so closes it.
-#[derive(Drop)]
+#[derive(Clone, Copy)]
 pub enum Loading {
     // the bytes that the line says
     Said,
@@ -27,7 +29,7 @@ pub enum Loading {
 }
 
 // A line that leaves the list as it is.
-#[derive(Drop)]
+#[derive(Clone, Copy)]
 pub enum Keeping {
     // saves it, and keeps the file
     Save,

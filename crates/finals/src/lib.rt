@@ -1,6 +1,8 @@
 // is_final, on a store that row 1 has passed: the walk of a type through pointers and fields. Parts are earlier entries, so that the
 // handle falls. Pointers and structs that were found to be final are kept in a set, `known`, and not walked again; a set without room for one does not keep
 // it. A type that is not final ends the walk, so that nothing has to be kept of it.
+#![tactic(auto)]
+
 ghost use Rattle.std.specs.Prelude.{◌≡◌, ◌++◌, take};
 ghost use Rattle.parts.specs.Parts.{ReadyOne};
 ghost use Rattle.finals.specs.Known.{Knows, Kept, Finals};

@@ -1,5 +1,7 @@
 // The meet of two floats, as far as it depends on their sizes and constants alone.
 // A size stands as its number, -64, -32, 32 or 64, which is the document's name for it: a name in its place would only repeat it.
+#![tactic(auto)]
+
 ghost use Rattle.std.specs.Prelude.{◌≡◌};
 ghost use Rattle.type_float.specs.Float.{reading_of};
 ghost use Rattle.type_float.specs.declared.Reading.TheVariants.{Constant, Sized};
@@ -9,7 +11,7 @@ ghost use Rattle.float_meet.specs.FloatRule.{float_rule};
 use type_float::{Float, Reading};
 
 // The answer of a meet: an operand, or size 32 or 64.
-#[derive(Drop)]
+#[derive(Clone, Copy)]
 pub enum FloatMeet {
     First,
     Second,

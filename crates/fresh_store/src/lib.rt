@@ -1,4 +1,6 @@
 // A fresh store, on any words whatever.
+#![tactic(auto)]
+
 ghost use Rattle.std.specs.Prelude.{◌≡◌};
 ghost use Rattle.call.specs.Call.{left, done};
 ghost use Rattle.makers.specs.Makers.{fresh_call};

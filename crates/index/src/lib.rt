@@ -1,6 +1,8 @@
 // Making an entry: the lowest equal one is handed back, else the entry is appended. What is searched first is an index, a hash table in a lent list
 // of words, which is read only while an operation runs: it has the entries of the first words of the store, and those behind them are looked
 // through one by one. With an index of no words, all are.
+#![tactic(auto)]
+
 ghost use Rattle.std.specs.Prelude.{◌≡◌, true, cond, ◌++◌, ℕ, ◌+◌, ◌-◌, ◌*◌, ◌/◌, ◌<◌, ◌≤◌, ◌^◌, length, take, drop, get_or};
 ghost use Rattle.words.specs.Words.{size_of, eqs, fills};
 ghost use Rattle.words.specs.Table.{find_in, starts as startsIn};

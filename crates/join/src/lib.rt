@@ -1,4 +1,6 @@
 // join, on a store that row 1 has passed: dual, dual, meet, dual, each made. The first half of `memory` is a memory of its duals, the second half one of its meet; an odd last word is not used.
+#![tactic(auto)]
+
 ghost use Rattle.std.specs.Prelude.{◌++◌, take};
 ghost use Rattle.index.specs.Covers.{Covers};
 ghost use Rattle.words.specs.Ran.{Runs};

@@ -1,1 +1,3 @@
 // Theorems on the makers: the crate has no code.
+
+#![tactic(auto)]

@@ -1,1 +1,3 @@
 // Theorems alone: used words that came after others.
+
+#![tactic(auto)]

@@ -1,6 +1,8 @@
 // The calls for C and Rust: a static library. A slice is a pointer and a length there, a lent word a pointer to it. A function returns 0, or the number of a refusal; its
 // answer goes to the lent word `answer`: a handle, a number, or 1 or 0 for yes or no. On a refusal that word keeps. The contracts here speak of slices and words as Rattle lends them; of a caller in C or Rust that is a promise which no call tests:
 // each pointer is valid and aligned for its length and stays so during the call, and what is written overlaps nothing else that the call is lent.
+#![tactic(auto)]
+
 ghost use Rattle.std.specs.Prelude.{◌≡◌, length};
 ghost use Rattle.wellformed.specs.Form.{well_formed};
 ghost use Rattle.entry_search.specs.EntrySearch.{entry_search};

@@ -1,4 +1,6 @@
 // Where the fields of a struct lie, for any rule of a field's width: the widths come as logs, 0, 1, 2 or 3 for 1, 2, 4 or 8 bytes.
+#![tactic(auto)]
+
 ghost use Rattle.std.specs.Prelude.{◌≡◌, ◌+◌, ◌-◌, ◌<◌, ◌≤◌, [], length, take, get_or, replicate};
 ghost use Rattle.layout.specs.Layout.{widest, most_fields, EightAtMost, offsets_from, offsets};
 ghost use Rattle.layout.specs.Passes.{most_bytes, Added, Sums, Starts};

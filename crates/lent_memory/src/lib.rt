@@ -1,6 +1,8 @@
 // The operations that walk, with a memory that is lent and lives on from call to call; where the lent list has fewer than six words, with one of their own
 // (own_memory). The memory is one list in six equal parts: 0 duals, 1 meets, 2 glb, 3 lub, 4 make_ro, and 5 the set of types that are known to be final.
 // Each operation is lent its part alone, join the first two, and make_ro of a larger type the last two, one after the other. Without a lent memory the set of final types is `scratch`, and where that has no words, none.
+#![tactic(auto)]
+
 ghost use Rattle.std.specs.Prelude.{◌≡◌, [], ◌++◌, take};
 ghost use Rattle.index.specs.Covers.{Covers};
 ghost use Rattle.words.specs.Ran.{Runs};

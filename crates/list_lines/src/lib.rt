@@ -1,4 +1,6 @@
 // The lines about the list itself.
+#![tactic(auto)]
+
 mod remembered;
 
 ghost use Rattle.std.specs.Prelude.{◌≤◌};
@@ -7,7 +9,7 @@ use replies::{Reply, arg, done, flag, is};
 use script::Answer;
 
 // A line of a name and numbers.
-#[derive(Drop)]
+#[derive(Clone, Copy)]
 pub enum Order {
     Close(Closing),
     Read(Reading),
@@ -17,7 +19,7 @@ pub enum Order {
 }
 
 // A line that closes the list: those that write it by themselves do.
-#[derive(Drop)]
+#[derive(Clone, Copy)]
 pub enum Closing {
     // a list of so many words, each the value
     List(u64, u64),
@@ -31,7 +33,7 @@ pub enum Closing {
 }
 
 // A line that reads it, and leaves it open where it is.
-#[derive(Drop)]
+#[derive(Clone, Copy)]
 pub enum Reading {
     Peek(u64),
     Dump,

@@ -1,6 +1,8 @@
 // make_ro, on a store that row 1 has passed: a type, a struct and a field's type call each other. Parts are earlier entries, so that three
 // times the handle falls, plus one in a type's call, and plus two in a field's. A pointer or a struct is looked up in a memory of answers first, and, unless it is
 // a struct that is final, noted in it last; types that are final are kept in the set that is_final has.
+#![tactic(auto)]
+
 ghost use Rattle.std.specs.Prelude.{◌≡◌, true, false, ◌++◌, ◌+◌, ◌≤◌, length, replicate, take};
 ghost use Rattle.index.specs.Covers.{Covers};
 ghost use Rattle.words.specs.Ran.{Segments, Runs};

@@ -1,5 +1,7 @@
 // The calls that append, as values: one function for their rows, one for their operations, and one for what is left to do once no row applies. What a call does is
 // said of its value; the functions of `types` and `ty` name one each.
+#![tactic(auto)]
+
 ghost use Rattle.std.specs.Prelude.{◌≡◌, true, not, ◌++◌, length, take, ◌≢◌};
 ghost use Rattle.words.specs.Made.{make};
 ghost use Rattle.words.specs.Ran.{Segments, Runs};
@@ -19,7 +21,7 @@ use walk_rules::Walk;
 use words::{Interned, kinds, limits};
 
 // A call that appends. The types of a tuple or of a merge, the fields of a struct and the bytes of a name are lent beside it. get_int is MakeInt, get_float is MakeFloat.
-#[derive(Drop)]
+#[derive(Clone, Copy)]
 pub enum Making {
     MakeInt(u64, u64),
     MakeFloat(u64, u64),

@@ -1,4 +1,6 @@
 // The bits that the numbers of an Int's range have.
+#![tactic(auto)]
+
 ghost use Rattle.std.specs.Prelude.{◌≡◌};
 ghost use Rattle.mask.specs.Mask.{mask_of};
 

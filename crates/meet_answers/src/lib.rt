@@ -1,4 +1,6 @@
 // The answers of meet that meet no parts, on a store that row 1 has passed.
+#![tactic(auto)]
+
 ghost use Rattle.std.specs.Prelude.{◌≡◌, true, ◌++◌, ◌+◌, ◌≤◌, ◌<◌, length, take};
 ghost use Rattle.index.specs.Covers.{Covers};
 ghost use Rattle.words.specs.Made.{make};

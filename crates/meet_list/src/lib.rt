@@ -1,4 +1,6 @@
 // The merge of a whole list, on a store that row 1 has passed: its rows, and its meets from left to right.
+#![tactic(auto)]
+
 ghost use Rattle.std.specs.Prelude.{◌≡◌, ◌++◌, take};
 ghost use Rattle.words.specs.Ran.{Runs};
 ghost use Rattle.index.specs.Covers.{Covers};

@@ -1,4 +1,6 @@
 // Which rule of meet decides for two types, by their handles and heads.
+#![tactic(auto)]
+
 ghost use Rattle.std.specs.Prelude.{◌≡◌, ◌&&◌, ◌++◌, ◌+◌, ◌≤◌, length, take};
 ghost use Rattle.wellformed.specs.Entry.{is_struct};
 ghost use Rattle.meet_rules.specs.Rules.{mem_rule, pair_rule, rule_for, type_rule, shared_alias};
@@ -6,7 +8,7 @@ ghost use Rattle.meet_rules.specs.Rules.{mem_rule, pair_rule, rule_for, type_rul
 use words::{fresh, kinds, limits};
 
 // What a type's meet does.
-#[derive(Drop)]
+#[derive(Clone, Copy)]
 pub enum Rule {
     First,
     Second,
@@ -20,7 +22,7 @@ pub enum Rule {
 }
 
 // What a struct's meet does.
-#[derive(Drop)]
+#[derive(Clone, Copy)]
 pub enum StructRule {
     Former,
     Latter,

@@ -1,6 +1,8 @@
 // meet, on a store that row 1 has passed: a type's meet and a struct's meet call each other through fields and pointers. Parts are earlier
 // entries, so that twice the larger handle, plus one in a type's meet, falls. Many types may share a part, so that a pair whose parts are met is
 // looked up in a memory of answers first: each pair is opened once, as long as the memory has a line for it.
+#![tactic(auto)]
+
 ghost use Rattle.std.specs.Prelude.{◌≡◌, ◌++◌, ◌<◌, take};
 ghost use Rattle.index.specs.Covers.{Covers};
 ghost use Rattle.parts.specs.Parts.{Ready};

@@ -2,6 +2,8 @@
 // none: nothing is remembered under it. A key is looked for in 64 lines, from the line that it asks for on, round the memory, up to the first empty one: so
 // a full memory costs no more than 64 reads. Where none of these lines is free, a new key takes the place of the one in the line that it asks for. With
 // no line nothing is remembered.
+#![tactic(auto)]
+
 ghost use Rattle.std.specs.Prelude.{◌≡◌, ◌<◌, ◌≤◌, length};
 ghost use Rattle.memo.specs.Memo.{Tells, Noted, Learned};
 
@@ -15,7 +17,7 @@ const KEYS: u64 = 17592186044416;
 // How many lines are looked at for a key.
 const LOOKED_AT: usize = 64;
 
-#[derive(Drop)]
+#[derive(Clone, Copy)]
 pub enum Recalled {
     Is(u64),
     Nothing,

@@ -1,5 +1,7 @@
 // The steps around an operation with a lent memory: which part of the memory a walk is lent, what isa reads off the answer of a meet, and what is forgotten where
 // an answer did not fit.
+#![tactic(auto)]
+
 ghost use Rattle.std.specs.Prelude.{◌≡◌};
 ghost use Rattle.memory_steps.specs.Steps.{part_of, second, Forgot};
 

@@ -1,6 +1,8 @@
 // Names: the search for a name's entry, and making one. What is looked for is the name's bytes, which are lent; its words are made one
 // at a time, so that a name of any length needs no room but the store's. They hash to what the entry's words hash to, and the search goes through
 // the same chains of the index as that for any other entry. With `wrap`, the name is the lent text in brackets.
+#![tactic(auto)]
+
 ghost use Rattle.std.specs.Prelude.{◌≡◌, true, ◌++◌, ◌+◌, ◌*◌, ◌^◌, ◌<◌, ◌≤◌, length, take, drop, get_or};
 ghost use Rattle.std.proofs.Math.Seq.{slice};
 ghost use Rattle.words.specs.Words.{size_of, eqs, fills};

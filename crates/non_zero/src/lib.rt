@@ -1,4 +1,6 @@
 // A type without zero, on a store that row 1 has passed.
+#![tactic(auto)]
+
 ghost use Rattle.std.specs.Prelude.{◌++◌, take};
 ghost use Rattle.words.specs.Ran.{Segments, Runs};
 ghost use Rattle.index.specs.Covers.{Covers};

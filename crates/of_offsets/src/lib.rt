@@ -1,4 +1,6 @@
 // The offsets of a struct's fields. `used` words are used.
+#![tactic(auto)]
+
 ghost use Rattle.std.specs.Prelude.{◌≡◌, false, ◌++◌, ◌≤◌, ◌<◌, length, take, drop};
 ghost use Rattle.words.specs.Columns.{count_on};
 ghost use Rattle.wellformed.specs.Entry.{most_counted};

@@ -1,4 +1,6 @@
 // What is told of a struct's name and fields. `used` words are used.
+#![tactic(auto)]
+
 ghost use Rattle.std.specs.Prelude.{◌≡◌, true, ◌++◌, ◌+◌, ◌*◌, ◌≤◌, ◌<◌, ltb, length, take, drop};
 ghost use Rattle.words.specs.Words.{field_size};
 ghost use Rattle.words.specs.Columns.{count_on, field_names_on, first_field, field_name_at};
@@ -11,7 +13,7 @@ ghost use Rattle.of_structs.specs.OfStructs.{field_list, find_of, find_alias_of,
 use words::{columns, kinds, limits};
 
 // Where a field was found.
-#[derive(Drop)]
+#[derive(Clone, Copy)]
 pub enum Place {
     At(u64),
     Absent,

@@ -1,4 +1,6 @@
 // What is told of a type by its kind, its words and its handle. `used` words are used; a handle may be any number.
+#![tactic(auto)]
+
 ghost use Rattle.std.specs.Prelude.{◌≡◌, ◌||◌, ◌≤◌, ◌<◌, eqb, length, take};
 ghost use Rattle.wellformed.specs.Entry.{kind_in};
 ghost use Rattle.call.specs.Call.{told};
@@ -11,7 +13,7 @@ use call::Answer;
 use words::{columns, fresh, kinds};
 
 // Where a type stands: on Top's side of the lattice's centre, on the centre, or on Bot's side.
-#[derive(Drop)]
+#[derive(Clone, Copy)]
 pub enum Side {
     High,
     Constant,
@@ -318,7 +320,7 @@ fn log_size_rows(words: &[u64], used: usize, bits: &[u64], t: u64) -> u8
 // ---- the calls
 
 // A call that reads one type.
-#[derive(Drop)]
+#[derive(Clone, Copy)]
 pub enum OfType {
     MakeInit,
     MakeZero,

@@ -1,4 +1,6 @@
 // What is told of an Int and of a Float, by their words. `used` words are used.
+#![tactic(auto)]
+
 ghost use Rattle.std.specs.Prelude.{◌≡◌, true, ◌≤◌, ◌<◌, length, take};
 ghost use Rattle.std.specs.Float.{binary64};
 ghost use Rattle.std.specs.Float.Ieee.{of_bits};
@@ -137,7 +139,7 @@ fn float_value(words: &[u64], used: usize, t: usize) -> Answer
 // ---- the calls
 
 // A call that reads an Int.
-#[derive(Drop)]
+#[derive(Clone, Copy)]
 pub enum OfInt {
     Min,
     Max,
@@ -158,7 +160,7 @@ pub fn tell_int(words: &[u64], used: usize, of: OfInt, t: usize) -> Answer
 }
 
 // A call that reads a Float.
-#[derive(Drop)]
+#[derive(Clone, Copy)]
 pub enum OfFloat {
     Sz,
     IsF32,

@@ -1,6 +1,8 @@
 // A store that is opened: row 1 is tested once, and an index and a memory of answers are kept in lent lists beside it. A call then goes the way of a plain one but for row 1:
 // its rows, its operation with the index and the memory, the end; then what was appended is taken into the index. That nobody else writes the three lists between two calls is required,
 // and in Rattle shown by the caller.
+#![tactic(auto)]
+
 ghost use Rattle.std.specs.Prelude.{◌≡◌, true, [], ◌≤◌, length};
 ghost use Rattle.wellformed.specs.Form.{well_formed};
 ghost use Rattle.store_index.specs.StoreIndex.{index_size};

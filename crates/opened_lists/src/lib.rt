@@ -1,5 +1,7 @@
 // The merge of a whole list on an opened store. The index takes in what each meet appends before the next, so that a long list costs what its meets cost one by one. Where an
 // answer does not fit, entries are in the index that are gone, and it is made anew.
+#![tactic(auto)]
+
 ghost use Rattle.std.specs.Prelude.{◌≡◌, [], take};
 ghost use Rattle.words.specs.Ran.{Runs};
 ghost use Rattle.index.specs.Covers.{Opened};

@@ -1,4 +1,6 @@
 // The operations of `Ty`, and what `Ty`, `TyInt`, `TyFloat` and `TyStruct` tell, on an opened store: see opened_types. "Above" is the way that isa goes: where a isa b, b is above a.
+#![tactic(auto)]
+
 ghost use Rattle.std.specs.Prelude.{◌≡◌, length};
 ghost use Rattle.call.specs.Call.{left, made, told};
 ghost use Rattle.every_call.specs.Others.{struct_fields_output, offsets_output};

@@ -1,5 +1,7 @@
 // The makers of `Types` on an opened store: words that `opened::open` has taken, with their index and memory, and that nobody else has written since. Row 1 is not tested
 // again. What a call answers and leaves of the words is what the plain call of the same name does, and the store is open again, also where the call was refused.
+#![tactic(auto)]
+
 ghost use Rattle.std.specs.Prelude.{◌≡◌};
 ghost use Rattle.call.specs.Call.{left, made, told};
 ghost use Rattle.every_call.specs.Run.{run, kind, get_bool, get_int, make_int, get_float, make_float, get_tuple, get_str, get_struct, make_ary_is, make_struct_fref, get_mem_ptr, get_mem};

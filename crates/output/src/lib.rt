@@ -1,4 +1,6 @@
 // What the program writes: gathered in a buffer, which is written out when it is full.
+#![tactic(auto)]
+
 ghost use Rattle.std.specs.Prelude.{◌≤◌, length};
 
 use entry_search::EntrySearch;

@@ -3,6 +3,8 @@
 //
 // Each range of sizes stands in the frame of a function of its own, so that a small store needs little stack. `sized` calls itself: the compiler puts a function that has a large array into no function that calls
 // itself, and so the frames stay apart.
+#![tactic(auto)]
+
 ghost use Rattle.std.specs.Prelude.{◌≡◌, ◌++◌, ℕ, ◌+◌, ◌≤◌, length, take, get_or};
 ghost use Rattle.index.specs.Covers.{Covers};
 ghost use Rattle.words.specs.Ran.{Runs};
@@ -21,7 +23,7 @@ use words::{Interned, kinds};
 const FEW_LINES: usize = small::MOST_TYPES;
 
 // An operation on a type, with its other operand.
-#[derive(Drop)]
+#[derive(Clone, Copy)]
 pub enum Operation {
     Meet(usize),
     Walk(Walk),

@@ -1,6 +1,8 @@
 // The way of every plain call: row 1, its rows, its operation or answer, the end. Row 1 is lent an array of bits whose size goes by the list's length, so that a
 // small store does not pay for a large one's; once the rows are read, is_final and make_ro may keep in the same bits which types are known to be final. Each size stands in the frame of a function of its own (`wellformed::verify_for` says
 // what keeps the frames apart).
+#![tactic(auto)]
+
 ghost use Rattle.std.specs.Prelude.{◌≡◌, [], ◌*◌, ◌≤◌, min, length};
 ghost use Rattle.call.specs.Call.{left, made, told};
 ghost use Rattle.every_call.specs.Run.{run};

@@ -1,9 +1,11 @@
 // What lines answer, and what the functions for each call share.
+#![tactic(auto)]
+
 use call::{Done, Made};
 use script::Answer;
 
 // What a line of the script answers.
-#[derive(Drop)]
+#[derive(Clone, Copy)]
 pub enum Reply {
     // no line
     Nothing,

@@ -1,4 +1,6 @@
 // The tests that turn a maker's call back, on a store that row 1 has passed. Each gives the number of its first row that applies, or 0.
+#![tactic(auto)]
+
 ghost use Rattle.std.specs.Prelude.{◌≡◌, ◌∷◌, [], ◌<◌, ◌≤◌, length, take};
 ghost use Rattle.bitset.specs.Bitset.{bit_at};
 ghost use Rattle.wellformed.specs.Entry.{kind_in, kind_at, is_name, is_type, all};

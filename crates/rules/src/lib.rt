@@ -1,4 +1,6 @@
 // Columns of rules, of which the first that fits decides: what those of meet, of the walks and of the calls that tell of types share.
+#![tactic(auto)]
+
 ghost use Rattle.std.specs.Prelude.{◌≡◌, ◌&&◌, eqb};
 
 // Whether x is p and y is q: a test of two operands.

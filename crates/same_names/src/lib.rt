@@ -1,4 +1,6 @@
 // Whether two names are the same, and whether the fields of two structs have the same names and aliases.
+#![tactic(auto)]
+
 ghost use Rattle.std.specs.Prelude.{◌≡◌, true, ◌++◌, ◌+◌, ◌^◌, ◌≤◌, ltb, length, take};
 ghost use Rattle.wellformed.specs.Entry.{all, most_counted};
 ghost use Rattle.wellformed.specs.Form.{longest_allowed};

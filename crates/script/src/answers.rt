@@ -2,7 +2,7 @@
 ghost use Rattle.std.specs.Prelude.{◌+◌, ◌≤◌, length};
 
 // What a call answers, where it is short.
-#[derive(Drop)]
+#[derive(Clone, Copy)]
 pub enum Answer {
     // a handle, or a number that is not negative
     Number(u64),

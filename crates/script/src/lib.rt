@@ -1,4 +1,6 @@
 // The words of a script of calls: lines, words, numbers and texts in, answers out. All on byte slices that are lent.
+#![tactic(auto)]
+
 mod answers;
 mod lines;
 mod texts;

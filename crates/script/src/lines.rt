@@ -6,7 +6,7 @@ use crate::texts::text;
 use crate::values::{Value, number};
 
 // How many numbers a line has, or bytes a text, or that a word is none.
-#[derive(Drop)]
+#[derive(Clone, Copy)]
 pub enum Count {
     Of(usize),
     Bad,

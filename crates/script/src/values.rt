@@ -3,7 +3,7 @@ ghost use Rattle.std.specs.Prelude.{◌<◌, ◌≤◌, ◌≡◌};
 ghost use Rattle.script.specs.Numbers.{digit_of, negative_of, number_of, unsigned_of};
 
 // What a word says: a number of 64 bits, or nothing that is one.
-#[derive(Drop)]
+#[derive(Clone, Copy)]
 pub enum Value {
     Is(u64),
     Bad,

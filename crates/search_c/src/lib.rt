@@ -1,5 +1,7 @@
 // The search for an equal entry, with an index and without, and as it was before an entry was passed over by its head, for the benchmark, whose caller keeps what the functions
 // require; no part of the library. An index of no words makes every search look through all entries.
+#![tactic(auto)]
+
 ghost use Rattle.std.specs.Prelude.{◌≡◌, true, [], ◌≤◌, length, take, drop};
 ghost use Rattle.std.proofs.Math.Seq.{slice};
 ghost use Rattle.words.specs.Words.{size_of, fills};

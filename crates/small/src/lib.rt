@@ -1,5 +1,7 @@
 // Whether a type is small: a walk that remembers nothing comes to few types, so that a memory of a few lines holds all that it asks. Only the size of
 // a memory goes by the answer, and nothing else depends on it.
+#![tactic(auto)]
+
 ghost use Rattle.std.specs.Prelude.{◌+◌, ◌≤◌, length};
 
 use words::{columns, kinds, limits};

@@ -1,4 +1,6 @@
 // Bytes as words, eight a word, lowest first. And reading the words of a store in two sources: `words`, and then `tail`, whose bytes hold further words. A plain store has an empty tail.
+#![tactic(auto)]
+
 ghost use Rattle.std.specs.Prelude.{◌≡◌, ◌++◌, ◌+◌, ◌<◌, ◌≤◌, length, take, drop, get_or};
 ghost use Rattle.source.specs.Packed.{of_bytes};
 ghost use Rattle.source.specs.Source.{stored};

@@ -1,4 +1,6 @@
 // The index of an opened store: which words start an entry, and the chains in which an equal entry is found. It takes in what a call appended.
+#![tactic(auto)]
+
 ghost use Rattle.std.specs.Prelude.{◌≡◌, true, ◌*◌, ◌≤◌, ◌<◌, length, take, drop};
 ghost use Rattle.words.specs.Words.{fills};
 ghost use Rattle.words.specs.Table.{starts};

@@ -1,4 +1,6 @@
 // The calls that read a struct, as values: one function for their rows, one for their answers, and one that fills a lent output.
+#![tactic(auto)]
+
 ghost use Rattle.std.specs.Prelude.{◌≡◌, [], ◌++◌, ◌≤◌, ◌<◌, length, take, drop};
 ghost use Rattle.call.specs.Call.{told, output_rows};
 ghost use Rattle.call.specs.Steps.{Marked};
@@ -11,14 +13,14 @@ use of_structs::Place;
 use words::{columns, kinds};
 
 // A call that fills a lent output.
-#[derive(Drop)]
+#[derive(Clone, Copy)]
 pub enum Filling {
     Fields,
     Offsets,
 }
 
 // A call that reads a struct.
-#[derive(Drop)]
+#[derive(Clone, Copy)]
 pub enum OfStruct {
     Name,
     Find(u64),

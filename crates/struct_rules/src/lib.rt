@@ -1,4 +1,6 @@
 // Which rule of meet decides for two structs, by their names, heads and fields, on a store that row 1 has passed.
+#![tactic(auto)]
+
 ghost use Rattle.std.specs.Prelude.{◌≡◌, ◌++◌, ◌+◌, ◌≤◌, ◌<◌, length, take};
 ghost use Rattle.wellformed.specs.Form.{longest_allowed};
 ghost use Rattle.meet_rules.specs.Rules.{named_rule, struct_rule};

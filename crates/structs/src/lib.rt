@@ -1,5 +1,7 @@
 // A tuple, or a struct, made again with other types, on a store that row 1 has passed. The types come as 32-bit numbers and the finals as bytes: a walk down to depth 32 has a list of them in each of its
 // frames, and handles are below 2 to the 20.
+#![tactic(auto)]
+
 ghost use Rattle.std.specs.Prelude.{◌≡◌, true, ◌++◌, ◌+◌, ◌*◌, ◌≤◌, ◌<◌, length, take, drop};
 ghost use Rattle.index.specs.Covers.{Covers};
 ghost use Rattle.words.specs.Made.{make};

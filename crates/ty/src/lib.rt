@@ -1,6 +1,8 @@
 // The operations of `Ty`, and what `Ty`, `TyInt`, `TyFloat` and `TyStruct` tell. Each call takes any words whatever as the store and any numbers as its arguments; what it answers and what it
 // leaves is `run` of the call (every_call/specs/Run.antt), which is its definition in every_call/specs/Ty.antt or Others.antt. "Above" is the way that isa goes: where a isa b, b is above a, so that Bot is above all
 // types and Top below all.
+#![tactic(auto)]
+
 ghost use Rattle.std.specs.Prelude.{◌≡◌, length};
 ghost use Rattle.call.specs.Call.{left, made, told};
 ghost use Rattle.every_call.specs.Others.{struct_fields_output, offsets_output};

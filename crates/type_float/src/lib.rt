@@ -1,5 +1,7 @@
 // What depends on a float's size and constant alone.
 // An f64 in the logic has only one NaN: a NaN constant is told from another by its bits, which travel beside the float.
+#![tactic(auto)]
+
 ghost use Rattle.std.specs.Prelude.{◌≡◌, true};
 ghost use Rattle.std.specs.Float.Ieee.{nan_bits, of_bits};
 ghost use Rattle.std.specs.Float.{binary64};
@@ -10,14 +12,14 @@ ghost use Rattle.type_float.specs.Single.{is_single};
 const SIZE_ZERO: i64 = 64;
 
 // A float's size and constant.
-#[derive(Drop)]
+#[derive(Clone, Copy)]
 pub struct Float {
     pub sz: i8,
     pub con: f64,
 }
 
 // What a float is read as: a constant with its value, or a size alone.
-#[derive(Drop)]
+#[derive(Clone, Copy)]
 pub enum Reading {
     Constant(f64),
     Sized(i8),

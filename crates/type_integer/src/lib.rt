@@ -1,4 +1,6 @@
 // What depends on an Int's words alone: the numbers that they stand for, and the order of these.
+#![tactic(auto)]
+
 ghost use Rattle.std.specs.Prelude.{◌≡◌};
 ghost use Rattle.std.specs.Int.{w64};
 ghost use Rattle.std.proofs.Common.{of_z};

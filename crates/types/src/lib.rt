@@ -1,6 +1,8 @@
 // The makers of `Types`. Each call takes any words whatever as the store and any numbers as its arguments; what it answers and what it leaves
 // is `run` of the call (every_call/specs/Run.antt; of fresh `fresh_call`), which is its definition in makers/specs/Makers.antt. A handle or a number is a 64-bit word, a signed number a two's
 // complement one.
+#![tactic(auto)]
+
 ghost use Rattle.std.specs.Prelude.{◌≡◌};
 ghost use Rattle.call.specs.Call.{left, made, told, done};
 ghost use Rattle.makers.specs.Makers.{fresh_call};

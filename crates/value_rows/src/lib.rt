@@ -1,4 +1,6 @@
 // The tests of rows 4 and 5 on values, which read no store. Each gives the number of the row, or 0.
+#![tactic(auto)]
+
 ghost use Rattle.std.specs.Prelude.{◌≡◌, not, length, nat_lt};
 ghost use Rattle.wellformed.specs.Entry.{most_counted, is_flag, float_ok};
 ghost use Rattle.call.specs.Call.{◌when◌};

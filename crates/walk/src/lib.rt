@@ -1,6 +1,8 @@
 // dual, glb and lub, on a store that row 1 has passed: one walk of a type, with the operation as a parameter. A type's walk and a struct's walk
 // call each other through fields. Parts are earlier entries, so that twice the handle, plus one in a type's walk, falls. A type with parts is looked up in a
 // memory of answers first, and noted in it last: a type that stands in many places is walked once.
+#![tactic(auto)]
+
 ghost use Rattle.std.specs.Prelude.{◌≡◌, ◌++◌, take};
 ghost use Rattle.words.specs.Columns.{kind_on};
 ghost use Rattle.index.specs.Covers.{Covers};

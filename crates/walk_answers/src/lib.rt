@@ -1,4 +1,6 @@
 // The answers of dual, glb and lub that walk no parts, on a store that row 1 has passed.
+#![tactic(auto)]
+
 ghost use Rattle.std.specs.Prelude.{◌≡◌, true, ◌++◌, ◌+◌, ◌≤◌, ◌<◌, length, take};
 ghost use Rattle.index.specs.Covers.{Covers};
 ghost use Rattle.words.specs.Ran.{Segments, Runs};

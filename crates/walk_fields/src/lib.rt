@@ -1,4 +1,6 @@
 // A struct made again with the types and finals of its walk, on a store that row 1 has passed.
+#![tactic(auto)]
+
 ghost use Rattle.std.specs.Prelude.{◌≡◌, true, ◌++◌, ◌+◌, ◌≤◌, ◌<◌, length, take, drop};
 ghost use Rattle.index.specs.Covers.{Covers};
 ghost use Rattle.words.specs.Ran.{Segments, Runs};

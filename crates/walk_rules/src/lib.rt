@@ -1,4 +1,6 @@
 // The tables of dual, glb and lub on numbers: which form an answer has, and what becomes of nil and of final.
+#![tactic(auto)]
+
 ghost use Rattle.std.specs.Prelude.{◌≡◌, ◌≤◌};
 ghost use Rattle.walk_rules.specs.declared.Walk.TheVariants.{Dual};
 ghost use Rattle.walk_rules.specs.Tables.{end_of, struct_form, tuple_form, form_for, nil_of, final_of};
@@ -6,7 +8,7 @@ ghost use Rattle.walk_rules.specs.Tables.{end_of, struct_form, tuple_form, form_
 use words::{fresh, kinds};
 
 // The operation that a walk is for.
-#[derive(Drop)]
+#[derive(Clone, Copy)]
 pub enum Walk {
     Dual,
     Glb,
@@ -14,7 +16,7 @@ pub enum Walk {
 }
 
 // What a walk does with a type.
-#[derive(Drop)]
+#[derive(Clone, Copy)]
 pub enum Form {
     Is(usize),
     AnInt,

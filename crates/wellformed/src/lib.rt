@@ -1,4 +1,6 @@
 // Row 1 of the refusals: whether a list of words is well formed.
+#![tactic(auto)]
+
 ghost use Rattle.std.specs.Prelude.{◌≡◌, ◌+◌, ◌*◌, ◌<◌, ◌≤◌, max, min, length, drop, get_or};
 ghost use Rattle.source.specs.Source.{unpacked, stored};
 ghost use Rattle.words.specs.Words.{size_of, field_size};
@@ -11,7 +13,7 @@ ghost use Rattle.words.specs.Columns.{struct_size, first_field};
 use words::{columns, kinds, limits};
 
 // The depth of the deepest part, or that a part is not right.
-#[derive(Drop)]
+#[derive(Clone, Copy)]
 pub enum Depth {
     Of(u64),
     Bad,
@@ -350,7 +352,7 @@ pub fn entry(words: &[u64], tail: &[u8], bits: &[u64], e: &[u64]) -> bool
 }
 
 // How far the entries of a window are right, as an index of it.
-#[derive(Drop)]
+#[derive(Clone, Copy)]
 pub enum Reached {
     At(usize),
     Fault,
