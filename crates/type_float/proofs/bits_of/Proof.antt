@@ -4,14 +4,14 @@ use Rattle.type_float.proofs.Nan.{differs_not, same_bits}
 use Rattle.type_float.proofs.bits_of.Statement.{statement}
 use Rattle.type_float.proofs.bits_of.Tie as tie
 
+returns-then-con : tie.Need-returns-then-con
+returns-then-con c = search rules
+
+float_to_bits-result : tie.Need-float_to_bits-result
+float_to_bits-result c = search differs_not
+
 returns : tie.Need-returns
-returns c = search rules
+returns c = search same_bits
 
-float-to-bits-result : tie.Need-float-to-bits-result
-float-to-bits-result c = search differs_not
-
-returns-2 : tie.Need-returns-2
-returns-2 c = search same_bits
-
-pub bits-of-spec : {M : Type 1} → statement M
-bits-of-spec = tie.close (tie.spec returns float-to-bits-result returns-2)
+pub bits_of_spec : {M : Type 1} → statement M
+bits_of_spec = tie.close (tie.spec returns-then-con float_to_bits-result returns)

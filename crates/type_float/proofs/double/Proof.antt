@@ -4,17 +4,17 @@ use borrow.Author.Rules.{rules}
 use Rattle.type_float.proofs.double.Statement.{statement}
 use Rattle.type_float.proofs.double.Tie as tie
 
-is-nan-requires : tie.Need-is-nan-requires
-is-nan-requires c κs = search rules
+is_nan-requires : tie.Need-is_nan-requires
+is_nan-requires c κs = search rules
+
+returns-then-is_nan : tie.Need-returns-then-is_nan
+returns-then-is_nan c = search made_nan
+
+float_from_bits-result : tie.Need-float_from_bits-result
+float_from_bits-result c = search not_nan
 
 returns : tie.Need-returns
-returns c = search made_nan
+returns c = search rules
 
-float-from-bits-result : tie.Need-float-from-bits-result
-float-from-bits-result c = search not_nan
-
-returns-2 : tie.Need-returns-2
-returns-2 c = search rules
-
-pub double-spec : {M : Type 1} → statement M
-double-spec = tie.close (tie.spec is-nan-requires returns float-from-bits-result returns-2)
+pub double_spec : {M : Type 1} → statement M
+double_spec = tie.close (tie.spec is_nan-requires returns-then-is_nan float_from_bits-result returns)

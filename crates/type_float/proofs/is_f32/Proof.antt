@@ -4,35 +4,35 @@ use Rattle.type_float.proofs.Cases.{zero_is, ones_is, high_is, low_is, mid_is, s
 use Rattle.type_float.proofs.is_f32.Statement.{statement}
 use Rattle.type_float.proofs.is_f32.Tie as tie
 
+returns-then-x-eq0 : tie.Need-returns-then-x-eq0
+returns-then-x-eq0 c = search zero_is
+
+returns-then-x-eq2047 : tie.Need-returns-then-x-eq2047
+returns-then-x-eq2047 c = search ones_is
+
+returns-then-x-gt1150 : tie.Need-returns-then-x-gt1150
+returns-then-x-gt1150 c = search high_is
+
+returns-then-x-lt874 : tie.Need-returns-then-x-lt874
+returns-then-x-lt874 c = search low_is
+
+overflow_add-q : tie.Need-overflow_add-q
+overflow_add-q c = search rules
+
+returns-then-x-ge897 : tie.Need-returns-then-x-ge897
+returns-then-x-ge897 c = search mid_is
+
+overflow_sub-d : tie.Need-overflow_sub-d
+overflow_sub-d c = search rules
+
+overflow_shl-result : tie.Need-overflow_shl-result
+overflow_shl-result c = search rules
+
+nonzero_rem-result-2 : tie.Need-nonzero_rem-result-2
+nonzero_rem-result-2 c = search shift_pos
+
 returns : tie.Need-returns
-returns c = search zero_is
+returns c = search sub_is
 
-returns-2 : tie.Need-returns-2
-returns-2 c = search ones_is
-
-returns-3 : tie.Need-returns-3
-returns-3 c = search high_is
-
-returns-4 : tie.Need-returns-4
-returns-4 c = search low_is
-
-add-q : tie.Need-overflow-add-q
-add-q c = search rules
-
-returns-5 : tie.Need-returns-5
-returns-5 c = search mid_is
-
-sub-d : tie.Need-overflow-sub-d
-sub-d c = search rules
-
-shl-result : tie.Need-overflow-shl-result
-shl-result c = search rules
-
-rem-result : tie.Need-nonzero-rem-result
-rem-result c = search shift_pos
-
-returns-6 : tie.Need-returns-6
-returns-6 c = search sub_is
-
-pub is-f32-spec : {M : Type 1} → statement M
-is-f32-spec = tie.close (tie.spec returns returns-2 returns-3 returns-4 add-q returns-5 sub-d shl-result rem-result returns-6)
+pub is_f32_spec : {M : Type 1} → statement M
+is_f32_spec = tie.close (tie.spec returns-then-x-eq0 returns-then-x-eq2047 returns-then-x-gt1150 returns-then-x-lt874 overflow_add-q returns-then-x-ge897 overflow_sub-d overflow_shl-result nonzero_rem-result-2 returns)
