@@ -7,47 +7,47 @@ use Rattle.bitset.proofs.Bit.{one_more, all_zero_is}
 use Rattle.bitset.proofs.clear.Statement.{statement}
 use Rattle.bitset.proofs.clear.Tie as tie
 
-abbrev invariant-loop : tie.invariant-loop
-invariant-loop bits₀ k₀ bits k = (k ≤ length bits) × (length bits ≡ length bits₀) × ((i : ℕ) → i < k → get_or bits i 0 ≡ 0)
+abbrev invariant-loop-k : tie.invariant-loop-k
+invariant-loop-k bits₀ k₀ bits k = (k ≤ length bits) × (length bits ≡ length bits₀) × ((i : ℕ) → i < k → get_or bits i 0 ≡ 0)
 
-abbrev decreases-loop : tie.decreases-loop
-decreases-loop bits₀ k₀ bits k = length bits - k
+abbrev decreases-loop-k : tie.decreases-loop-k
+decreases-loop-k bits₀ k₀ bits k = length bits - k
 
-loop-holds : tie.Need-loop-init invariant-loop decreases-loop
-loop-holds c = (search rules, refl, search rules)
+loop-k-init : tie.Need-loop-k-init invariant-loop-k decreases-loop-k
+loop-k-init c = (search rules, refl, search rules)
 
-mul-bits : tie.Need-overflow-mul-bits invariant-loop decreases-loop
-mul-bits c = search rules
+offset_bounds-bits-k : tie.Need-offset_bounds-bits-k invariant-loop-k decreases-loop-k
+offset_bounds-bits-k c = search rules
 
-slice-write-bits : tie.Need-slice-write-bits invariant-loop decreases-loop
-slice-write-bits c = search rules
+bounds-bits-k : tie.Need-bounds-bits-k invariant-loop-k decreases-loop-k
+bounds-bits-k c = search rules
 
-add-k : tie.Need-overflow-add-k invariant-loop decreases-loop
-add-k c = search rules
+overflow_add-k : tie.Need-overflow_add-k invariant-loop-k decreases-loop-k
+overflow_add-k c = search rules
 
-loop-less : tie.Need-loop-smaller invariant-loop decreases-loop
-loop-less c = simp length-set (search rules)
+loop-k-smaller : tie.Need-loop-k-smaller invariant-loop-k decreases-loop-k
+loop-k-smaller c = simp length-set (search rules)
 
-loop-again : tie.Need-loop-preserved invariant-loop decreases-loop
-loop-again c = (simp length-set (search rules), simp length-set (search rules), search one_more)
+loop-k-preserved : tie.Need-loop-k-preserved invariant-loop-k decreases-loop-k
+loop-k-preserved c = (simp length-set (search rules), simp length-set (search rules), search one_more)
 
-same_length : tie.Need-same-length invariant-loop decreases-loop
-same_length c = search rules
+shape_of-bits : tie.Need-shape_of-bits invariant-loop-k decreases-loop-k
+shape_of-bits c = search rules
 
-returns : tie.Need-returns invariant-loop decreases-loop
+returns : tie.Need-returns invariant-loop-k decreases-loop-k
 returns c = search all_zero_is
 
 pub clear_spec : {M : Type 1} → statement M
 clear_spec =
     tie.close
     (tie.spec
-    invariant-loop
-    decreases-loop
-    loop-holds
-    mul-bits
-    slice-write-bits
-    add-k
-    loop-less
-    loop-again
-    same_length
+    invariant-loop-k
+    decreases-loop-k
+    loop-k-init
+    offset_bounds-bits-k
+    bounds-bits-k
+    overflow_add-k
+    loop-k-smaller
+    loop-k-preserved
+    shape_of-bits
     returns)

@@ -5,18 +5,18 @@ use borrow.Author.Rules.{rules}
 use Rattle.bitset.proofs.marked.Statement.{statement}
 use Rattle.bitset.proofs.marked.Tie as tie
 
-mul-result : tie.Need-overflow-mul-result
-mul-result c = search rules
+offset_bounds-bits-i : tie.Need-offset_bounds-bits-i
+offset_bounds-bits-i c = search rules
 
-shared-slice-read-result : tie.Need-shared-slice-read-result
-shared-slice-read-result c = search rules
+bounds-bits-i : tie.Need-bounds-bits-i
+bounds-bits-i c = search rules
 
-shr-result : tie.Need-overflow-shr-result
-shr-result c = search rules
+overflow_shr-result : tie.Need-overflow_shr-result
+overflow_shr-result c = search rules
 
 returns : tie.Need-returns
 unfolding bit_at
 returns c = refl
 
-pub marked-spec : {M : Type 1} → statement M
-marked-spec = tie.close (tie.spec mul-result shared-slice-read-result shr-result returns)
+pub marked_spec : {M : Type 1} → statement M
+marked_spec = tie.close (tie.spec offset_bounds-bits-i bounds-bits-i overflow_shr-result returns)
