@@ -6,51 +6,51 @@ use borrow.Author.Rules.{rules}
 use Rattle.index.proofs.add.Statement.{statement}
 use Rattle.index.proofs.add.Tie as tie
 
-bucket-requires : tie.Need-bucket-requires
-bucket-requires c κs = search rules
+bucket-b-requires : tie.Need-bucket-b-requires
+bucket-b-requires c κs = search rules
 
-mul-index : tie.Need-overflow-mul-index
-mul-index c = search rules
+offset_bounds-index-b : tie.Need-offset_bounds-index-b
+offset_bounds-index-b c = search rules
 
-slice-read-index : tie.Need-slice-read-index
-slice-read-index c = search rules
+bounds-index-b : tie.Need-bounds-index-b
+bounds-index-b c = search rules
 
-add-index : tie.Need-overflow-add-index
-add-index c = omega (arith, c.before.before.before.before.requires.1 c.before.bucket.result c.before.bucket.ensures.1)
+overflow_add-index : tie.Need-overflow_add-index
+overflow_add-index c = omega (arith, c.requires.1 c.bucket-b.result c.bucket-b.ensures.1)
 
-add-index-2 : tie.Need-overflow-add-index-2
-add-index-2 c = search rules
+overflow_add-index-2 : tie.Need-overflow_add-index-2
+overflow_add-index-2 c = search rules
 
-mul-index-2 : tie.Need-overflow-mul-index-2
-mul-index-2 c = search rules
+offset_bounds-index-half : tie.Need-offset_bounds-index-half
+offset_bounds-index-half c = search rules
 
-slice-write-index : tie.Need-slice-write-index
-slice-write-index c = search rules
+bounds-index-half : tie.Need-bounds-index-half
+bounds-index-half c = search rules
 
-mul-index-3 : tie.Need-overflow-mul-index-3
-mul-index-3 c = search rules
+offset_bounds-index-b-2 : tie.Need-offset_bounds-index-b-2
+offset_bounds-index-b-2 c = search rules
 
-slice-write-index-2 : tie.Need-slice-write-index-2
-slice-write-index-2 c = simp length-set (search rules)
+bounds-index-b-2 : tie.Need-bounds-index-b-2
+bounds-index-b-2 c = simp length-set (search rules)
 
-same_length : tie.Need-same-length
-same_length c = search rules
+shape_of-index : tie.Need-shape_of-index
+shape_of-index c = search rules
 
 returns : tie.Need-returns
-returns c = added_is _ _ _ _ c.before.bucket.ensures.0
+returns c = added_is _ _ _ _ c.bucket-b.ensures.0
 
 pub add_spec : {M : Type 1} → statement M
 add_spec =
     tie.close
     (tie.spec
-    bucket-requires
-    mul-index
-    slice-read-index
-    add-index
-    add-index-2
-    mul-index-2
-    slice-write-index
-    mul-index-3
-    slice-write-index-2
-    same_length
+    bucket-b-requires
+    offset_bounds-index-b
+    bounds-index-b
+    overflow_add-index
+    overflow_add-index-2
+    offset_bounds-index-half
+    bounds-index-half
+    offset_bounds-index-b-2
+    bounds-index-b-2
+    shape_of-index
     returns)

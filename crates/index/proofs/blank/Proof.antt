@@ -11,32 +11,32 @@ use Rattle.index.proofs.blank.Tie as tie
 clear-requires : tie.Need-clear-requires
 clear-requires c κs = search rules
 
-same_length : tie.Need-same-length
-same_length c = search rules
+shape_of-index-then-half-eq0 : tie.Need-shape_of-index-then-half-eq0
+shape_of-index-then-half-eq0 c = search rules
+
+returns-then-half-eq0 : tie.Need-returns-then-half-eq0
+returns-then-half-eq0 c = blank_none _ c.if-half-eq0.true
+
+offset_bounds-index-half : tie.Need-offset_bounds-index-half
+offset_bounds-index-half c = search rules
+
+bounds-index-half : tie.Need-bounds-index-half
+bounds-index-half c = search rules
+
+shape_of-index : tie.Need-shape_of-index
+shape_of-index c = search rules
 
 returns : tie.Need-returns
-returns c = blank_none _ c.if1.true
+returns c = let k = c.clear in blank_one k.new.0 c.if-half-eq0.false (blank_word (length k.new.0) (k.ensures ∙ ap (λ (n : ℕ). replicate n 0) (sym k.auto.0)))
 
-mul-index : tie.Need-overflow-mul-index
-mul-index c = search rules
-
-slice-write-index : tie.Need-slice-write-index
-slice-write-index c = search rules
-
-same-length-2 : tie.Need-same-length-2
-same-length-2 c = search rules
-
-returns-2 : tie.Need-returns-2
-returns-2 c = let k = c.before.before.before.clear in blank_one k.new.0 c.if1.false (blank_word (length k.new.0) (k.ensures ∙ ap (λ (n : ℕ). replicate n 0) (sym k.auto.0)))
-
-pub blank-spec : {M : Type 1} → statement M
-blank-spec =
+pub blank_spec : {M : Type 1} → statement M
+blank_spec =
     tie.close
     (tie.spec
     clear-requires
-    same_length
-    returns
-    mul-index
-    slice-write-index
-    same-length-2
-    returns-2)
+    shape_of-index-then-half-eq0
+    returns-then-half-eq0
+    offset_bounds-index-half
+    bounds-index-half
+    shape_of-index
+    returns)

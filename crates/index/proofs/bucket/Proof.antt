@@ -13,5 +13,5 @@ slot-requires c κs = search rules
 returns : tie.Need-returns
 returns c = (search in_bucket, c.slot.ensures.1)
 
-pub bucket-spec : {M : Type 1} → statement M
-bucket-spec = tie.close (tie.spec hash-requires slot-requires returns)
+pub bucket_spec : {M : Type 1} → statement M
+bucket_spec = tie.close (tie.spec hash-requires slot-requires returns)

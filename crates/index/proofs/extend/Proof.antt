@@ -10,91 +10,91 @@ use Rattle.index.proofs.Keep.{extend_none, extend_first, extend_last}
 use Rattle.index.proofs.extend.Statement.{statement}
 use Rattle.index.proofs.extend.Tie as tie
 
-abbrev invariant-loop : tie.invariant-loop
-invariant-loop words used index₀ half at₀ index at = (length index ≡ length index₀) × Built words used index at
+abbrev invariant-loop-at : tie.invariant-loop-at
+invariant-loop-at words used index₀ half at₀ index at = (length index ≡ length index₀) × Built words used index at
 
-abbrev decreases-loop : tie.decreases-loop
-decreases-loop words used index₀ half at₀ index at = used - at
+abbrev decreases-loop-at : tie.decreases-loop-at
+decreases-loop-at words used index₀ half at₀ index at = used - at
 
-returns : tie.Need-returns invariant-loop decreases-loop
-returns c = extend_none _ _ _ c.before.before.before.requires.0 c.before.before.before.requires.1 c.before.before.before.requires.2 c.if1.true
+returns-then-half-used : tie.Need-returns-then-half-used invariant-loop-at decreases-loop-at
+returns-then-half-used c = extend_none _ _ _ c.requires.0 c.requires.1 c.requires.2 c.if-half-used.true
 
-covered-requires : tie.Need-covered-requires invariant-loop decreases-loop
-covered-requires c κs = search rules
+covered-at-requires : tie.Need-covered-at-requires invariant-loop-at decreases-loop-at
+covered-at-requires c κs = search rules
 
-loop-holds : tie.Need-loop-init invariant-loop decreases-loop
-loop-holds c = (refl, extend_first _ _ _ c.before.before.before.before.before.requires.0 c.before.before.before.before.before.requires.1 c.before.before.before.before.before.requires.2 c.before.before.if1.false _ c.covered.ensures)
+loop-at-init : tie.Need-loop-at-init invariant-loop-at decreases-loop-at
+loop-at-init c = (refl, extend_first _ _ _ c.before.before.before.before.before.requires.0 c.before.before.before.before.before.requires.1 c.before.before.before.before.before.requires.2 c.if1.false _ c.covered-at.ensures)
 
-mul-size : tie.Need-overflow-mul-size invariant-loop decreases-loop
-mul-size c = search rules
+offset_bounds-words-at : tie.Need-offset_bounds-words-at invariant-loop-at decreases-loop-at
+offset_bounds-words-at c = search rules
 
-shared-slice-read-size : tie.Need-shared-slice-read-size invariant-loop decreases-loop
-shared-slice-read-size c = search rules
+bounds-words-at : tie.Need-bounds-words-at invariant-loop-at decreases-loop-at
+bounds-words-at c = search rules
 
-size-requires : tie.Need-size-requires invariant-loop decreases-loop
-size-requires c κs = search rules
+size-n-requires : tie.Need-size-n-requires invariant-loop-at decreases-loop-at
+size-n-requires c κs = search rules
 
-add-add : tie.Need-overflow-add-add invariant-loop decreases-loop
-add-add c = omega (arith, built_inside _ _ _ _ c.before.before.before.before.before.before.before.before.before.before.requires.0 c.before.before.before.before.loop.invariant.1 c.before.before.before.loop-test.true)
+overflow_add-at : tie.Need-overflow_add-at invariant-loop-at decreases-loop-at
+overflow_add-at c = omega (arith, built_inside _ _ _ _ c.before.before.before.before.before.before.before.before.before.before.requires.0 c.loop-at.invariant.1 c.loop-at-test.true)
 
-mul-add : tie.Need-overflow-mul-add invariant-loop decreases-loop
-mul-add c = omega (arith, built_inside _ _ _ _ c.before.before.before.before.before.before.before.before.before.before.requires.0 c.before.before.before.before.loop.invariant.1 c.before.before.before.loop-test.true)
+offset_bounds-words-at-in-loop-at : tie.Need-offset_bounds-words-at-in-loop-at invariant-loop-at decreases-loop-at
+offset_bounds-words-at-in-loop-at c = omega (arith, built_inside _ _ _ _ c.before.before.before.before.before.before.before.before.before.before.requires.0 c.loop-at.invariant.1 c.loop-at-test.true)
 
-sub-add : tie.Need-overflow-sub-add invariant-loop decreases-loop
-sub-add c = omega (arith, built_inside _ _ _ _ c.before.before.before.before.before.before.before.before.before.before.requires.0 c.before.before.before.before.loop.invariant.1 c.before.before.before.loop-test.true)
+slice_bounds-add-count : tie.Need-slice_bounds-add-count invariant-loop-at decreases-loop-at
+slice_bounds-add-count c = omega (arith, built_inside _ _ _ _ c.before.before.before.before.before.before.before.before.before.before.requires.0 c.loop-at.invariant.1 c.loop-at-test.true)
 
-part-add-start : tie.Need-slice-bounds-add-start invariant-loop decreases-loop
-part-add-start c = omega (arith, built_inside _ _ _ _ c.before.before.before.before.before.before.before.before.before.before.requires.0 c.before.before.before.before.loop.invariant.1 c.before.before.before.loop-test.true)
+slice_bounds-add-start : tie.Need-slice_bounds-add-start invariant-loop-at decreases-loop-at
+slice_bounds-add-start c = omega (arith, built_inside _ _ _ _ c.before.before.before.before.before.before.before.before.before.before.requires.0 c.loop-at.invariant.1 c.loop-at-test.true)
 
-part-add-end : tie.Need-slice-bounds-add-end invariant-loop decreases-loop
-part-add-end c = omega (arith, built_inside _ _ _ _ c.before.before.before.before.before.before.before.before.before.before.requires.0 c.before.before.before.before.loop.invariant.1 c.before.before.before.loop-test.true)
+slice_bounds-add-end : tie.Need-slice_bounds-add-end invariant-loop-at decreases-loop-at
+slice_bounds-add-end c = omega (arith, built_inside _ _ _ _ c.before.before.before.before.before.before.before.before.before.before.requires.0 c.loop-at.invariant.1 c.loop-at-test.true)
 
-add-requires : tie.Need-add-requires invariant-loop decreases-loop
-add-requires c κs = (search rules, built_bucket _ _ _ _ c.before.before.before.before.before.before.before.before.before.before.before.requires.0 c.before.before.before.before.before.loop.invariant.1 c.before.before.before.before.loop-test.true)
+add-requires : tie.Need-add-requires invariant-loop-at decreases-loop-at
+add-requires c κs = (search rules, built_bucket _ _ _ _ c.before.before.before.before.before.before.before.before.before.before.before.requires.0 c.loop-at.invariant.1 c.loop-at-test.true)
 
-add_at : tie.Need-overflow-add-at invariant-loop decreases-loop
-add_at c = omega (arith, built_inside _ _ _ _ c.before.before.before.before.before.before.before.before.before.before.before.before.before.before.requires.0 c.before.before.before.before.before.before.before.before.loop.invariant.1 c.before.before.before.before.before.before.before.loop-test.true)
+overflow_add-at-in-loop-at : tie.Need-overflow_add-at-in-loop-at invariant-loop-at decreases-loop-at
+overflow_add-at-in-loop-at c = omega (arith, built_inside _ _ _ _ c.before.before.before.before.before.before.before.before.before.before.before.before.before.before.requires.0 c.loop-at.invariant.1 c.loop-at-test.true)
 
-loop-less : tie.Need-loop-smaller invariant-loop decreases-loop
-loop-less c = omega (arith, built_inside _ _ _ _ c.before.before.before.before.before.before.before.before.before.before.before.before.before.before.requires.0 c.before.before.before.before.before.before.before.before.loop.invariant.1 c.before.before.before.before.before.before.before.loop-test.true, size_pos (get_or c.before.before.before.before.before.before.before.before.before.before.before.before.before.before.args.words.now c.before.before.before.before.before.before.before.before.loop.at 0))
+loop-at-smaller : tie.Need-loop-at-smaller invariant-loop-at decreases-loop-at
+loop-at-smaller c = omega (arith, built_inside _ _ _ _ c.before.before.before.before.before.before.before.before.before.before.before.before.before.before.requires.0 c.loop-at.invariant.1 c.loop-at-test.true, size_pos (get_or c.before.before.before.before.before.before.before.before.before.before.before.before.before.before.args.words.now c.loop-at.at 0))
 
-loop-again : tie.Need-loop-preserved invariant-loop decreases-loop
-loop-again c = (search rules, built_more _ _ _ _ c.before.before.before.before.before.before.before.before.before.before.before.before.before.before.requires.0 c.before.before.before.before.before.before.before.before.loop.invariant.1 c.before.before.before.before.before.before.before.loop-test.true _ _ c.before.before.before.before.before.size.ensures c.before.before.add.ensures)
+loop-at-preserved : tie.Need-loop-at-preserved invariant-loop-at decreases-loop-at
+loop-at-preserved c = (search rules, built_more _ _ _ _ c.before.before.before.before.before.before.before.before.before.before.before.before.before.before.requires.0 c.loop-at.invariant.1 c.loop-at-test.true _ _ c.size-n.ensures c.add.ensures)
 
-mul-index : tie.Need-overflow-mul-index invariant-loop decreases-loop
-mul-index c = search rules
+offset_bounds-index-half : tie.Need-offset_bounds-index-half invariant-loop-at decreases-loop-at
+offset_bounds-index-half c = search rules
 
-slice-write-index : tie.Need-slice-write-index invariant-loop decreases-loop
-slice-write-index c = search rules
+bounds-index-half : tie.Need-bounds-index-half invariant-loop-at decreases-loop-at
+bounds-index-half c = search rules
 
-same_length : tie.Need-same-length invariant-loop decreases-loop
-same_length c = search rules
+shape_of-index : tie.Need-shape_of-index invariant-loop-at decreases-loop-at
+shape_of-index c = search rules
 
-returns-2 : tie.Need-returns-2 invariant-loop decreases-loop
-returns-2 c = extend_last _ _ _ _ c.before.before.before.before.before.before.before.requires.0 c.before.before.before.before.before.before.before.requires.1 c.before.loop.invariant.1 c.loop-test.false _ (ap (λ (k : ℕ). k / 2) (sym c.before.loop.invariant.0))
+returns : tie.Need-returns invariant-loop-at decreases-loop-at
+returns c = extend_last _ _ _ _ c.before.before.before.before.before.before.before.requires.0 c.before.before.before.before.before.before.before.requires.1 c.loop-at.invariant.1 c.loop-at-test.false _ (ap (λ (k : ℕ). k / 2) (sym c.loop-at.invariant.0))
 
-pub extend-spec : {M : Type 1} → statement M
-extend-spec =
+pub extend_spec : {M : Type 1} → statement M
+extend_spec =
     tie.close
     (tie.spec
-    invariant-loop
-    decreases-loop
-    returns
-    covered-requires
-    loop-holds
-    mul-size
-    shared-slice-read-size
-    size-requires
-    add-add
-    mul-add
-    sub-add
-    part-add-start
-    part-add-end
+    invariant-loop-at
+    decreases-loop-at
+    returns-then-half-used
+    covered-at-requires
+    loop-at-init
+    offset_bounds-words-at
+    bounds-words-at
+    size-n-requires
+    overflow_add-at
+    offset_bounds-words-at-in-loop-at
+    slice_bounds-add-count
+    slice_bounds-add-start
+    slice_bounds-add-end
     add-requires
-    add_at
-    loop-less
-    loop-again
-    mul-index
-    slice-write-index
-    same_length
-    returns-2)
+    overflow_add-at-in-loop-at
+    loop-at-smaller
+    loop-at-preserved
+    offset_bounds-index-half
+    bounds-index-half
+    shape_of-index
+    returns)

@@ -8,47 +8,47 @@ use Rattle.index.proofs.Hashed.{hash_word, hash_all}
 use Rattle.index.proofs.hash.Statement.{statement}
 use Rattle.index.proofs.hash.Tie as tie
 
-abbrev invariant-loop : tie.invariant-loop
-invariant-loop entry h₀ i₀ h i = (i ≤ length entry) × (hash_from 0 entry ≡ hash_from h (drop i entry))
+abbrev invariant-loop-i : tie.invariant-loop-i
+invariant-loop-i entry h₀ i₀ h i = (i ≤ length entry) × (hash_from 0 entry ≡ hash_from h (drop i entry))
 
-abbrev decreases-loop : tie.decreases-loop
-decreases-loop entry h₀ i₀ h i = length entry - i
+abbrev decreases-loop-i : tie.decreases-loop-i
+decreases-loop-i entry h₀ i₀ h i = length entry - i
 
-loop-holds : tie.Need-loop-init invariant-loop decreases-loop
-loop-holds c = (search rules, refl)
+loop-i-init : tie.Need-loop-i-init invariant-loop-i decreases-loop-i
+loop-i-init c = (search rules, refl)
 
-mul-stir : tie.Need-overflow-mul-stir invariant-loop decreases-loop
-mul-stir c = search rules
+offset_bounds-entry-i : tie.Need-offset_bounds-entry-i invariant-loop-i decreases-loop-i
+offset_bounds-entry-i c = search rules
 
-shared-slice-read-stir : tie.Need-shared-slice-read-stir invariant-loop decreases-loop
-shared-slice-read-stir c = search rules
+bounds-entry-i : tie.Need-bounds-entry-i invariant-loop-i decreases-loop-i
+bounds-entry-i c = search rules
 
-stir-requires : tie.Need-stir-requires invariant-loop decreases-loop
-stir-requires c κs = search rules
+stir-h-requires : tie.Need-stir-h-requires invariant-loop-i decreases-loop-i
+stir-h-requires c κs = search rules
 
-add-i : tie.Need-overflow-add-i invariant-loop decreases-loop
-add-i c = search rules
+overflow_add-i : tie.Need-overflow_add-i invariant-loop-i decreases-loop-i
+overflow_add-i c = search rules
 
-loop-less : tie.Need-loop-smaller invariant-loop decreases-loop
-loop-less c = search rules
+loop-i-smaller : tie.Need-loop-i-smaller invariant-loop-i decreases-loop-i
+loop-i-smaller c = search rules
 
-loop-again : tie.Need-loop-preserved invariant-loop decreases-loop
-loop-again c = (search rules, search hash_word)
+loop-i-preserved : tie.Need-loop-i-preserved invariant-loop-i decreases-loop-i
+loop-i-preserved c = (search rules, search hash_word)
 
-returns : tie.Need-returns invariant-loop decreases-loop
+returns : tie.Need-returns invariant-loop-i decreases-loop-i
 returns c = search hash_all
 
-pub hash-spec : {M : Type 1} → statement M
-hash-spec =
+pub hash_spec : {M : Type 1} → statement M
+hash_spec =
     tie.close
     (tie.spec
-    invariant-loop
-    decreases-loop
-    loop-holds
-    mul-stir
-    shared-slice-read-stir
-    stir-requires
-    add-i
-    loop-less
-    loop-again
+    invariant-loop-i
+    decreases-loop-i
+    loop-i-init
+    offset_bounds-entry-i
+    bounds-entry-i
+    stir-h-requires
+    overflow_add-i
+    loop-i-smaller
+    loop-i-preserved
     returns)

@@ -4,75 +4,75 @@ use borrow.Author.Rules.{rules}
 use Rattle.index.proofs.intern.Statement.{statement}
 use Rattle.index.proofs.intern.Tie as tie
 
-find-requires : tie.Need-find-requires
-find-requires c κs = search rules
+find-f-requires : tie.Need-find-f-requires
+find-f-requires c κs = search rules
 
-enum-known-f : tie.Need-enum-known-f
-enum-known-f c = search rules
+enum_known-f : tie.Need-enum_known-f
+enum_known-f c = search rules
 
-enum_told : tie.Need-enum-told
-enum_told c = search rules
+enum_told-1 : tie.Need-enum_told-1
+enum_told-1 c = search rules
 
-sub_at : tie.Need-overflow-sub-at
-sub_at c = search rules
+overflow_sub-at : tie.Need-overflow_sub-at
+overflow_sub-at c = search rules
 
-sub-if1 : tie.Need-overflow-sub-if1
-sub-if1 c = search rules
+overflow_sub-new : tie.Need-overflow_sub-new
+overflow_sub-new c = search rules
 
-mul-write : tie.Need-overflow-mul-write
-mul-write c = search rules
+offset_bounds-new-at : tie.Need-offset_bounds-new-at
+offset_bounds-new-at c = search rules
 
-sub-write : tie.Need-overflow-sub-write
-sub-write c = search rules
+slice_bounds-write-count : tie.Need-slice_bounds-write-count
+slice_bounds-write-count c = search rules
 
-part-write-start : tie.Need-slice-bounds-write-start
-part-write-start c = search rules
+slice_bounds-write-start : tie.Need-slice_bounds-write-start
+slice_bounds-write-start c = search rules
 
-part-write-end : tie.Need-slice-bounds-write-end
-part-write-end c = search rules
+slice_bounds-write-end : tie.Need-slice_bounds-write-end
+slice_bounds-write-end c = search rules
 
 write-requires : tie.Need-write-requires
 write-requires c κs = search rules
 
-add-t26 : tie.Need-overflow-add-t26
-add-t26 c = search rules
+overflow_add-result : tie.Need-overflow_add-result
+overflow_add-result c = search rules
 
-same_length : tie.Need-same-length
-same_length c = search rules
+shape_of-new-in-At : tie.Need-shape_of-new-in-At
+shape_of-new-in-At c = search rules
 
-returns : tie.Need-returns
-returns c = search there
+returns-in-At : tie.Need-returns-in-At
+returns-in-At c = search there
 
-same-length-2 : tie.Need-same-length-2
-same-length-2 c = search rules
+shape_of-new-then-entry-new : tie.Need-shape_of-new-then-entry-new
+shape_of-new-then-entry-new c = search rules
 
-returns-2 : tie.Need-returns-2
-returns-2 c = search appended
+returns-then-entry-new : tie.Need-returns-then-entry-new
+returns-then-entry-new c = search appended
 
-same-length-3 : tie.Need-same-length-3
-same-length-3 c = search rules
+shape_of-new-else-entry-new : tie.Need-shape_of-new-else-entry-new
+shape_of-new-else-entry-new c = search rules
 
-returns-3 : tie.Need-returns-3
-returns-3 c = search no_room
+returns-else-entry-new : tie.Need-returns-else-entry-new
+returns-else-entry-new c = search no_room
 
-pub intern-spec : {M : Type 1} → statement M
-intern-spec =
+pub intern_spec : {M : Type 1} → statement M
+intern_spec =
     tie.close
     (tie.spec
-    find-requires
-    enum-known-f
-    enum_told
-    sub_at
-    sub-if1
-    mul-write
-    sub-write
-    part-write-start
-    part-write-end
+    find-f-requires
+    enum_known-f
+    enum_told-1
+    overflow_sub-at
+    overflow_sub-new
+    offset_bounds-new-at
+    slice_bounds-write-count
+    slice_bounds-write-start
+    slice_bounds-write-end
     write-requires
-    add-t26
-    same_length
-    returns
-    same-length-2
-    returns-2
-    same-length-3
-    returns-3)
+    overflow_add-result
+    shape_of-new-in-At
+    returns-in-At
+    shape_of-new-then-entry-new
+    returns-then-entry-new
+    shape_of-new-else-entry-new
+    returns-else-entry-new)

@@ -8,91 +8,91 @@ use borrow.Author.Rules.{rules}
 use Rattle.index.proofs.is_at.Statement.{statement}
 use Rattle.index.proofs.is_at.Tie as tie
 
-mul-size : tie.Need-overflow-mul-size
-mul-size c = search rules
+offset_bounds-old-at : tie.Need-offset_bounds-old-at
+offset_bounds-old-at c = search rules
 
-shared-slice-read-size : tie.Need-shared-slice-read-size
-shared-slice-read-size c = search rules
+bounds-old-at : tie.Need-bounds-old-at
+bounds-old-at c = search rules
 
-size-requires : tie.Need-size-requires
-size-requires c κs = search rules
+size-n-requires : tie.Need-size-n-requires
+size-n-requires c κs = search rules
 
-add_same : tie.Need-overflow-add-same
-add_same c = omega (arith, old_inside _ _ _ _ c.before.before.before.before.before.before.requires.0 c.before.before.before.before.before.before.requires.1 c.before.before.if1.true)
+overflow_add-at : tie.Need-overflow_add-at
+overflow_add-at c = omega (arith, old_inside _ _ _ _ c.requires.0 c.requires.1 c.if-at-old.true)
 
-mul-same : tie.Need-overflow-mul-same
-mul-same c = search rules
+offset_bounds-old-at-then-at-old : tie.Need-offset_bounds-old-at-then-at-old
+offset_bounds-old-at-then-at-old c = search rules
 
-sub_same : tie.Need-overflow-sub-same
-sub_same c = search rules
+slice_bounds-same-count : tie.Need-slice_bounds-same-count
+slice_bounds-same-count c = search rules
 
-part-same-start : tie.Need-slice-bounds-same-start
-part-same-start c = search rules
+slice_bounds-same-start : tie.Need-slice_bounds-same-start
+slice_bounds-same-start c = search rules
 
-part-same-end : tie.Need-slice-bounds-same-end
-part-same-end c = omega (arith, old_inside _ _ _ _ c.before.before.before.before.before.before.requires.0 c.before.before.before.before.before.before.requires.1 c.before.before.if1.true)
+slice_bounds-same-end : tie.Need-slice_bounds-same-end
+slice_bounds-same-end c = omega (arith, old_inside _ _ _ _ c.requires.0 c.requires.1 c.if-at-old.true)
 
 same-requires : tie.Need-same-requires
 same-requires c κs = search rules
 
-returns : tie.Need-returns
-returns c = in_old _ _ _ _ c.before.before.before.before.before.before.before.before.requires.0 c.before.before.before.before.before.before.before.before.requires.1 c.before.before.before.before.if1.true _ _ _ c.before.before.size.ensures c.same.ensures
+returns-then-at-old : tie.Need-returns-then-at-old
+returns-then-at-old c = in_old _ _ _ _ c.requires.0 c.requires.1 c.if-at-old.true _ _ _ c.size-n.ensures c.same.ensures
 
-sub-p : tie.Need-overflow-sub-p
-sub-p c = search rules
+overflow_sub-p : tie.Need-overflow_sub-p
+overflow_sub-p c = search rules
 
-mul-size-2 : tie.Need-overflow-mul-size-2
-mul-size-2 c = omega (arith, new_inside _ _ _ _ c.before.before.before.before.requires.0 c.before.before.before.before.requires.1 c.if1.false, size_pos (get_or c.before.before.before.before.args.new.now (c.before.before.before.before.args.at - length c.before.before.before.before.args.old.now) 0))
+offset_bounds-new-p : tie.Need-offset_bounds-new-p
+offset_bounds-new-p c = omega (arith, new_inside _ _ _ _ c.requires.0 c.requires.1 c.if-at-old.false, size_pos (get_or c.args.new.now (c.args.at - length c.args.old.now) 0))
 
-shared-slice-read-size-2 : tie.Need-shared-slice-read-size-2
-shared-slice-read-size-2 c = omega (arith, new_inside _ _ _ _ c.before.before.before.before.before.requires.0 c.before.before.before.before.before.requires.1 c.before.if1.false, size_pos (get_or c.before.before.before.before.before.args.new.now (c.before.before.before.before.before.args.at - length c.before.before.before.before.before.args.old.now) 0))
+bounds-new-p : tie.Need-bounds-new-p
+bounds-new-p c = omega (arith, new_inside _ _ _ _ c.requires.0 c.requires.1 c.if-at-old.false, size_pos (get_or c.args.new.now (c.args.at - length c.args.old.now) 0))
 
-size-requires-2 : tie.Need-size-requires-2
-size-requires-2 c κs = search rules
+size-n-requires-2 : tie.Need-size-n-requires-2
+size-n-requires-2 c κs = search rules
 
-add-same-2 : tie.Need-overflow-add-same-2
-add-same-2 c = omega (arith, new_inside _ _ _ _ c.before.before.before.before.before.before.requires.0 c.before.before.before.before.before.before.requires.1 c.before.before.if1.false)
+overflow_add-p : tie.Need-overflow_add-p
+overflow_add-p c = omega (arith, new_inside _ _ _ _ c.requires.0 c.requires.1 c.if-at-old.false)
 
-mul-same-2 : tie.Need-overflow-mul-same-2
-mul-same-2 c = omega (arith, new_inside _ _ _ _ c.before.before.before.before.before.before.requires.0 c.before.before.before.before.before.before.requires.1 c.before.before.if1.false)
+offset_bounds-new-p-2 : tie.Need-offset_bounds-new-p-2
+offset_bounds-new-p-2 c = omega (arith, new_inside _ _ _ _ c.requires.0 c.requires.1 c.if-at-old.false)
 
-sub-same-2 : tie.Need-overflow-sub-same-2
-sub-same-2 c = search rules
+slice_bounds-same-count-2 : tie.Need-slice_bounds-same-count-2
+slice_bounds-same-count-2 c = search rules
 
-part-same-start-2 : tie.Need-slice-bounds-same-start-2
-part-same-start-2 c = search rules
+slice_bounds-same-start-2 : tie.Need-slice_bounds-same-start-2
+slice_bounds-same-start-2 c = search rules
 
-part-same-end-2 : tie.Need-slice-bounds-same-end-2
-part-same-end-2 c = omega (arith, new_inside _ _ _ _ c.before.before.before.before.before.before.requires.0 c.before.before.before.before.before.before.requires.1 c.before.before.if1.false)
+slice_bounds-same-end-2 : tie.Need-slice_bounds-same-end-2
+slice_bounds-same-end-2 c = omega (arith, new_inside _ _ _ _ c.requires.0 c.requires.1 c.if-at-old.false)
 
 same-requires-2 : tie.Need-same-requires-2
 same-requires-2 c κs = search rules
 
-returns-2 : tie.Need-returns-2
-returns-2 c = in_new _ _ _ _ c.before.before.before.before.before.before.before.before.requires.0 c.before.before.before.before.before.before.before.before.requires.1 c.before.before.before.before.if1.false _ _ _ c.before.before.size2.ensures c.same2.ensures
+returns : tie.Need-returns
+returns c = in_new _ _ _ _ c.requires.0 c.requires.1 c.if-at-old.false _ _ _ c.size-n-2.ensures c.same-2.ensures
 
-pub is-at-spec : {M : Type 1} → statement M
-is-at-spec =
+pub is_at_spec : {M : Type 1} → statement M
+is_at_spec =
     tie.close
     (tie.spec
-    mul-size
-    shared-slice-read-size
-    size-requires
-    add_same
-    mul-same
-    sub_same
-    part-same-start
-    part-same-end
+    offset_bounds-old-at
+    bounds-old-at
+    size-n-requires
+    overflow_add-at
+    offset_bounds-old-at-then-at-old
+    slice_bounds-same-count
+    slice_bounds-same-start
+    slice_bounds-same-end
     same-requires
-    returns
-    sub-p
-    mul-size-2
-    shared-slice-read-size-2
-    size-requires-2
-    add-same-2
-    mul-same-2
-    sub-same-2
-    part-same-start-2
-    part-same-end-2
+    returns-then-at-old
+    overflow_sub-p
+    offset_bounds-new-p
+    bounds-new-p
+    size-n-requires-2
+    overflow_add-p
+    offset_bounds-new-p-2
+    slice_bounds-same-count-2
+    slice_bounds-same-start-2
+    slice_bounds-same-end-2
     same-requires-2
-    returns-2)
+    returns)

@@ -12,13 +12,13 @@ extend-requires : tie.Need-extend-requires
 extend-requires c κs =
     let s = c.before.before.before.before.before.before.before in
     let n = length-take-le s.args.used s.args.words.now s.requires.1 in
-    (s.requires.1, s.requires.2, c.before.before.before.blank.ensures.covers _ (omega (arith, n, s.requires.0)))
+    (s.requires.1, s.requires.2, c.blank.ensures.covers _ (omega (arith, n, s.requires.0)))
 
-same_length : tie.Need-same-length
-same_length c = search rules
+shape_of-index : tie.Need-shape_of-index
+shape_of-index c = search rules
 
 returns : tie.Need-returns
 returns c = search rules
 
 pub open_spec : {M : Type 1} → statement M
-open_spec = tie.close (tie.spec blank-requires extend-requires same_length returns)
+open_spec = tie.close (tie.spec blank-requires extend-requires shape_of-index returns)

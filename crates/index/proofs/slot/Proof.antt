@@ -4,17 +4,17 @@ use borrow.Author.Rules.{rules}
 use Rattle.index.proofs.slot.Statement.{statement}
 use Rattle.index.proofs.slot.Tie as tie
 
-mul-result : tie.Need-overflow-mul-result
-mul-result c = search slot_fits
+overflow_mul-result : tie.Need-overflow_mul-result
+overflow_mul-result c = search slot_fits
+
+returns-then-n : tie.Need-returns-then-n
+returns-then-n c = slot_fraction _ _ c.requires c.if-n.true
+
+nonzero_rem-result-2 : tie.Need-nonzero_rem-result-2
+nonzero_rem-result-2 c = search rules
 
 returns : tie.Need-returns
-returns c = slot_fraction _ _ c.before.requires c.if1.true
+returns c = slot_rest _ _ c.requires c.if-n.false
 
-rem-result : tie.Need-nonzero-rem-result
-rem-result c = search rules
-
-returns-2 : tie.Need-returns-2
-returns-2 c = slot_rest _ _ c.before.requires c.if1.false
-
-pub slot-spec : {M : Type 1} → statement M
-slot-spec = tie.close (tie.spec mul-result returns rem-result returns-2)
+pub slot_spec : {M : Type 1} → statement M
+slot_spec = tie.close (tie.spec overflow_mul-result returns-then-n nonzero_rem-result-2 returns)
