@@ -7,21 +7,21 @@ use Rattle.source.proofs.eight.Tie as tie
 four-requires : tie.Need-four-requires
 four-requires c κs = search rules
 
-add-four : tie.Need-overflow-add-four
-add-four c = search rules
+overflow_add-at : tie.Need-overflow_add-at
+overflow_add-at c = search rules
 
 four-requires-2 : tie.Need-four-requires-2
 four-requires-2 c κs = search rules
 
-mul-result : tie.Need-overflow-mul-result
-mul-result c = search rules
+overflow_mul-result : tie.Need-overflow_mul-result
+overflow_mul-result c = search rules
 
-add-result : tie.Need-overflow-add-result
-add-result c = search rules
+overflow_add-result : tie.Need-overflow_add-result
+overflow_add-result c = search rules
 
 returns : tie.Need-returns
 returns c = search eight_bytes
 
-pub eight-spec : {M : Type 1} → statement M
-eight-spec =
-    tie.close (tie.spec four-requires add-four four-requires-2 mul-result add-result returns)
+pub eight_spec : {M : Type 1} → statement M
+eight_spec =
+    tie.close (tie.spec four-requires overflow_add-at four-requires-2 overflow_mul-result overflow_add-result returns)

@@ -5,35 +5,35 @@ use borrow.Author.Rules.{rules}
 use Rattle.source.proofs.word_at.Statement.{statement}
 use Rattle.source.proofs.word_at.Tie as tie
 
-mul-result : tie.Need-overflow-mul-result
-mul-result c = search rules
+offset_bounds-words-p : tie.Need-offset_bounds-words-p
+offset_bounds-words-p c = search rules
 
-shared-slice-read-result : tie.Need-shared-slice-read-result
-shared-slice-read-result c = search rules
+bounds-words-p : tie.Need-bounds-words-p
+bounds-words-p c = search rules
 
-returns : tie.Need-returns
-returns c = search in_words
+returns-then-p-words : tie.Need-returns-then-p-words
+returns-then-p-words c = search in_words
 
-sub-eight : tie.Need-overflow-sub-eight
-sub-eight c = search rules
+overflow_sub-p : tie.Need-overflow_sub-p
+overflow_sub-p c = search rules
 
-mul-eight : tie.Need-overflow-mul-eight
-mul-eight c = let s = c.before.before.before in record { fits = omega (arith, byte_room s.args.words.now s.args.tail.now s.args.p s.requires c.if1.false) }
+overflow_mul-p : tie.Need-overflow_mul-p
+overflow_mul-p c = let s = c.before.before.before in record { fits = omega (arith, byte_room s.args.words.now s.args.tail.now s.args.p s.requires c.if-p-words.false) }
 
 eight-requires : tie.Need-eight-requires
 eight-requires c κs = search byte_room
 
-returns-2 : tie.Need-returns-2
-returns-2 c = search in_bytes
+returns : tie.Need-returns
+returns c = search in_bytes
 
-pub word-at-spec : {M : Type 1} → statement M
-word-at-spec =
+pub word_at_spec : {M : Type 1} → statement M
+word_at_spec =
     tie.close
     (tie.spec
-    mul-result
-    shared-slice-read-result
-    returns
-    sub-eight
-    mul-eight
+    offset_bounds-words-p
+    bounds-words-p
+    returns-then-p-words
+    overflow_sub-p
+    overflow_mul-p
     eight-requires
-    returns-2)
+    returns)
