@@ -3,11 +3,11 @@ use borrow.Author.Tests.{eq-eqb, ne_eqb}
 use Rattle.rules.proofs.both.Statement.{statement}
 use Rattle.rules.proofs.both.Tie as tie
 
+returns-then-x-p : tie.Need-returns-then-x-p
+returns-then-x-p c = rw (eq-eqb _ _ c.if-x-p.true)
+
 returns : tie.Need-returns
-returns c = rw (eq-eqb _ _ c.if1.true)
+returns c = rw (ne_eqb _ _ c.if-x-p.false)
 
-returns-2 : tie.Need-returns-2
-returns-2 c = rw (ne_eqb _ _ c.if1.false)
-
-pub both-spec : {M : Type 1} → statement M
-both-spec = tie.close (tie.spec returns returns-2)
+pub both_spec : {M : Type 1} → statement M
+both_spec = tie.close (tie.spec returns-then-x-p returns)
