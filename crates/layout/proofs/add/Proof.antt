@@ -5,39 +5,39 @@ use Rattle.layout.proofs.Pass.{eight, added}
 use Rattle.layout.proofs.add.Statement.{statement}
 use Rattle.layout.proofs.add.Tie as tie
 
-mul-sums : tie.Need-overflow-mul-sums
-mul-sums c = search rules
+offset_bounds-sums-k : tie.Need-offset_bounds-sums-k
+offset_bounds-sums-k c = search rules
 
-slice-read-sums : tie.Need-slice-read-sums
-slice-read-sums c = search rules
+bounds-sums-k : tie.Need-bounds-sums-k
+bounds-sums-k c = search rules
 
-shl-sums : tie.Need-overflow-shl-sums
-shl-sums c = search rules
+overflow_shl-sums : tie.Need-overflow_shl-sums
+overflow_shl-sums c = search rules
 
-add-sums : tie.Need-overflow-add-sums
-add-sums c = record { fits = omega (arith, eight c.before.args.k c.before.requires.1) }
+overflow_add-sums : tie.Need-overflow_add-sums
+overflow_add-sums c = record { fits = omega (arith, eight c.args.k c.requires.1) }
 
-mul-sums-2 : tie.Need-overflow-mul-sums-2
-mul-sums-2 c = search rules
+offset_bounds-sums-k-2 : tie.Need-offset_bounds-sums-k-2
+offset_bounds-sums-k-2 c = search rules
 
-slice-write-sums : tie.Need-slice-write-sums
-slice-write-sums c = search rules
+bounds-sums-k-2 : tie.Need-bounds-sums-k-2
+bounds-sums-k-2 c = search rules
 
-same_length : tie.Need-same-length
-same_length c = search rules
+shape_of-sums : tie.Need-shape_of-sums
+shape_of-sums c = search rules
 
 returns : tie.Need-returns
-returns c = added c.before.args.sums.now c.before.args.k c.before.requires.0 c.before.requires.1
+returns c = added c.args.sums.now c.args.k c.requires.0 c.requires.1
 
 pub add_spec : {M : Type 1} → statement M
 add_spec =
     tie.close
     (tie.spec
-    mul-sums
-    slice-read-sums
-    shl-sums
-    add-sums
-    mul-sums-2
-    slice-write-sums
-    same_length
+    offset_bounds-sums-k
+    bounds-sums-k
+    overflow_shl-sums
+    overflow_add-sums
+    offset_bounds-sums-k-2
+    bounds-sums-k-2
+    shape_of-sums
     returns)

@@ -9,114 +9,114 @@ use Rattle.layout.proofs.lay_out.Statement.{statement}
 use Rattle.layout.proofs.lay_out.Tie as tie
 
 -- once the bytes are added up: the function's start, and the end before it is rounded, which is small
-abbrev begun : tie.After-add-up → tie.Start
+abbrev begun : tie.After-add_up → tie.Start
 begun c = c.before.before.before.before
 
-small-end : (c : tie.After-add-up) → let sums = c.add-up.new.1.0 in get_or sums 3 0 + get_or sums 2 0 + get_or sums 1 0 + get_or sums 0 0 ≤ 2040
-small-end c =
+small_end : (c : tie.After-add_up) → let sums = c.add_up.new.1.0 in get_or sums 3 0 + get_or sums 2 0 + get_or sums 1 0 + get_or sums 0 0 ≤ 2040
+small_end c =
     let s = begun c in
-    end_fits (front s.args.list.now) c.add-up.new.1.0 s.pre.2 c.add-up.ensures (few_fields s.args.list.now s.pre.1)
+    end_fits (front s.args.list.now) c.add_up.new.1.0 s.requires.2 c.add_up.ensures (few_fields s.args.list.now s.requires.1)
 
-sub-n : tie.Need-overflow-sub-n
-sub-n c = search rules
+overflow_sub-n : tie.Need-overflow_sub-n
+overflow_sub-n c = search rules
 
-slice-reshare-prefix-add-up : tie.Need-slice-reshare-prefix-add-up
-slice-reshare-prefix-add-up c = search rules
+slice_bounds-add_up-end : tie.Need-slice_bounds-add_up-end
+slice_bounds-add_up-end c = search rules
 
-slice-aggregate-add-up : tie.Need-slice-aggregate-add-up
-slice-aggregate-add-up c = sym (front_length c.before.before.args.list.now)
+slice_bounds-add_up-end-2 : tie.Need-slice_bounds-add_up-end-2
+slice_bounds-add_up-end-2 c = sym (front_length c.before.before.args.list.now)
 
-slice-aggregate-add-up-2 : tie.Need-slice-aggregate-add-up-2
-slice-aggregate-add-up-2 c = search rules
+slice_bounds-add_up-end-3 : tie.Need-slice_bounds-add_up-end-3
+slice_bounds-add_up-end-3 c = search rules
 
-add-up-requires : tie.Need-add-up-requires
-add-up-requires c κs = let s = c.before.before.before in (few_fields s.args.list.now s.requires.1, s.requires.2, refl)
+add_up-requires : tie.Need-add_up-requires
+add_up-requires c κs = let s = c.before.before.before in (few_fields s.args.list.now s.requires.1, s.requires.2, refl)
 
-array-read-four : tie.Need-array-read-four
-array-read-four c = search rules
+bounds-sums-3 : tie.Need-bounds-sums-3
+bounds-sums-3 c = search rules
 
-array-read-two : tie.Need-array-read-two
-array-read-two c = search rules
+bounds-sums-2 : tie.Need-bounds-sums-2
+bounds-sums-2 c = search rules
 
-add-two : tie.Need-overflow-add-two
-add-two c = record { fits = omega (arith, small-end c.before) }
+overflow_add-two : tie.Need-overflow_add-two
+overflow_add-two c = record { fits = omega (arith, small_end c.before) }
 
-array-read-one : tie.Need-array-read-one
-array-read-one c = search rules
+bounds-sums-1 : tie.Need-bounds-sums-1
+bounds-sums-1 c = search rules
 
-add-one : tie.Need-overflow-add-one
-add-one c = record { fits = omega (arith, small-end c.before) }
+overflow_add-one : tie.Need-overflow_add-one
+overflow_add-one c = record { fits = omega (arith, small_end c.before) }
 
-array-read-end : tie.Need-array-read-end
-array-read-end c = search rules
+bounds-sums-0 : tie.Need-bounds-sums-0
+bounds-sums-0 c = search rules
 
-add-end : tie.Need-overflow-add-end
-add-end c = record { fits = omega (arith, small-end c.before) }
+overflow_add-end : tie.Need-overflow_add-end
+overflow_add-end c = record { fits = omega (arith, small_end c.before) }
 
-slice-relend-prefix-place : tie.Need-slice-relend-prefix-place
-slice-relend-prefix-place c = search rules
+slice_bounds-place-end : tie.Need-slice_bounds-place-end
+slice_bounds-place-end c = search rules
 
-slice-aggregate-place : tie.Need-slice-aggregate-place
-slice-aggregate-place c = sym (front_length c.before.before.before.before.before.before.args.list.now)
+slice_bounds-place-end-2 : tie.Need-slice_bounds-place-end-2
+slice_bounds-place-end-2 c = sym (front_length c.before.before.before.before.before.before.args.list.now)
 
-slice-aggregate-place-2 : tie.Need-slice-aggregate-place-2
-slice-aggregate-place-2 c = search rules
+slice_bounds-place-end-3 : tie.Need-slice_bounds-place-end-3
+slice_bounds-place-end-3 c = search rules
 
 place-requires : tie.Need-place-requires
 place-requires c κs =
     let a = c.before.before.before in
     let s = begun a in (
-      few_fields s.args.list.now s.pre.1,
-      s.pre.2,
+      few_fields s.args.list.now s.requires.1,
+      s.requires.2,
       refl,
-      starts (front s.args.list.now) a.add-up.new.1.0 s.pre.2 a.add-up.ensures,
+      starts (front s.args.list.now) a.add_up.new.1.0 s.requires.2 a.add_up.ensures,
     )
 
-add-list : tie.Need-overflow-add-list
-add-list c = record { fits = omega (arith, small-end c.before.before.before.before.before.before.before) }
+overflow_add-list : tie.Need-overflow_add-list
+overflow_add-list c = record { fits = omega (arith, small_end c.before.before.before.before.before.before.before) }
 
-mul-list : tie.Need-overflow-mul-list
-mul-list c = record { fits = omega (arith, small-end c.before.before.before.before.before.before.before) }
+overflow_mul-list : tie.Need-overflow_mul-list
+overflow_mul-list c = record { fits = omega (arith, small_end c.before.before.before.before.before.before.before) }
 
-mul-list-2 : tie.Need-overflow-mul-list-2
-mul-list-2 c = search rules
+offset_bounds-list-n : tie.Need-offset_bounds-list-n
+offset_bounds-list-n c = search rules
 
-slice-write-list : tie.Need-slice-write-list
-slice-write-list c = search rules
+bounds-list-n : tie.Need-bounds-list-n
+bounds-list-n c = search rules
 
-same_length : tie.Need-same-length
-same_length c = search rules
+shape_of-list : tie.Need-shape_of-list
+shape_of-list c = search rules
 
 returns : tie.Need-returns
 returns c =
     let p = c.before.before.before in
     let a = c.before.before.before.before.before.before.before in
     let s = begun a in
-    ended s.args.list.now a.add-up.new.1.0 p.place.new.0 s.pre.0 s.pre.2 a.add-up.ensures p.place.ensures
+    ended s.args.list.now a.add_up.new.1.0 p.place.new.0 s.requires.0 s.requires.2 a.add_up.ensures p.place.ensures
 
-pub lay-out-spec : {M : Type 1} → statement M
-lay-out-spec =
+pub lay_out_spec : {M : Type 1} → statement M
+lay_out_spec =
     tie.close
     (tie.spec
-    sub-n
-    slice-reshare-prefix-add-up
-    slice-aggregate-add-up
-    slice-aggregate-add-up-2
-    add-up-requires
-    array-read-four
-    array-read-two
-    add-two
-    array-read-one
-    add-one
-    array-read-end
-    add-end
-    slice-relend-prefix-place
-    slice-aggregate-place
-    slice-aggregate-place-2
+    overflow_sub-n
+    slice_bounds-add_up-end
+    slice_bounds-add_up-end-2
+    slice_bounds-add_up-end-3
+    add_up-requires
+    bounds-sums-3
+    bounds-sums-2
+    overflow_add-two
+    bounds-sums-1
+    overflow_add-one
+    bounds-sums-0
+    overflow_add-end
+    slice_bounds-place-end
+    slice_bounds-place-end-2
+    slice_bounds-place-end-3
     place-requires
-    add-list
-    mul-list
-    mul-list-2
-    slice-write-list
-    same_length
+    overflow_add-list
+    overflow_mul-list
+    offset_bounds-list-n
+    bounds-list-n
+    shape_of-list
     returns)

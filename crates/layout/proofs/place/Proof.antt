@@ -9,84 +9,84 @@ use Rattle.layout.proofs.Pass.{Placing, begin, log_small, places_fit, placed, al
 use Rattle.layout.proofs.place.Statement.{statement}
 use Rattle.layout.proofs.place.Tie as tie
 
-abbrev invariant-loop : tie.invariant-loop
-invariant-loop list₀ next₀ i₀ list next i = (i ≤ length list) × (length list ≡ length list₀) × (length next ≡ 4) × (length next ≡ length next₀) × Placing list₀ list next i
+abbrev invariant-loop-i : tie.invariant-loop-i
+invariant-loop-i list₀ next₀ i₀ list next i = (i ≤ length list) × (length list ≡ length list₀) × (length next ≡ 4) × (length next ≡ length next₀) × Placing list₀ list next i
 
-abbrev decreases-loop : tie.decreases-loop
-decreases-loop list₀ next₀ i₀ list next i = length list - i
+abbrev decreases-loop-i : tie.decreases-loop-i
+decreases-loop-i list₀ next₀ i₀ list next i = length list - i
 
-loop-holds : tie.Need-loop-init invariant-loop decreases-loop
-loop-holds c = (search rules, refl, c.before.before.requires.2, refl, begin _ _ c.before.before.requires.3)
+loop-i-init : tie.Need-loop-i-init invariant-loop-i decreases-loop-i
+loop-i-init c = (search rules, refl, c.requires.2, refl, begin _ _ c.requires.3)
 
-mul-log : tie.Need-overflow-mul-log invariant-loop decreases-loop
-mul-log c = search rules
+offset_bounds-list-i : tie.Need-offset_bounds-list-i invariant-loop-i decreases-loop-i
+offset_bounds-list-i c = search rules
 
-slice-read-log : tie.Need-slice-read-log invariant-loop decreases-loop
-slice-read-log c = search rules
+bounds-list-i : tie.Need-bounds-list-i invariant-loop-i decreases-loop-i
+bounds-list-i c = search rules
 
-mul-list : tie.Need-overflow-mul-list invariant-loop decreases-loop
-mul-list c = record { fits = omega (arith, log_small _ _ _ _ c.before.before.loop.invariant.4 c.before.before.before.before.before.requires.1 (omega arith)) }
+offset_bounds-next-log : tie.Need-offset_bounds-next-log invariant-loop-i decreases-loop-i
+offset_bounds-next-log c = record { fits = omega (arith, log_small _ _ _ _ c.loop-i.invariant.4 c.requires.1 (omega arith)) }
 
-slice-read-list : tie.Need-slice-read-list invariant-loop decreases-loop
-slice-read-list c = omega (arith, log_small _ _ _ _ c.before.before.before.loop.invariant.4 c.before.before.before.before.before.before.requires.1 (omega arith))
+bounds-next-log : tie.Need-bounds-next-log invariant-loop-i decreases-loop-i
+bounds-next-log c = omega (arith, log_small _ _ _ _ c.loop-i.invariant.4 c.requires.1 (omega arith))
 
-mul-list-2 : tie.Need-overflow-mul-list-2 invariant-loop decreases-loop
-mul-list-2 c = search rules
+offset_bounds-list-i-in-loop-i : tie.Need-offset_bounds-list-i-in-loop-i invariant-loop-i decreases-loop-i
+offset_bounds-list-i-in-loop-i c = search rules
 
-slice-write-list : tie.Need-slice-write-list invariant-loop decreases-loop
-slice-write-list c = search rules
+bounds-list-i-in-loop-i : tie.Need-bounds-list-i-in-loop-i invariant-loop-i decreases-loop-i
+bounds-list-i-in-loop-i c = search rules
 
-add-requires : tie.Need-add-requires invariant-loop decreases-loop
+add-requires : tie.Need-add-requires invariant-loop-i decreases-loop-i
 add-requires c = λ l.
     let s = c.before.before.before.before.before.before.before in
-    let loop = c.before.before.before.before.loop in
+    let loop = c.loop-i in
     let log : get_or loop.list loop.i 0 ≤ 3 = log_small _ _ _ _ loop.invariant.4 s.requires.1 (omega arith) in
     (search rules, log, places_fit _ _ _ loop.i _ s.requires.0 s.requires.1 loop.invariant.4 log)
 
-add-i : tie.Need-overflow-add-i invariant-loop decreases-loop
-add-i c = search rules
+overflow_add-i : tie.Need-overflow_add-i invariant-loop-i decreases-loop-i
+overflow_add-i c = search rules
 
-loop-less : tie.Need-loop-smaller invariant-loop decreases-loop
-loop-less c = simp length-set (search rules)
+loop-i-smaller : tie.Need-loop-i-smaller invariant-loop-i decreases-loop-i
+loop-i-smaller c = simp length-set (search rules)
 
-loop-again : tie.Need-loop-preserved invariant-loop decreases-loop
-loop-again c =
+loop-i-preserved : tie.Need-loop-i-preserved invariant-loop-i decreases-loop-i
+loop-i-preserved c =
     let s = c.before.before.before.before.before.before.before.before.before.before in
-    let loop = c.before.before.before.before.before.before.before.loop in
+    let loop = c.loop-i in
     let in-time : loop.i < length s.args.list.now = omega arith in (
       simp length-set (search rules),
       simp length-set (search rules),
       search rules,
       search rules,
-      placed _ _ _ _ _ in-time loop.invariant.1 s.requires.1 loop.invariant.4 c.before.before.add.ensures,
+      placed _ _ _ _ _ in-time loop.invariant.1 s.requires.1 loop.invariant.4 c.add.ensures,
     )
 
-same_length : tie.Need-same-length invariant-loop decreases-loop
-same_length c = search rules
+shape_of-list : tie.Need-shape_of-list invariant-loop-i decreases-loop-i
+shape_of-list c = search rules
 
-same-length-2 : tie.Need-same-length-2 invariant-loop decreases-loop
-same-length-2 c = search rules
+shape_of-next : tie.Need-shape_of-next invariant-loop-i decreases-loop-i
+shape_of-next c = search rules
 
-returns : tie.Need-returns invariant-loop decreases-loop
+returns : tie.Need-returns invariant-loop-i decreases-loop-i
 returns c = search all_placed
 
-pub place-spec : {M : Type 1} → statement M
-place-spec =
+pub place_spec : {M : Type 1} → statement M
+place_spec =
     tie.close
     (tie.spec
-    invariant-loop
-    decreases-loop
-    loop-holds
-    mul-log
-    slice-read-log
-    mul-list
-    slice-read-list
-    mul-list-2
-    slice-write-list
+    invariant-loop-i
+    decreases-loop-i
+    loop-i-init
+    offset_bounds-list-i
+    bounds-list-i
+    offset_bounds-next-log
+    bounds-next-log
+    offset_bounds-list-i-in-loop-i
+    bounds-list-i-in-loop-i
     add-requires
-    add-i
-    loop-less
-    loop-again
-    same_length
-    same-length-2
+    overflow_add-i
+    loop-i-smaller
+    loop-i-preserved
+    shape_of-list
+    shape_of-next
     returns)
