@@ -4,14 +4,14 @@ use Rattle.type_integer.proofs.Flip.{same_order}
 use Rattle.type_integer.proofs.is_less.Statement.{statement}
 use Rattle.type_integer.proofs.is_less.Tie as tie
 
-number-of-requires : tie.Need-number-of-requires
-number-of-requires c κs = search rules
+number_of-x-requires : tie.Need-number_of-x-requires
+number_of-x-requires c κs = search rules
 
-number-of-requires-2 : tie.Need-number-of-requires-2
-number-of-requires-2 c κs = search rules
+number_of-y-requires : tie.Need-number_of-y-requires
+number_of-y-requires c κs = search rules
 
 returns : tie.Need-returns
 returns c = search same_order
 
-pub is-less-spec : {M : Type 1} → statement M
-is-less-spec = tie.close (tie.spec number-of-requires number-of-requires-2 returns)
+pub is_less_spec : {M : Type 1} → statement M
+is_less_spec = tie.close (tie.spec number_of-x-requires number_of-y-requires returns)

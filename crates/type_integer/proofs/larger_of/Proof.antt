@@ -4,14 +4,14 @@ use mathlib.Core.Path.{sym, ◌∙◌}
 use Rattle.type_integer.proofs.larger_of.Statement.{statement}
 use Rattle.type_integer.proofs.larger_of.Tie as tie
 
-is-less-requires : tie.Need-is-less-requires
-is-less-requires c κs = search rules
+is_less-requires : tie.Need-is_less-requires
+is_less-requires c κs = search rules
+
+returns-then-is_less : tie.Need-returns-then-is_less
+returns-then-is_less c = rw (sym c.is_less.ensures ∙ c.if-is_less.true)
 
 returns : tie.Need-returns
-returns c = rw (sym c.before.is-less.ensures ∙ c.if1.true)
+returns c = rw (sym c.is_less.ensures ∙ c.if-is_less.false)
 
-returns-2 : tie.Need-returns-2
-returns-2 c = rw (sym c.before.is-less.ensures ∙ c.if1.false)
-
-pub larger-of-spec : {M : Type 1} → statement M
-larger-of-spec = tie.close (tie.spec is-less-requires returns returns-2)
+pub larger_of_spec : {M : Type 1} → statement M
+larger_of_spec = tie.close (tie.spec is_less-requires returns-then-is_less returns)

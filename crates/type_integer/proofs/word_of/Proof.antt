@@ -3,24 +3,24 @@ use Rattle.type_integer.proofs.Flip.{flipped_fits, below_cast, below_low, below_
 use Rattle.type_integer.proofs.word_of.Statement.{statement}
 use Rattle.type_integer.proofs.word_of.Tie as tie
 
-sub-result : tie.Need-overflow-sub-result
-sub-result c = search flipped_fits
+overflow_sub-result : tie.Need-overflow_sub-result
+overflow_sub-result c = search flipped_fits
 
-cast-result : tie.Need-overflow-cast-result
-cast-result c = below_cast _ c.before.ranges.z c.if1.true
+overflow_cast-result : tie.Need-overflow_cast-result
+overflow_cast-result c = below_cast _ c.ranges.z c.if-z-lt0.true
 
-sub-result-2 : tie.Need-overflow-sub-result-2
-sub-result-2 c = search below_low
+overflow_sub-result-then-z-lt0 : tie.Need-overflow_sub-result-then-z-lt0
+overflow_sub-result-then-z-lt0 c = search below_low
+
+returns-then-z-lt0 : tie.Need-returns-then-z-lt0
+returns-then-z-lt0 c = search below_is
+
+overflow_cast-result-2 : tie.Need-overflow_cast-result-2
+overflow_cast-result-2 c = above_cast _ c.ranges.z c.if-z-lt0.false
 
 returns : tie.Need-returns
-returns c = search below_is
+returns c = search above_is
 
-cast-result-2 : tie.Need-overflow-cast-result-2
-cast-result-2 c = above_cast _ c.before.ranges.z c.if1.false
-
-returns-2 : tie.Need-returns-2
-returns-2 c = search above_is
-
-pub word-of-spec : {M : Type 1} → statement M
-word-of-spec =
-    tie.close (tie.spec sub-result cast-result sub-result-2 returns cast-result-2 returns-2)
+pub word_of_spec : {M : Type 1} → statement M
+word_of_spec =
+    tie.close (tie.spec overflow_sub-result overflow_cast-result overflow_sub-result-then-z-lt0 returns-then-z-lt0 overflow_cast-result-2 returns)
