@@ -4,14 +4,14 @@ use borrow.Author.Rules.{rules}
 use Rattle.wellformed.proofs.depth_in.Statement.{statement}
 use Rattle.wellformed.proofs.depth_in.Tie as tie
 
+returns-then-kind-low : tie.Need-returns-then-kind-low
+returns-then-kind-low c = search too_low
+
+returns-then-kind-high : tie.Need-returns-then-kind-high
+returns-then-kind-high c = search too_high
+
 returns : tie.Need-returns
-returns c = search too_low
+returns c = search right_kind
 
-returns-2 : tie.Need-returns-2
-returns-2 c = search too_high
-
-returns-3 : tie.Need-returns-3
-returns-3 c = search right_kind
-
-pub depth-in-spec : {M : Type 1} → statement M
-depth-in-spec = tie.close (tie.spec returns returns-2 returns-3)
+pub depth_in_spec : {M : Type 1} → statement M
+depth_in_spec = tie.close (tie.spec returns-then-kind-low returns-then-kind-high returns)

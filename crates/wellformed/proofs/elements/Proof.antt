@@ -11,72 +11,72 @@ use borrow.Author.Rules.{rules}
 use Rattle.wellformed.proofs.elements.Statement.{statement}
 use Rattle.wellformed.proofs.elements.Tie as tie
 
-abbrev invariant-loop : tie.invariant-loop
-invariant-loop words tail bits parts d₀ i₀ d i = (i ≤ length parts) × (parts_depth (heads_at (bit_at bits) (stored words tail)) 0 parts ≡ parts_depth (heads_at (bit_at bits) (stored words tail)) d (drop i parts))
+abbrev invariant-loop-i : tie.invariant-loop-i
+invariant-loop-i words tail bits parts d₀ i₀ d i = (i ≤ length parts) × (parts_depth (heads_at (bit_at bits) (stored words tail)) 0 parts ≡ parts_depth (heads_at (bit_at bits) (stored words tail)) d (drop i parts))
 
-abbrev decreases-loop : tie.decreases-loop
-decreases-loop words tail bits parts d₀ i₀ d i = length parts - i
+abbrev decreases-loop-i : tie.decreases-loop-i
+decreases-loop-i words tail bits parts d₀ i₀ d i = length parts - i
 
-loop-holds : tie.Need-loop-init invariant-loop decreases-loop
-loop-holds c = (search rules, refl)
+loop-i-init : tie.Need-loop-i-init invariant-loop-i decreases-loop-i
+loop-i-init c = (search rules, refl)
 
-mul-h : tie.Need-overflow-mul-h invariant-loop decreases-loop
-mul-h c = search rules
+offset_bounds-parts-i : tie.Need-offset_bounds-parts-i invariant-loop-i decreases-loop-i
+offset_bounds-parts-i c = search rules
 
-shared-slice-read-h : tie.Need-shared-slice-read-h invariant-loop decreases-loop
-shared-slice-read-h c = search rules
+bounds-parts-i : tie.Need-bounds-parts-i invariant-loop-i decreases-loop-i
+bounds-parts-i c = search rules
 
-far-elements-requires : tie.Need-far-elements-requires invariant-loop decreases-loop
-far-elements-requires c κs = search rules
+far_elements-requires : tie.Need-far_elements-requires invariant-loop-i decreases-loop-i
+far_elements-requires c κs = search rules
 
-returns : tie.Need-returns invariant-loop decreases-loop
-returns c = c.far-elements.ensures ∙ sym c.before.before.before.before.loop.invariant.1
+returns-then-h-words : tie.Need-returns-then-h-words invariant-loop-i decreases-loop-i
+returns-then-h-words c = c.far_elements.ensures ∙ sym c.loop-i.invariant.1
 
-near-type-requires : tie.Need-near-type-requires invariant-loop decreases-loop
-near-type-requires c κs = search rules
+near_type-p-requires : tie.Need-near_type-p-requires invariant-loop-i decreases-loop-i
+near_type-p-requires c κs = search rules
 
-enum-known-p : tie.Need-enum-known-p invariant-loop decreases-loop
-enum-known-p c = search rules
+enum_known-p : tie.Need-enum_known-p invariant-loop-i decreases-loop-i
+enum_known-p c = search rules
 
-enum_told : tie.Need-enum-told invariant-loop decreases-loop
-enum_told c = search rules
+enum_told-1 : tie.Need-enum_told-1 invariant-loop-i decreases-loop-i
+enum_told-1 c = search rules
 
-returns-2 : tie.Need-returns-2 invariant-loop decreases-loop
-returns-2 c = search bad_part
+returns-in_default : tie.Need-returns-in_default invariant-loop-i decreases-loop-i
+returns-in_default c = search bad_part
 
-larger-requires : tie.Need-larger-requires invariant-loop decreases-loop
-larger-requires c κs = search rules
+larger-d-requires : tie.Need-larger-d-requires invariant-loop-i decreases-loop-i
+larger-d-requires c κs = search rules
 
-add-i : tie.Need-overflow-add-i invariant-loop decreases-loop
-add-i c = search rules
+overflow_add-i : tie.Need-overflow_add-i invariant-loop-i decreases-loop-i
+overflow_add-i c = search rules
 
-loop-less : tie.Need-loop-smaller invariant-loop decreases-loop
-loop-less c = search rules
+loop-i-smaller : tie.Need-loop-i-smaller invariant-loop-i decreases-loop-i
+loop-i-smaller c = search rules
 
-loop-again : tie.Need-loop-preserved invariant-loop decreases-loop
-loop-again c =
-    (search rules, good_part _ _ _ _ _ c.before.before.before.before.before.before.before.before.loop.invariant.1 c.before.before.before.before.before.before.before.loop-test.true _ c.before.before.before.before.near-type.ensures _ _ c.before.before.p.given.1 c.larger.ensures)
+loop-i-preserved : tie.Need-loop-i-preserved invariant-loop-i decreases-loop-i
+loop-i-preserved c =
+    (search rules, good_part _ _ _ _ _ c.loop-i.invariant.1 c.loop-i-test.true _ c.near_type-p.ensures _ _ c.in-Of.is c.larger-d.ensures)
 
-returns-3 : tie.Need-returns-3 invariant-loop decreases-loop
-returns-3 c = search no_part
+returns : tie.Need-returns invariant-loop-i decreases-loop-i
+returns c = search no_part
 
-pub elements-spec : {M : Type 1} → statement M
-elements-spec =
+pub elements_spec : {M : Type 1} → statement M
+elements_spec =
     tie.close
     (tie.spec
-    invariant-loop
-    decreases-loop
-    loop-holds
-    mul-h
-    shared-slice-read-h
-    far-elements-requires
-    returns
-    near-type-requires
-    enum-known-p
-    enum_told
-    returns-2
-    larger-requires
-    add-i
-    loop-less
-    loop-again
-    returns-3)
+    invariant-loop-i
+    decreases-loop-i
+    loop-i-init
+    offset_bounds-parts-i
+    bounds-parts-i
+    far_elements-requires
+    returns-then-h-words
+    near_type-p-requires
+    enum_known-p
+    enum_told-1
+    returns-in_default
+    larger-d-requires
+    overflow_add-i
+    loop-i-smaller
+    loop-i-preserved
+    returns)

@@ -14,118 +14,118 @@ use Rattle.wellformed.proofs.Windows.{run_bad, run_at, copy_window, copied_long,
 use Rattle.wellformed.proofs.entries_in.Statement.{statement}
 use Rattle.wellformed.proofs.entries_in.Tie as tie
 
-abbrev invariant-loop : tie.invariant-loop
-invariant-loop words tail used bits₀ room₀ at₀ bits room at = (length bits ≡ length bits₀) × (length room ≡ length room₀) × (Passed (stored words tail) used bits at)
+abbrev invariant-loop-at : tie.invariant-loop-at
+invariant-loop-at words tail used bits₀ room₀ at₀ bits room at = (length bits ≡ length bits₀) × (length room ≡ length room₀) × (Passed (stored words tail) used bits at)
 
-abbrev decreases-loop : tie.decreases-loop
-decreases-loop words tail used bits₀ room₀ at₀ bits room at = used - at
+abbrev decreases-loop-at : tie.decreases-loop-at
+decreases-loop-at words tail used bits₀ room₀ at₀ bits room at = used - at
 
 -- the function's entry from the loop's head
-abbrev start : tie.At-loop invariant-loop decreases-loop → tie.Start invariant-loop decreases-loop
+abbrev start : tie.At-loop-at invariant-loop-at decreases-loop-at → tie.Start invariant-loop-at decreases-loop-at
 start l = l.before.before.before.before.before.before.before.before.before
 
-len : (l : tie.At-loop invariant-loop decreases-loop) → length l.loop.bits ≡ length (start l).args.bits.now
-len l = l.loop.invariant.0 ∙ l.before.before.before.clear.auto.0
+len : (l : tie.At-loop-at invariant-loop-at decreases-loop-at) → length l.loop-at.bits ≡ length (start l).args.bits.now
+len l = l.loop-at.invariant.0 ∙ l.clear.auto.0
 
-low : (z : tie.After-smaller invariant-loop decreases-loop) → z.smaller.result ≤ (start z.before.before).args.used - z.before.before.loop.at
-low z = omega (arith, z.smaller.ensures)
+low : (z : tie.After-smaller-m invariant-loop-at decreases-loop-at) → z.smaller-m.result ≤ (start z.before.before).args.used - z.loop-at.at
+low z = omega (arith, z.smaller-m.ensures)
 
-clear-requires : tie.Need-clear-requires invariant-loop decreases-loop
+clear-requires : tie.Need-clear-requires invariant-loop-at decreases-loop-at
 clear-requires c κs = search rules
 
-loop-holds : tie.Need-loop-init invariant-loop decreases-loop
-loop-holds c = (refl, refl, search begin)
+loop-at-init : tie.Need-loop-at-init invariant-loop-at decreases-loop-at
+loop-at-init c = (refl, refl, search begin)
 
-sub-smaller : tie.Need-overflow-sub-smaller invariant-loop decreases-loop
-sub-smaller c = search rules
+overflow_sub-used : tie.Need-overflow_sub-used invariant-loop-at decreases-loop-at
+overflow_sub-used c = search rules
 
-smaller-requires : tie.Need-smaller-requires invariant-loop decreases-loop
-smaller-requires c κs = search rules
+smaller-m-requires : tie.Need-smaller-m-requires invariant-loop-at decreases-loop-at
+smaller-m-requires c κs = search rules
 
-gather-requires : tie.Need-gather-requires invariant-loop decreases-loop
-gather-requires c κs = let l = c.before.before.before in let s = start l in (omega (arith, c.before.smaller.ensures, c.before.before.loop-test.true, s.pre.0.1), omega (arith, c.before.smaller.ensures))
+gather-requires : tie.Need-gather-requires invariant-loop-at decreases-loop-at
+gather-requires c κs = let l = c.before.before.before in let s = start l in (omega (arith, c.smaller-m.ensures, c.loop-at-test.true, s.requires.0.1), omega (arith, c.smaller-m.ensures))
 
-slice-reshare-prefix-run : tie.Need-slice-reshare-prefix-run invariant-loop decreases-loop
-slice-reshare-prefix-run c = omega (arith, c.before.before.before.before.before.smaller.ensures, c.before.before.before.gather.auto.1.1.1.1.0)
+slice_bounds-run-end : tie.Need-slice_bounds-run-end invariant-loop-at decreases-loop-at
+slice_bounds-run-end c = omega (arith, c.smaller-m.ensures, c.gather.auto.1.1.1.1.0)
 
-slice-aggregate-run : tie.Need-slice-aggregate-run invariant-loop decreases-loop
-slice-aggregate-run c = let g = c.before.before.before.before in sym (length-take-le _ g.gather.new.1.1.1.1.0 (omega (arith, c.before.before.before.before.before.before.smaller.ensures, g.gather.auto.1.1.1.1.0)))
+slice_bounds-run-end-in-loop-at : tie.Need-slice_bounds-run-end-in-loop-at invariant-loop-at decreases-loop-at
+slice_bounds-run-end-in-loop-at c = let g = c.before.before.before.before in sym (length-take-le _ g.gather.new.1.1.1.1.0 (omega (arith, c.smaller.ensures, g.gather.auto.1.1.1.1.0)))
 
-run-requires : tie.Need-run-requires invariant-loop decreases-loop
-run-requires c κs = let g = c.before.before.before.before in let l = c.before.before.before.before.before.before.before.before in let s = start l in (
-  (s.pre.0.1, omega (arith, s.pre.0.2, len l)),
-  (copy_window _ _ _ c.before.before.before.before.before.before.smaller.result s.pre.0.1 c.before.before.before.before.before.before.before.loop-test.true (low c.before.before.before.before.before.before) _ _ g.gather.ensures, (omega arith, from_zero _ _ _ _ l.loop.invariant.2)),
+run-r-requires : tie.Need-run-r-requires invariant-loop-at decreases-loop-at
+run-r-requires c κs = let g = c.before.before.before.before in let l = c.before.before.before.before.before.before.before.before in let s = start l in (
+  (s.requires.0.1, omega (arith, s.requires.0.2, len l)),
+  (copy_window _ _ _ c.smaller.result s.requires.0.1 c.loop-test.true (low c.before.before.before.before.before.before) _ _ g.gather.ensures, (omega arith, from_zero _ _ _ _ l.loop.invariant.2)),
 )
 
-enum-known-r : tie.Need-enum-known-r invariant-loop decreases-loop
-enum-known-r c = search rules
+enum_known-r : tie.Need-enum_known-r invariant-loop-at decreases-loop-at
+enum_known-r c = search rules
 
-enum_told : tie.Need-enum-told invariant-loop decreases-loop
-enum_told c = search rules
+enum_told-1 : tie.Need-enum_told-1 invariant-loop-at decreases-loop-at
+enum_told-1 c = search rules
 
-same_length : tie.Need-same-length invariant-loop decreases-loop
-same_length c = search rules
+shape_of-bits-in_default : tie.Need-shape_of-bits-in_default invariant-loop-at decreases-loop-at
+shape_of-bits-in_default c = search rules
 
-same-length-2 : tie.Need-same-length-2 invariant-loop decreases-loop
-same-length-2 c = search rules
+shape_of-room-in_default : tie.Need-shape_of-room-in_default invariant-loop-at decreases-loop-at
+shape_of-room-in_default c = search rules
 
-returns : tie.Need-returns invariant-loop decreases-loop
-returns c = bad _ _ _ (run_bad _ _ _ _ _ _ c.before.before.before.before.run.ensures c.enum_told.given.1)
+returns-in_default : tie.Need-returns-in_default invariant-loop-at decreases-loop-at
+returns-in_default c = bad _ _ _ (run_bad _ _ _ _ _ _ c.run-r.ensures c.in_default.is)
 
-same-length-3 : tie.Need-same-length-3 invariant-loop decreases-loop
-same-length-3 c = search rules
+shape_of-bits-then-i-eq0 : tie.Need-shape_of-bits-then-i-eq0 invariant-loop-at decreases-loop-at
+shape_of-bits-then-i-eq0 c = search rules
 
-same-length-4 : tie.Need-same-length-4 invariant-loop decreases-loop
-same-length-4 c = search rules
+shape_of-room-then-i-eq0 : tie.Need-shape_of-room-then-i-eq0 invariant-loop-at decreases-loop-at
+shape_of-room-then-i-eq0 c = search rules
 
-returns-2 : tie.Need-returns-2 invariant-loop decreases-loop
-returns-2 c = let l = c.before.before.before.before.before.before.before.before.before.before.before.before.before.before.before in let s = start l in
-    copied_long _ _ _ c.before.before.before.before.before.before.before.before.before.before.before.before.before.smaller.result s.pre.0.1 c.before.before.before.before.before.before.before.before.before.before.before.before.before.before.loop-test.true (low c.before.before.before.before.before.before.before.before.before.before.before.before.before) _ _ c.before.before.before.before.before.before.before.before.before.before.before.gather.ensures (length l.loop.room) _ _ (omega (arith, s.pre.1, l.loop.invariant.1)) c.before.before.before.before.before.before.before.before.before.before.before.before.before.smaller.ensures _ c.before.before.before.before.before.before.run.ensures c.before.before.r.given.1 c.if1.true
+returns-then-i-eq0 : tie.Need-returns-then-i-eq0 invariant-loop-at decreases-loop-at
+returns-then-i-eq0 c = let l = c.before.before.before.before.before.before.before.before.before.before.before.before.before.before in let s = start l in
+    copied_long _ _ _ c.smaller.result s.requires.0.1 c.loop-test.true (low c.before.before.before.before.before.before.before.before.before.before.before.before) _ _ c.gather.ensures (length l.loop.room) _ _ (omega (arith, s.requires.1, l.loop.invariant.1)) c.smaller.ensures _ c.run-r.ensures c.in-At.is c.if-i-eq0.true
 
-add_at : tie.Need-overflow-add-at invariant-loop decreases-loop
-add_at c = let l = c.before.before.before.before.before.before.before.before.before.before.before.before.before.before.before in let s = start l in let q = run_at _ _ _ _ _ _ c.before.before.before.before.before.before.run.ensures _ c.before.before.r.given.1 in record { fits = omega (arith, q.0.within, s.pre.0.1, length_stored s.args.words.now s.args.tail.now) }
+overflow_add-at : tie.Need-overflow_add-at invariant-loop-at decreases-loop-at
+overflow_add-at c = let l = c.before.before.before.before.before.before.before.before.before.before.before.before.before.before in let s = start l in let q = run_at _ _ _ _ _ _ c.run-r.ensures _ c.in-At.is in record { fits = omega (arith, q.0.within, s.requires.0.1, length_stored s.args.words.now s.args.tail.now) }
 
-loop-less : tie.Need-loop-smaller invariant-loop decreases-loop
-loop-less c = let q = run_at _ _ _ _ _ _ c.before.before.before.before.before.before.run.ensures _ c.before.before.r.given.1 in omega (arith, q.0.within, c.if1.false, c.before.before.before.before.before.before.before.before.before.before.before.before.before.before.loop-test.true)
+loop-at-smaller : tie.Need-loop-at-smaller invariant-loop-at decreases-loop-at
+loop-at-smaller c = let q = run_at _ _ _ _ _ _ c.run-r.ensures _ c.in-At.is in omega (arith, q.0.within, c.if-i-eq0.false, c.loop-test.true)
 
-loop-again : tie.Need-loop-preserved invariant-loop decreases-loop
-loop-again c = let l = c.before.before.before.before.before.before.before.before.before.before.before.before.before.before.before in
-    (c.before.before.before.before.before.before.run.auto.1.1.1.0 ∙ l.loop.invariant.0, c.before.before.before.before.before.before.before.before.before.before.before.gather.auto.1.1.1.1.0 ∙ l.loop.invariant.1, (run_at _ _ _ _ _ _ c.before.before.before.before.before.before.run.ensures _ c.before.before.r.given.1).0)
+loop-at-preserved : tie.Need-loop-at-preserved invariant-loop-at decreases-loop-at
+loop-at-preserved c = let l = c.before.before.before.before.before.before.before.before.before.before.before.before.before.before in
+    (c.run-r.auto.1.1.1.0 ∙ l.loop.invariant.0, c.gather.auto.1.1.1.1.0 ∙ l.loop.invariant.1, (run_at _ _ _ _ _ _ c.run-r.ensures _ c.in-At.is).0)
 
-same-length-5 : tie.Need-same-length-5 invariant-loop decreases-loop
-same-length-5 c = search rules
+shape_of-bits : tie.Need-shape_of-bits invariant-loop-at decreases-loop-at
+shape_of-bits c = search rules
 
-same-length-6 : tie.Need-same-length-6 invariant-loop decreases-loop
-same-length-6 c = search rules
+shape_of-room : tie.Need-shape_of-room invariant-loop-at decreases-loop-at
+shape_of-room c = search rules
 
-returns-3 : tie.Need-returns-3 invariant-loop decreases-loop
-returns-3 c = search all_good
+returns : tie.Need-returns invariant-loop-at decreases-loop-at
+returns c = search all_good
 
-pub entries-in-spec : {M : Type 1} → statement M
-entries-in-spec =
+pub entries_in_spec : {M : Type 1} → statement M
+entries_in_spec =
     tie.close
     (tie.spec
-    invariant-loop
-    decreases-loop
+    invariant-loop-at
+    decreases-loop-at
     clear-requires
-    loop-holds
-    sub-smaller
-    smaller-requires
+    loop-at-init
+    overflow_sub-used
+    smaller-m-requires
     gather-requires
-    slice-reshare-prefix-run
-    slice-aggregate-run
-    run-requires
-    enum-known-r
-    enum_told
-    same_length
-    same-length-2
-    returns
-    same-length-3
-    same-length-4
-    returns-2
-    add_at
-    loop-less
-    loop-again
-    same-length-5
-    same-length-6
-    returns-3)
+    slice_bounds-run-end
+    slice_bounds-run-end-in-loop-at
+    run-r-requires
+    enum_known-r
+    enum_told-1
+    shape_of-bits-in_default
+    shape_of-room-in_default
+    returns-in_default
+    shape_of-bits-then-i-eq0
+    shape_of-room-then-i-eq0
+    returns-then-i-eq0
+    overflow_add-at
+    loop-at-smaller
+    loop-at-preserved
+    shape_of-bits
+    shape_of-room
+    returns)

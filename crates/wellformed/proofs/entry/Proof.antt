@@ -5,32 +5,32 @@ use borrow.Author.Rules.{rules}
 use Rattle.wellformed.proofs.entry.Statement.{statement}
 use Rattle.wellformed.proofs.entry.Tie as tie
 
-shared-slice-read-head : tie.Need-shared-slice-read-head
-shared-slice-read-head c = search head_in
+bounds-e-0 : tie.Need-bounds-e-0
+bounds-e-0 c = search head_in
 
-returns : tie.Need-returns
-returns c = search many
+returns-then-n : tie.Need-returns-then-n
+returns-then-n c = search many
 
-returns-2 : tie.Need-returns-2
-returns-2 c = search too_deep_is
+returns-then-depth-gt-DEEPEST : tie.Need-returns-then-depth-gt-DEEPEST
+returns-then-depth-gt-DEEPEST c = search too_deep_is
 
-returns-3 : tie.Need-returns-3
-returns-3 c = search deep_name
+returns-then-depth-ne0 : tie.Need-returns-then-depth-ne0
+returns-then-depth-ne0 c = search deep_name
 
 padding-requires : tie.Need-padding-requires
 padding-requires c κs = search head_in
 
-returns-4 : tie.Need-returns-4
-returns-4 c = search a_name
+returns-then-kind-eq-NAME : tie.Need-returns-then-kind-eq-NAME
+returns-then-kind-eq-NAME c = search a_name
 
-sub_elements : tie.Need-overflow-sub-elements
-sub_elements c = search head_in
+slice_bounds-elements-count : tie.Need-slice_bounds-elements-count
+slice_bounds-elements-count c = search head_in
 
-part-elements-start : tie.Need-slice-bounds-elements-start
-part-elements-start c = search head_in
+slice_bounds-elements-start : tie.Need-slice_bounds-elements-start
+slice_bounds-elements-start c = search head_in
 
-part-elements-end : tie.Need-slice-bounds-elements-end
-part-elements-end c = search rules
+slice_bounds-elements-end : tie.Need-slice_bounds-elements-end
+slice_bounds-elements-end c = search rules
 
 elements-requires : tie.Need-elements-requires
 elements-requires c κs = search rules
@@ -38,142 +38,142 @@ elements-requires c κs = search rules
 over-requires : tie.Need-over-requires
 over-requires c κs = search rules
 
-returns-5 : tie.Need-returns-5
-returns-5 c = search (a_tuple, tuple_in)
+returns-then-kind-eq-TUPLE : tie.Need-returns-then-kind-eq-TUPLE
+returns-then-kind-eq-TUPLE c = search (a_tuple, tuple_in)
 
-shared-slice-read-head-at : tie.Need-shared-slice-read-head-at
-shared-slice-read-head-at c = search struct_name
+bounds-e-1 : tie.Need-bounds-e-1
+bounds-e-1 c = search struct_name
 
-head-at-requires : tie.Need-head-at-requires
-head-at-requires c κs = search rules
+head_at-requires : tie.Need-head_at-requires
+head_at-requires c κs = search rules
 
-returns-6 : tie.Need-returns-6
-returns-6 c = search struct_unnamed
+returns-then-head_at-ne-NAME : tie.Need-returns-then-head_at-ne-NAME
+returns-then-head_at-ne-NAME c = search struct_unnamed
 
 fields-requires : tie.Need-fields-requires
 fields-requires c κs = (search rules, search struct_in)
 
-over-requires-2 : tie.Need-over-requires-2
-over-requires-2 c κs = search rules
+over-requires-then-kind-eq-STRUCT : tie.Need-over-requires-then-kind-eq-STRUCT
+over-requires-then-kind-eq-STRUCT c κs = search rules
 
-returns-7 : tie.Need-returns-7
-returns-7 c = search a_struct
+returns-then-kind-eq-STRUCT : tie.Need-returns-then-kind-eq-STRUCT
+returns-then-kind-eq-STRUCT c = search a_struct
 
-returns-8 : tie.Need-returns-8
-returns-8 c = search counted
+returns-then-n-ne0 : tie.Need-returns-then-n-ne0
+returns-then-n-ne0 c = search counted
 
-returns-9 : tie.Need-returns-9
-returns-9 c = search plain
+returns-then-kind-le-INT : tie.Need-returns-then-kind-le-INT
+returns-then-kind-le-INT c = search plain
 
-shared-slice-read-float-ok : tie.Need-shared-slice-read-float-ok
-shared-slice-read-float-ok c = search float_1
+bounds-e-1-then-kind-eq-FLOAT : tie.Need-bounds-e-1-then-kind-eq-FLOAT
+bounds-e-1-then-kind-eq-FLOAT c = search float_1
 
-shared-slice-read-float-ok-2 : tie.Need-shared-slice-read-float-ok-2
-shared-slice-read-float-ok-2 c = search float_2
+bounds-e-2 : tie.Need-bounds-e-2
+bounds-e-2 c = search float_2
 
-float-ok-requires : tie.Need-float-ok-requires
-float-ok-requires c κs = search rules
+float_ok-requires : tie.Need-float_ok-requires
+float_ok-requires c κs = search rules
 
-returns-10 : tie.Need-returns-10
-returns-10 c = search a_float
+returns-then-float_ok : tie.Need-returns-then-float_ok
+returns-then-float_ok c = search a_float
 
-returns-11 : tie.Need-returns-11
-returns-11 c = search no_float
+returns-then-kind-eq-FLOAT : tie.Need-returns-then-kind-eq-FLOAT
+returns-then-kind-eq-FLOAT c = search no_float
 
-shared-slice-read-head-at-2 : tie.Need-shared-slice-read-head-at-2
-shared-slice-read-head-at-2 c = search fref_name
+bounds-e-1-then-kind-eq-FREF : tie.Need-bounds-e-1-then-kind-eq-FREF
+bounds-e-1-then-kind-eq-FREF c = search fref_name
 
-head-at-requires-2 : tie.Need-head-at-requires-2
-head-at-requires-2 c κs = search rules
+head_at-requires-then-kind-eq-FREF : tie.Need-head_at-requires-then-kind-eq-FREF
+head_at-requires-then-kind-eq-FREF c κs = search rules
 
-returns-12 : tie.Need-returns-12
-returns-12 c = search fref_unnamed
+returns-then-head_at-ne-NAME-2 : tie.Need-returns-then-head_at-ne-NAME-2
+returns-then-head_at-ne-NAME-2 c = search fref_unnamed
 
-returns-13 : tie.Need-returns-13
-returns-13 c = search a_fref
+returns-then-kind-eq-FREF : tie.Need-returns-then-kind-eq-FREF
+returns-then-kind-eq-FREF c = search a_fref
 
-shared-slice-read-if15 : tie.Need-shared-slice-read-if15
-shared-slice-read-if15 c = search pointer_2
+bounds-e-2-then-kind-eq-MEM_PTR : tie.Need-bounds-e-2-then-kind-eq-MEM_PTR
+bounds-e-2-then-kind-eq-MEM_PTR c = search pointer_2
 
-returns-14 : tie.Need-returns-14
-returns-14 c = search bad_nil
+returns-then-e-gt-LARGEST_FLAG : tie.Need-returns-then-e-gt-LARGEST_FLAG
+returns-then-e-gt-LARGEST_FLAG c = search bad_nil
 
-shared-slice-read-part : tie.Need-shared-slice-read-part
-shared-slice-read-part c = search pointer_1
+bounds-e-1-then-kind-eq-MEM_PTR : tie.Need-bounds-e-1-then-kind-eq-MEM_PTR
+bounds-e-1-then-kind-eq-MEM_PTR c = search pointer_1
 
 part-requires : tie.Need-part-requires
 part-requires c κs = search rules
 
-over-requires-3 : tie.Need-over-requires-3
-over-requires-3 c κs = search rules
+over-requires-then-kind-eq-MEM_PTR : tie.Need-over-requires-then-kind-eq-MEM_PTR
+over-requires-then-kind-eq-MEM_PTR c κs = search rules
 
-returns-15 : tie.Need-returns-15
-returns-15 c = search a_pointer
+returns-then-kind-eq-MEM_PTR : tie.Need-returns-then-kind-eq-MEM_PTR
+returns-then-kind-eq-MEM_PTR c = search a_pointer
 
-shared-slice-read-if17 : tie.Need-shared-slice-read-if17
-shared-slice-read-if17 c = search memory_1
+bounds-e-1-then-kind-eq-MEM : tie.Need-bounds-e-1-then-kind-eq-MEM
+bounds-e-1-then-kind-eq-MEM c = search memory_1
 
-returns-16 : tie.Need-returns-16
-returns-16 c = search bad_alias
+returns-then-e-gt-LARGEST_ALIAS : tie.Need-returns-then-e-gt-LARGEST_ALIAS
+returns-then-e-gt-LARGEST_ALIAS c = search bad_alias
 
-shared-slice-read-part-2 : tie.Need-shared-slice-read-part-2
-shared-slice-read-part-2 c = search memory_2
+bounds-e-2-then-kind-eq-MEM : tie.Need-bounds-e-2-then-kind-eq-MEM
+bounds-e-2-then-kind-eq-MEM c = search memory_2
 
-part-requires-2 : tie.Need-part-requires-2
-part-requires-2 c κs = search rules
+part-requires-then-kind-eq-MEM : tie.Need-part-requires-then-kind-eq-MEM
+part-requires-then-kind-eq-MEM c κs = search rules
 
-over-requires-4 : tie.Need-over-requires-4
-over-requires-4 c κs = search rules
+over-requires-then-kind-eq-MEM : tie.Need-over-requires-then-kind-eq-MEM
+over-requires-then-kind-eq-MEM c κs = search rules
 
-returns-17 : tie.Need-returns-17
-returns-17 c = search a_memory
+returns-then-kind-eq-MEM : tie.Need-returns-then-kind-eq-MEM
+returns-then-kind-eq-MEM c = search a_memory
 
-returns-18 : tie.Need-returns-18
-returns-18 c = search other_kind
+returns : tie.Need-returns
+returns c = search other_kind
 
 pub entry_spec : {M : Type 1} → statement M
 entry_spec =
     tie.close
     (tie.spec
-    shared-slice-read-head
-    returns
-    returns-2
-    returns-3
+    bounds-e-0
+    returns-then-n
+    returns-then-depth-gt-DEEPEST
+    returns-then-depth-ne0
     padding-requires
-    returns-4
-    sub_elements
-    part-elements-start
-    part-elements-end
+    returns-then-kind-eq-NAME
+    slice_bounds-elements-count
+    slice_bounds-elements-start
+    slice_bounds-elements-end
     elements-requires
     over-requires
-    returns-5
-    shared-slice-read-head-at
-    head-at-requires
-    returns-6
+    returns-then-kind-eq-TUPLE
+    bounds-e-1
+    head_at-requires
+    returns-then-head_at-ne-NAME
     fields-requires
-    over-requires-2
-    returns-7
-    returns-8
-    returns-9
-    shared-slice-read-float-ok
-    shared-slice-read-float-ok-2
-    float-ok-requires
-    returns-10
-    returns-11
-    shared-slice-read-head-at-2
-    head-at-requires-2
-    returns-12
-    returns-13
-    shared-slice-read-if15
-    returns-14
-    shared-slice-read-part
+    over-requires-then-kind-eq-STRUCT
+    returns-then-kind-eq-STRUCT
+    returns-then-n-ne0
+    returns-then-kind-le-INT
+    bounds-e-1-then-kind-eq-FLOAT
+    bounds-e-2
+    float_ok-requires
+    returns-then-float_ok
+    returns-then-kind-eq-FLOAT
+    bounds-e-1-then-kind-eq-FREF
+    head_at-requires-then-kind-eq-FREF
+    returns-then-head_at-ne-NAME-2
+    returns-then-kind-eq-FREF
+    bounds-e-2-then-kind-eq-MEM_PTR
+    returns-then-e-gt-LARGEST_FLAG
+    bounds-e-1-then-kind-eq-MEM_PTR
     part-requires
-    over-requires-3
-    returns-15
-    shared-slice-read-if17
-    returns-16
-    shared-slice-read-part-2
-    part-requires-2
-    over-requires-4
-    returns-17
-    returns-18)
+    over-requires-then-kind-eq-MEM_PTR
+    returns-then-kind-eq-MEM_PTR
+    bounds-e-1-then-kind-eq-MEM
+    returns-then-e-gt-LARGEST_ALIAS
+    bounds-e-2-then-kind-eq-MEM
+    part-requires-then-kind-eq-MEM
+    over-requires-then-kind-eq-MEM
+    returns-then-kind-eq-MEM
+    returns)

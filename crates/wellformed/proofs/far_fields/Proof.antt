@@ -11,108 +11,108 @@ use borrow.Author.Rules.{rules}
 use Rattle.wellformed.proofs.far_fields.Statement.{statement}
 use Rattle.wellformed.proofs.far_fields.Tie as tie
 
-abbrev invariant-loop : tie.invariant-loop
-invariant-loop words tail bits e from n deepest d₀ i₀ j₀ d i j = (length e ≡ i + 3 * j) × (fields_depth (heads_at (bit_at bits) (stored words tail)) deepest n from e ≡ fields_depth (heads_at (bit_at bits) (stored words tail)) d j i e)
+abbrev invariant-loop-j : tie.invariant-loop-j
+invariant-loop-j words tail bits e from n deepest d₀ i₀ j₀ d i j = (length e ≡ i + 3 * j) × (fields_depth (heads_at (bit_at bits) (stored words tail)) deepest n from e ≡ fields_depth (heads_at (bit_at bits) (stored words tail)) d j i e)
 
-abbrev decreases-loop : tie.decreases-loop
-decreases-loop words tail bits e from n deepest d₀ i₀ j₀ d i j = j
+abbrev decreases-loop-j : tie.decreases-loop-j
+decreases-loop-j words tail bits e from n deepest d₀ i₀ j₀ d i j = j
 
-loop-holds : tie.Need-loop-init invariant-loop decreases-loop
-loop-holds c = (search rules, refl)
+loop-j-init : tie.Need-loop-j-init invariant-loop-j decreases-loop-j
+loop-j-init c = (search rules, refl)
 
-mul-head-at : tie.Need-overflow-mul-head-at invariant-loop decreases-loop
-mul-head-at c = search rules
+offset_bounds-e-i : tie.Need-offset_bounds-e-i invariant-loop-j decreases-loop-j
+offset_bounds-e-i c = search rules
 
-shared-slice-read-head-at : tie.Need-shared-slice-read-head-at invariant-loop decreases-loop
-shared-slice-read-head-at c = search rules
+bounds-e-i : tie.Need-bounds-e-i invariant-loop-j decreases-loop-j
+bounds-e-i c = search rules
 
-head-at-requires : tie.Need-head-at-requires invariant-loop decreases-loop
-head-at-requires c κs = search rules
+head_at-name-requires : tie.Need-head_at-name-requires invariant-loop-j decreases-loop-j
+head_at-name-requires c κs = search rules
 
-returns : tie.Need-returns invariant-loop decreases-loop
-returns c = search bad_name
+returns-then-name-ne-NAME : tie.Need-returns-then-name-ne-NAME invariant-loop-j decreases-loop-j
+returns-then-name-ne-NAME c = search bad_name
 
-add-if2 : tie.Need-overflow-add-if2 invariant-loop decreases-loop
-add-if2 c = search rules
+overflow_add-i : tie.Need-overflow_add-i invariant-loop-j decreases-loop-j
+overflow_add-i c = search rules
 
-mul-if2 : tie.Need-overflow-mul-if2 invariant-loop decreases-loop
-mul-if2 c = search rules
+offset_bounds-e-i-in-loop-j : tie.Need-offset_bounds-e-i-in-loop-j invariant-loop-j decreases-loop-j
+offset_bounds-e-i-in-loop-j c = search rules
 
-shared-slice-read-if2 : tie.Need-shared-slice-read-if2 invariant-loop decreases-loop
-shared-slice-read-if2 c = search rules
+bounds-e-i-in-loop-j : tie.Need-bounds-e-i-in-loop-j invariant-loop-j decreases-loop-j
+bounds-e-i-in-loop-j c = search rules
 
-returns-2 : tie.Need-returns-2 invariant-loop decreases-loop
-returns-2 c = search bad_alias
+returns-then-e-i-gt-LARGEST_FLAGS : tie.Need-returns-then-e-i-gt-LARGEST_FLAGS invariant-loop-j decreases-loop-j
+returns-then-e-i-gt-LARGEST_FLAGS c = search bad_alias
 
-add-part : tie.Need-overflow-add-part invariant-loop decreases-loop
-add-part c = search rules
+overflow_add-i-in-loop-j : tie.Need-overflow_add-i-in-loop-j invariant-loop-j decreases-loop-j
+overflow_add-i-in-loop-j c = search rules
 
-mul-part : tie.Need-overflow-mul-part invariant-loop decreases-loop
-mul-part c = search rules
+offset_bounds-e-i-in-loop-j-2 : tie.Need-offset_bounds-e-i-in-loop-j-2 invariant-loop-j decreases-loop-j
+offset_bounds-e-i-in-loop-j-2 c = search rules
 
-shared-slice-read-part : tie.Need-shared-slice-read-part invariant-loop decreases-loop
-shared-slice-read-part c = search rules
+bounds-e-i-in-loop-j-2 : tie.Need-bounds-e-i-in-loop-j-2 invariant-loop-j decreases-loop-j
+bounds-e-i-in-loop-j-2 c = search rules
 
-part-requires : tie.Need-part-requires invariant-loop decreases-loop
-part-requires c κs = search rules
+part-t-requires : tie.Need-part-t-requires invariant-loop-j decreases-loop-j
+part-t-requires c κs = search rules
 
-enum-known-t : tie.Need-enum-known-t invariant-loop decreases-loop
-enum-known-t c = search rules
+enum_known-t : tie.Need-enum_known-t invariant-loop-j decreases-loop-j
+enum_known-t c = search rules
 
-enum_told : tie.Need-enum-told invariant-loop decreases-loop
-enum_told c = search rules
+enum_told-1 : tie.Need-enum_told-1 invariant-loop-j decreases-loop-j
+enum_told-1 c = search rules
 
-returns-3 : tie.Need-returns-3 invariant-loop decreases-loop
-returns-3 c = search bad_type
+returns-in_default : tie.Need-returns-in_default invariant-loop-j decreases-loop-j
+returns-in_default c = search bad_type
 
-larger-requires : tie.Need-larger-requires invariant-loop decreases-loop
-larger-requires c κs = search rules
+larger-d-requires : tie.Need-larger-d-requires invariant-loop-j decreases-loop-j
+larger-d-requires c κs = search rules
 
-add-i : tie.Need-overflow-add-i invariant-loop decreases-loop
-add-i c = search rules
+overflow_add-i-in-loop-j-2 : tie.Need-overflow_add-i-in-loop-j-2 invariant-loop-j decreases-loop-j
+overflow_add-i-in-loop-j-2 c = search rules
 
-sub-j : tie.Need-overflow-sub-j invariant-loop decreases-loop
-sub-j c = search rules
+overflow_sub-j : tie.Need-overflow_sub-j invariant-loop-j decreases-loop-j
+overflow_sub-j c = search rules
 
-loop-less : tie.Need-loop-smaller invariant-loop decreases-loop
-loop-less c = search rules
+loop-j-smaller : tie.Need-loop-j-smaller invariant-loop-j decreases-loop-j
+loop-j-smaller c = search rules
 
-loop-again : tie.Need-loop-preserved invariant-loop decreases-loop
-loop-again c =
-    let p = c.before.before.before.before in
+loop-j-preserved : tie.Need-loop-j-preserved invariant-loop-j decreases-loop-j
+loop-j-preserved c =
+    let p = c.before.before.before in
     let v = p.before.before in
     let h = v.before.before.before in
     let l = h.before.before.before in
-    (search rules, good_field _ _ _ _ _ _ l.loop.invariant.1 h.before.before.loop-test.true _ h.head_at.ensures v.before.before.if1.false v.if2.false _ p.part.ensures _ _ c.before.before.t.given.1 c.larger.ensures)
+    (search rules, good_field _ _ _ _ _ _ l.loop-j.invariant.1 h.loop-j-test.true _ h.head_at-name.ensures v.if-name-ne-NAME.false v.if-e-i-gt-LARGEST_FLAGS.false _ p.part-t.ensures _ _ c.in-Of.is c.larger-d.ensures)
 
-returns-4 : tie.Need-returns-4 invariant-loop decreases-loop
-returns-4 c = search no_field
+returns : tie.Need-returns invariant-loop-j decreases-loop-j
+returns c = search no_field
 
-pub far-fields-spec : {M : Type 1} → statement M
-far-fields-spec =
+pub far_fields_spec : {M : Type 1} → statement M
+far_fields_spec =
     tie.close
     (tie.spec
-    invariant-loop
-    decreases-loop
-    loop-holds
-    mul-head-at
-    shared-slice-read-head-at
-    head-at-requires
-    returns
-    add-if2
-    mul-if2
-    shared-slice-read-if2
-    returns-2
-    add-part
-    mul-part
-    shared-slice-read-part
-    part-requires
-    enum-known-t
-    enum_told
-    returns-3
-    larger-requires
-    add-i
-    sub-j
-    loop-less
-    loop-again
-    returns-4)
+    invariant-loop-j
+    decreases-loop-j
+    loop-j-init
+    offset_bounds-e-i
+    bounds-e-i
+    head_at-name-requires
+    returns-then-name-ne-NAME
+    overflow_add-i
+    offset_bounds-e-i-in-loop-j
+    bounds-e-i-in-loop-j
+    returns-then-e-i-gt-LARGEST_FLAGS
+    overflow_add-i-in-loop-j
+    offset_bounds-e-i-in-loop-j-2
+    bounds-e-i-in-loop-j-2
+    part-t-requires
+    enum_known-t
+    enum_told-1
+    returns-in_default
+    larger-d-requires
+    overflow_add-i-in-loop-j-2
+    overflow_sub-j
+    loop-j-smaller
+    loop-j-preserved
+    returns)

@@ -11,121 +11,121 @@ use borrow.Author.Rules.{rules}
 use Rattle.wellformed.proofs.fields.Statement.{statement}
 use Rattle.wellformed.proofs.fields.Tie as tie
 
-abbrev invariant-loop : tie.invariant-loop
-invariant-loop words tail bits e n d₀ i₀ j₀ d i j = (length e ≡ i + 3 * j) × (fields_depth (heads_at (bit_at bits) (stored words tail)) 0 n 2 e ≡ fields_depth (heads_at (bit_at bits) (stored words tail)) d j i e)
+abbrev invariant-loop-j : tie.invariant-loop-j
+invariant-loop-j words tail bits e n d₀ i₀ j₀ d i j = (length e ≡ i + 3 * j) × (fields_depth (heads_at (bit_at bits) (stored words tail)) 0 n 2 e ≡ fields_depth (heads_at (bit_at bits) (stored words tail)) d j i e)
 
-abbrev decreases-loop : tie.decreases-loop
-decreases-loop words tail bits e n d₀ i₀ j₀ d i j = j
+abbrev decreases-loop-j : tie.decreases-loop-j
+decreases-loop-j words tail bits e n d₀ i₀ j₀ d i j = j
 
-loop-holds : tie.Need-loop-init invariant-loop decreases-loop
-loop-holds c = (search rules, refl)
+loop-j-init : tie.Need-loop-j-init invariant-loop-j decreases-loop-j
+loop-j-init c = (search rules, refl)
 
-mul-h : tie.Need-overflow-mul-h invariant-loop decreases-loop
-mul-h c = search rules
+offset_bounds-e-i : tie.Need-offset_bounds-e-i invariant-loop-j decreases-loop-j
+offset_bounds-e-i c = search rules
 
-shared-slice-read-h : tie.Need-shared-slice-read-h invariant-loop decreases-loop
-shared-slice-read-h c = search rules
+bounds-e-i : tie.Need-bounds-e-i invariant-loop-j decreases-loop-j
+bounds-e-i c = search rules
 
-add-k : tie.Need-overflow-add-k invariant-loop decreases-loop
-add-k c = search rules
+overflow_add-k : tie.Need-overflow_add-k invariant-loop-j decreases-loop-j
+overflow_add-k c = search rules
 
-mul-k : tie.Need-overflow-mul-k invariant-loop decreases-loop
-mul-k c = search rules
+offset_bounds-e-i-in-loop-j : tie.Need-offset_bounds-e-i-in-loop-j invariant-loop-j decreases-loop-j
+offset_bounds-e-i-in-loop-j c = search rules
 
-shared-slice-read-k : tie.Need-shared-slice-read-k invariant-loop decreases-loop
-shared-slice-read-k c = search rules
+bounds-e-i-in-loop-j : tie.Need-bounds-e-i-in-loop-j invariant-loop-j decreases-loop-j
+bounds-e-i-in-loop-j c = search rules
 
-far-fields-requires : tie.Need-far-fields-requires invariant-loop decreases-loop
-far-fields-requires c κs = search rules
+far_fields-requires : tie.Need-far_fields-requires invariant-loop-j decreases-loop-j
+far_fields-requires c κs = search rules
 
-returns : tie.Need-returns invariant-loop decreases-loop
-returns c = c.far-fields.ensures ∙ sym c.before.before.before.before.before.loop.invariant.1
+returns-then-h-words : tie.Need-returns-then-h-words invariant-loop-j decreases-loop-j
+returns-then-h-words c = c.far_fields.ensures ∙ sym c.loop-j.invariant.1
 
-far-fields-requires-2 : tie.Need-far-fields-requires-2 invariant-loop decreases-loop
-far-fields-requires-2 c κs = search rules
+far_fields-requires-then-k-words : tie.Need-far_fields-requires-then-k-words invariant-loop-j decreases-loop-j
+far_fields-requires-then-k-words c κs = search rules
 
-returns-2 : tie.Need-returns-2 invariant-loop decreases-loop
-returns-2 c = c.far-fields2.ensures ∙ sym c.before.before.before.before.before.before.loop.invariant.1
+returns-then-k-words : tie.Need-returns-then-k-words invariant-loop-j decreases-loop-j
+returns-then-k-words c = c.far_fields-then-k-words.ensures ∙ sym c.loop-j.invariant.1
 
-near-head-requires : tie.Need-near-head-requires invariant-loop decreases-loop
-near-head-requires c κs = search rules
+near_head-name-requires : tie.Need-near_head-name-requires invariant-loop-j decreases-loop-j
+near_head-name-requires c κs = search rules
 
-returns-3 : tie.Need-returns-3 invariant-loop decreases-loop
-returns-3 c = search bad_name
+returns-then-name-ne-NAME : tie.Need-returns-then-name-ne-NAME invariant-loop-j decreases-loop-j
+returns-then-name-ne-NAME c = search bad_name
 
-add-if4 : tie.Need-overflow-add-if4 invariant-loop decreases-loop
-add-if4 c = search rules
+overflow_add-i : tie.Need-overflow_add-i invariant-loop-j decreases-loop-j
+overflow_add-i c = search rules
 
-mul-if4 : tie.Need-overflow-mul-if4 invariant-loop decreases-loop
-mul-if4 c = search rules
+offset_bounds-e-i-in-loop-j-2 : tie.Need-offset_bounds-e-i-in-loop-j-2 invariant-loop-j decreases-loop-j
+offset_bounds-e-i-in-loop-j-2 c = search rules
 
-shared-slice-read-if4 : tie.Need-shared-slice-read-if4 invariant-loop decreases-loop
-shared-slice-read-if4 c = search rules
+bounds-e-i-in-loop-j-2 : tie.Need-bounds-e-i-in-loop-j-2 invariant-loop-j decreases-loop-j
+bounds-e-i-in-loop-j-2 c = search rules
 
-returns-4 : tie.Need-returns-4 invariant-loop decreases-loop
-returns-4 c = search bad_alias
+returns-then-e-i-gt-LARGEST_FLAGS : tie.Need-returns-then-e-i-gt-LARGEST_FLAGS invariant-loop-j decreases-loop-j
+returns-then-e-i-gt-LARGEST_FLAGS c = search bad_alias
 
-near-type-requires : tie.Need-near-type-requires invariant-loop decreases-loop
-near-type-requires c κs = search rules
+near_type-t-requires : tie.Need-near_type-t-requires invariant-loop-j decreases-loop-j
+near_type-t-requires c κs = search rules
 
-enum-known-t : tie.Need-enum-known-t invariant-loop decreases-loop
-enum-known-t c = search rules
+enum_known-t : tie.Need-enum_known-t invariant-loop-j decreases-loop-j
+enum_known-t c = search rules
 
-enum_told : tie.Need-enum-told invariant-loop decreases-loop
-enum_told c = search rules
+enum_told-1 : tie.Need-enum_told-1 invariant-loop-j decreases-loop-j
+enum_told-1 c = search rules
 
-returns-5 : tie.Need-returns-5 invariant-loop decreases-loop
-returns-5 c = search bad_type
+returns-in_default : tie.Need-returns-in_default invariant-loop-j decreases-loop-j
+returns-in_default c = search bad_type
 
-larger-requires : tie.Need-larger-requires invariant-loop decreases-loop
-larger-requires c κs = search rules
+larger-d-requires : tie.Need-larger-d-requires invariant-loop-j decreases-loop-j
+larger-d-requires c κs = search rules
 
-add-i : tie.Need-overflow-add-i invariant-loop decreases-loop
-add-i c = search rules
+overflow_add-i-in-loop-j : tie.Need-overflow_add-i-in-loop-j invariant-loop-j decreases-loop-j
+overflow_add-i-in-loop-j c = search rules
 
-sub-j : tie.Need-overflow-sub-j invariant-loop decreases-loop
-sub-j c = search rules
+overflow_sub-j : tie.Need-overflow_sub-j invariant-loop-j decreases-loop-j
+overflow_sub-j c = search rules
 
-loop-less : tie.Need-loop-smaller invariant-loop decreases-loop
-loop-less c = search rules
+loop-j-smaller : tie.Need-loop-j-smaller invariant-loop-j decreases-loop-j
+loop-j-smaller c = search rules
 
-loop-again : tie.Need-loop-preserved invariant-loop decreases-loop
-loop-again c =
-    let h = c.before.before.before.before.before.before.before.before in
-    (search rules, good_field _ _ _ _ _ _ c.before.before.before.before.before.before.before.before.before.before.before.before.before.before.loop.invariant.1 c.before.before.before.before.before.before.before.before.before.before.before.before.before.loop-test.true _ h.near_head.ensures c.before.before.before.before.before.before.before.if3.false c.before.before.before.before.before.if4.false _ c.before.before.before.before.near-type.ensures _ _ c.before.before.t.given.1 c.larger.ensures)
+loop-j-preserved : tie.Need-loop-j-preserved invariant-loop-j decreases-loop-j
+loop-j-preserved c =
+    let h = c.before.before.before.before.before.before.before in
+    (search rules, good_field _ _ _ _ _ _ c.loop-j.invariant.1 c.loop-j-test.true _ h.near_head-name.ensures c.if-name-ne-NAME.false c.if-e-i-gt-LARGEST_FLAGS.false _ c.near_type-t.ensures _ _ c.in-Of.is c.larger-d.ensures)
 
-returns-6 : tie.Need-returns-6 invariant-loop decreases-loop
-returns-6 c = search no_field
+returns : tie.Need-returns invariant-loop-j decreases-loop-j
+returns c = search no_field
 
-pub fields-spec : {M : Type 1} → statement M
-fields-spec =
+pub fields_spec : {M : Type 1} → statement M
+fields_spec =
     tie.close
     (tie.spec
-    invariant-loop
-    decreases-loop
-    loop-holds
-    mul-h
-    shared-slice-read-h
-    add-k
-    mul-k
-    shared-slice-read-k
-    far-fields-requires
-    returns
-    far-fields-requires-2
-    returns-2
-    near-head-requires
-    returns-3
-    add-if4
-    mul-if4
-    shared-slice-read-if4
-    returns-4
-    near-type-requires
-    enum-known-t
-    enum_told
-    returns-5
-    larger-requires
-    add-i
-    sub-j
-    loop-less
-    loop-again
-    returns-6)
+    invariant-loop-j
+    decreases-loop-j
+    loop-j-init
+    offset_bounds-e-i
+    bounds-e-i
+    overflow_add-k
+    offset_bounds-e-i-in-loop-j
+    bounds-e-i-in-loop-j
+    far_fields-requires
+    returns-then-h-words
+    far_fields-requires-then-k-words
+    returns-then-k-words
+    near_head-name-requires
+    returns-then-name-ne-NAME
+    overflow_add-i
+    offset_bounds-e-i-in-loop-j-2
+    bounds-e-i-in-loop-j-2
+    returns-then-e-i-gt-LARGEST_FLAGS
+    near_type-t-requires
+    enum_known-t
+    enum_told-1
+    returns-in_default
+    larger-d-requires
+    overflow_add-i-in-loop-j
+    overflow_sub-j
+    loop-j-smaller
+    loop-j-preserved
+    returns)

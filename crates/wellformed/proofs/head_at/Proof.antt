@@ -4,25 +4,25 @@ use borrow.Author.Rules.{rules}
 use Rattle.wellformed.proofs.head_at.Statement.{statement}
 use Rattle.wellformed.proofs.head_at.Tie as tie
 
-near-head-requires : tie.Need-near-head-requires
-near-head-requires c κs = search rules
+near_head-requires : tie.Need-near_head-requires
+near_head-requires c κs = search rules
 
-returns : tie.Need-returns
-returns c = search rules
+returns-then-h-words : tie.Need-returns-then-h-words
+returns-then-h-words c = search rules
 
 contains-requires : tie.Need-contains-requires
 contains-requires c κs = search rules
 
-returns-2 : tie.Need-returns-2
-returns-2 c = search unmarked
+returns-then-not-contains : tie.Need-returns-then-not-contains
+returns-then-not-contains c = search unmarked
 
-word-at-requires : tie.Need-word-at-requires
-word-at-requires c κs = search marked_in
+word_at-requires : tie.Need-word_at-requires
+word_at-requires c κs = search marked_in
 
-returns-3 : tie.Need-returns-3
-returns-3 c = search marked_head
+returns : tie.Need-returns
+returns c = search marked_head
 
-pub head-at-spec : {M : Type 1} → statement M
-head-at-spec =
+pub head_at_spec : {M : Type 1} → statement M
+head_at_spec =
     tie.close
-    (tie.spec near-head-requires returns contains-requires returns-2 word-at-requires returns-3)
+    (tie.spec near_head-requires returns-then-h-words contains-requires returns-then-not-contains word_at-requires returns)

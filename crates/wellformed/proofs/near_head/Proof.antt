@@ -7,18 +7,18 @@ use Rattle.wellformed.proofs.near_head.Tie as tie
 marked-requires : tie.Need-marked-requires
 marked-requires c κs = search bit_room
 
+returns-then-not-marked : tie.Need-returns-then-not-marked
+returns-then-not-marked c = search unmarked
+
+offset_bounds-words-at : tie.Need-offset_bounds-words-at
+offset_bounds-words-at c = search rules
+
+bounds-words-at : tie.Need-bounds-words-at
+bounds-words-at c = search rules
+
 returns : tie.Need-returns
-returns c = search unmarked
+returns c = search near_head
 
-mul-result : tie.Need-overflow-mul-result
-mul-result c = search rules
-
-shared-slice-read-result : tie.Need-shared-slice-read-result
-shared-slice-read-result c = search rules
-
-returns-2 : tie.Need-returns-2
-returns-2 c = search near_head
-
-pub near-head-spec : {M : Type 1} → statement M
-near-head-spec =
-    tie.close (tie.spec marked-requires returns mul-result shared-slice-read-result returns-2)
+pub near_head_spec : {M : Type 1} → statement M
+near_head_spec =
+    tie.close (tie.spec marked-requires returns-then-not-marked offset_bounds-words-at bounds-words-at returns)

@@ -4,14 +4,14 @@ use borrow.Author.Rules.{rules}
 use Rattle.wellformed.proofs.near_type.Statement.{statement}
 use Rattle.wellformed.proofs.near_type.Tie as tie
 
-near-head-requires : tie.Need-near-head-requires
-near-head-requires c κs = search rules
+near_head-requires : tie.Need-near_head-requires
+near_head-requires c κs = search rules
 
-depth-in-requires : tie.Need-depth-in-requires
-depth-in-requires c κs = search rules
+depth_in-requires : tie.Need-depth_in-requires
+depth_in-requires c κs = search rules
 
 returns : tie.Need-returns
 returns c = search by_head
 
-pub near-type-spec : {M : Type 1} → statement M
-near-type-spec = tie.close (tie.spec near-head-requires depth-in-requires returns)
+pub near_type_spec : {M : Type 1} → statement M
+near_type_spec = tie.close (tie.spec near_head-requires depth_in-requires returns)

@@ -4,23 +4,23 @@ use borrow.Author.Rules.{rules}
 use Rattle.wellformed.proofs.over.Statement.{statement}
 use Rattle.wellformed.proofs.over.Tie as tie
 
-enum-known-d : tie.Need-enum-known-d
-enum-known-d c = search rules
+enum_known-d : tie.Need-enum_known-d
+enum_known-d c = search rules
 
-returns : tie.Need-returns
-returns c = search not_zero
+returns-then-depth-eq0 : tie.Need-returns-then-depth-eq0
+returns-then-depth-eq0 c = search not_zero
 
-sub-result : tie.Need-overflow-sub-result
-sub-result c = search rules
+overflow_sub-result : tie.Need-overflow_sub-result
+overflow_sub-result c = search rules
 
-enum_told : tie.Need-enum-told
-enum_told c = search rules
+enum_told-1 : tie.Need-enum_told-1
+enum_told-1 c = search rules
 
-returns-2 : tie.Need-returns-2
-returns-2 c = search one_over_is
+returns-else-depth-eq0 : tie.Need-returns-else-depth-eq0
+returns-else-depth-eq0 c = search one_over_is
 
-returns-3 : tie.Need-returns-3
-returns-3 c = search over_bad
+returns-in-Bad : tie.Need-returns-in-Bad
+returns-in-Bad c = search over_bad
 
-pub over-spec : {M : Type 1} → statement M
-over-spec = tie.close (tie.spec enum-known-d returns sub-result enum_told returns-2 returns-3)
+pub over_spec : {M : Type 1} → statement M
+over_spec = tie.close (tie.spec enum_known-d returns-then-depth-eq0 overflow_sub-result enum_told-1 returns-else-depth-eq0 returns-in-Bad)

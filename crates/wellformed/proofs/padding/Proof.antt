@@ -5,41 +5,41 @@ use borrow.Author.Rules.{rules}
 use Rattle.wellformed.proofs.padding.Statement.{statement}
 use Rattle.wellformed.proofs.padding.Tie as tie
 
-shared-slice-read-n : tie.Need-shared-slice-read-n
-shared-slice-read-n c = search rules
+bounds-e-0 : tie.Need-bounds-e-0
+bounds-e-0 c = search rules
 
-mul-s : tie.Need-overflow-mul-s
-mul-s c = search rules
+overflow_mul-s : tie.Need-overflow_mul-s
+overflow_mul-s c = search rules
+
+returns-then-s-eq0 : tie.Need-returns-then-s-eq0
+unfolding zero_filled
+returns-then-s-eq0 c = rw (eq-eqb _ _ c.if-s-eq0.true)
+
+overflow_sub-last : tie.Need-overflow_sub-last
+overflow_sub-last c = search rules
+
+offset_bounds-e-e : tie.Need-offset_bounds-e-e
+offset_bounds-e-e c = search rules
+
+bounds-e-e : tie.Need-bounds-e-e
+bounds-e-e c = search rules
+
+overflow_shr-result : tie.Need-overflow_shr-result
+overflow_shr-result c = search rules
 
 returns : tie.Need-returns
 unfolding zero_filled
-returns c = rw (eq-eqb _ _ c.if1.true)
+returns c = rw (ne_eqb _ _ c.if-s-eq0.false)
 
-sub-last : tie.Need-overflow-sub-last
-sub-last c = search rules
-
-mul-last : tie.Need-overflow-mul-last
-mul-last c = search rules
-
-shared-slice-read-last : tie.Need-shared-slice-read-last
-shared-slice-read-last c = search rules
-
-shr-result : tie.Need-overflow-shr-result
-shr-result c = search rules
-
-returns-2 : tie.Need-returns-2
-unfolding zero_filled
-returns-2 c = rw (ne_eqb _ _ c.before.if1.false)
-
-pub padding-spec : {M : Type 1} → statement M
-padding-spec =
+pub padding_spec : {M : Type 1} → statement M
+padding_spec =
     tie.close
     (tie.spec
-    shared-slice-read-n
-    mul-s
-    returns
-    sub-last
-    mul-last
-    shared-slice-read-last
-    shr-result
-    returns-2)
+    bounds-e-0
+    overflow_mul-s
+    returns-then-s-eq0
+    overflow_sub-last
+    offset_bounds-e-e
+    bounds-e-e
+    overflow_shr-result
+    returns)

@@ -4,14 +4,14 @@ use borrow.Author.Rules.{rules}
 use Rattle.wellformed.proofs.part.Statement.{statement}
 use Rattle.wellformed.proofs.part.Tie as tie
 
-head-at-requires : tie.Need-head-at-requires
-head-at-requires c κs = search rules
+head_at-requires : tie.Need-head_at-requires
+head_at-requires c κs = search rules
 
-depth-in-requires : tie.Need-depth-in-requires
-depth-in-requires c κs = search rules
+depth_in-requires : tie.Need-depth_in-requires
+depth_in-requires c κs = search rules
 
 returns : tie.Need-returns
 returns c = search by_head
 
-pub part-spec : {M : Type 1} → statement M
-part-spec = tie.close (tie.spec head-at-requires depth-in-requires returns)
+pub part_spec : {M : Type 1} → statement M
+part_spec = tie.close (tie.spec head_at-requires depth_in-requires returns)

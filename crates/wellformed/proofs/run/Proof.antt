@@ -19,150 +19,150 @@ use Rattle.wellformed.proofs.Windows.{sized_in, in_use, stops, ends, lent_sized,
 use Rattle.wellformed.proofs.run.Statement.{statement}
 use Rattle.wellformed.proofs.run.Tie as tie
 
-abbrev invariant-loop : tie.invariant-loop
-invariant-loop words tail used bits₀ window base from i₀ bits i = (length bits ≡ length bits₀) × (i ≤ length window) × (Passed (stored words tail) used bits (base + i))
+abbrev invariant-loop-i : tie.invariant-loop-i
+invariant-loop-i words tail used bits₀ window base from i₀ bits i = (length bits ≡ length bits₀) × (i ≤ length window) × (Passed (stored words tail) used bits (base + i))
 
-abbrev decreases-loop : tie.decreases-loop
-decreases-loop words tail used bits₀ window base from i₀ bits i = length window - i
+abbrev decreases-loop-i : tie.decreases-loop-i
+decreases-loop-i words tail used bits₀ window base from i₀ bits i = length window - i
 
 -- places: the function's entry from the loop's head, and the loop's head from a turn's entry
-abbrev start : tie.At-loop invariant-loop decreases-loop → tie.Start invariant-loop decreases-loop
+abbrev start : tie.At-loop-i invariant-loop-i decreases-loop-i → tie.Start invariant-loop-i decreases-loop-i
 start l = l.before.before.before.before.before
 
-abbrev head : tie.After-size invariant-loop decreases-loop → tie.At-loop invariant-loop decreases-loop
+abbrev head : tie.After-size-n invariant-loop-i decreases-loop-i → tie.At-loop-i invariant-loop-i decreases-loop-i
 head z = z.before.before.before
 
-abbrev whole : tie.At-loop invariant-loop decreases-loop → List ℕ
+abbrev whole : tie.At-loop-i invariant-loop-i decreases-loop-i → List ℕ
 whole l = stored (start l).args.words.now (start l).args.tail.now
 
-abbrev heads : tie.At-loop invariant-loop decreases-loop → ℕ → ℕ
-heads l = heads_at (bit_at l.loop.bits) (whole l)
+abbrev heads : tie.At-loop-i invariant-loop-i decreases-loop-i → ℕ → ℕ
+heads l = heads_at (bit_at l.loop-i.bits) (whole l)
 
 -- the bits are enough for the words
-room : (l : tie.At-loop invariant-loop decreases-loop) → length (whole l) ≤ 64 * length l.loop.bits
-room l = omega (arith, (start l).requires.0.1, l.loop.invariant.0)
+room : (l : tie.At-loop-i invariant-loop-i decreases-loop-i) → length (whole l) ≤ 64 * length l.loop-i.bits
+room l = omega (arith, (start l).requires.0.1, l.loop-i.invariant.0)
 
 below : (a b c : ℕ) → a < b → b ≤ c → a < c
 below a b c h k = omega arith
 
-here : (z : tie.After-size invariant-loop decreases-loop) → (head z).loop.i < length (start (head z)).args.window.now
-here z = z.before.before.loop-test.true
+here : (z : tie.After-size-n invariant-loop-i decreases-loop-i) → (head z).loop-i.i < length (start (head z)).args.window.now
+here z = z.loop-i-test.true
 
-sized : (z : tie.After-size invariant-loop decreases-loop) → z.size.result ≡ size_of (get_or (whole (head z)) ((start (head z)).args.base + (head z).loop.i) 0)
-sized z = sized_in _ _ _ _ (start (head z)).pre.1.0 _ _ (here z) z.size.ensures
+sized : (z : tie.After-size-n invariant-loop-i decreases-loop-i) → z.size-n.result ≡ size_of (get_or (whole (head z)) ((start (head z)).args.base + (head z).loop-i.i) 0)
+sized z = sized_in _ _ _ _ (start (head z)).requires.1.0 _ _ (here z) z.size-n.ensures
 
-used-here : (z : tie.After-size invariant-loop decreases-loop) → (start (head z)).args.base + (head z).loop.i < (start (head z)).args.used
-used-here z = in_use _ _ _ _ (start (head z)).pre.1.0 _ _ (here z) z.size.ensures
+used_here : (z : tie.After-size-n invariant-loop-i decreases-loop-i) → (start (head z)).args.base + (head z).loop-i.i < (start (head z)).args.used
+used_here z = in_use _ _ _ _ (start (head z)).requires.1.0 _ _ (here z) z.size-n.ensures
 
-abbrev fits_in : tie.After-size invariant-loop decreases-loop → Type 0
-fits_in z = z.size.result ≤ length (start (head z)).args.window.now - (head z).loop.i
+abbrev fits_in : tie.After-size-n invariant-loop-i decreases-loop-i → Type 0
+fits_in z = z.size-n.result ≤ length (start (head z)).args.window.now - (head z).loop-i.i
 
-ends-here : (z : tie.After-size invariant-loop decreases-loop) → fits_in z → (start (head z)).args.base + (head z).loop.i + z.size.result ≤ (start (head z)).args.used
-ends-here z f = ends _ _ _ _ (start (head z)).pre.1.0 _ _ (here z) z.size.ensures f
+ends_here : (z : tie.After-size-n invariant-loop-i decreases-loop-i) → fits_in z → (start (head z)).args.base + (head z).loop-i.i + z.size-n.result ≤ (start (head z)).args.used
+ends_here z f = ends _ _ _ _ (start (head z)).requires.1.0 _ _ (here z) z.size-n.ensures f
 
-lent-here : (z : tie.After-size invariant-loop decreases-loop) → fits_in z → take (((head z).loop.i + z.size.result) - (head z).loop.i) (drop (head z).loop.i (start (head z)).args.window.now) ≡ take z.size.result (drop ((start (head z)).args.base + (head z).loop.i) (whole (head z)))
-lent-here z f = lent _ _ _ _ (start (head z)).pre.1.0 _ _ (here z) z.size.ensures f
+lent_here : (z : tie.After-size-n invariant-loop-i decreases-loop-i) → fits_in z → take (((head z).loop-i.i + z.size-n.result) - (head z).loop-i.i) (drop (head z).loop-i.i (start (head z)).args.window.now) ≡ take z.size-n.result (drop ((start (head z)).args.base + (head z).loop-i.i) (whole (head z)))
+lent_here z f = lent _ _ _ _ (start (head z)).requires.1.0 _ _ (here z) z.size-n.ensures f
 
 onward : (ws bits : List ℕ) (used base i n : ℕ) → Passed ws used bits (base + i + n) → Passed ws used bits (base + (i + n))
 onward ws bits used base i n p = let e : base + (i + n) ≡ base + i + n = omega arith in rw e p
 
-loop-holds : tie.Need-loop-init invariant-loop decreases-loop
-loop-holds c = let s = c.before.before.before.before in (refl, s.requires.1.1.0, s.requires.1.1.1)
+loop-i-init : tie.Need-loop-i-init invariant-loop-i decreases-loop-i
+loop-i-init c = let s = c.before.before.before.before in (refl, s.requires.1.1.0, s.requires.1.1.1)
 
-mul-size : tie.Need-overflow-mul-size invariant-loop decreases-loop
-mul-size c = search rules
+offset_bounds-window-i : tie.Need-offset_bounds-window-i invariant-loop-i decreases-loop-i
+offset_bounds-window-i c = search rules
 
-shared-slice-read-size : tie.Need-shared-slice-read-size invariant-loop decreases-loop
-shared-slice-read-size c = search rules
+bounds-window-i : tie.Need-bounds-window-i invariant-loop-i decreases-loop-i
+bounds-window-i c = search rules
 
-size-requires : tie.Need-size-requires invariant-loop decreases-loop
-size-requires c κs = search rules
+size-n-requires : tie.Need-size-n-requires invariant-loop-i decreases-loop-i
+size-n-requires c κs = search rules
 
-sub-if1 : tie.Need-overflow-sub-if1 invariant-loop decreases-loop
-sub-if1 c = search rules
+overflow_sub-window : tie.Need-overflow_sub-window invariant-loop-i decreases-loop-i
+overflow_sub-window c = search rules
 
-same_length : tie.Need-same-length invariant-loop decreases-loop
-same_length c = search rules
+shape_of-bits-then-n-window : tie.Need-shape_of-bits-then-n-window invariant-loop-i decreases-loop-i
+shape_of-bits-then-n-window c = search rules
 
-returns : tie.Need-returns invariant-loop decreases-loop
-returns c = let z = c.before in let l = head z in stops _ _ _ _ (start l).pre.1.0 _ _ (here z) z.size.ensures _ l.loop.inv.2 c.if1.true
+returns-then-n-window : tie.Need-returns-then-n-window invariant-loop-i decreases-loop-i
+returns-then-n-window c = let z = c.before in let l = head z in stops _ _ _ _ (start l).requires.1.0 _ _ (here z) z.size-n.ensures _ l.loop-i.inv.2 c.if-n-window.true
 
-add-entry : tie.Need-overflow-add-entry invariant-loop decreases-loop
-add-entry c = search rules
+overflow_add-i : tie.Need-overflow_add-i invariant-loop-i decreases-loop-i
+overflow_add-i c = search rules
 
-mul-entry : tie.Need-overflow-mul-entry invariant-loop decreases-loop
-mul-entry c = search rules
+offset_bounds-window-i-in-loop-i : tie.Need-offset_bounds-window-i-in-loop-i invariant-loop-i decreases-loop-i
+offset_bounds-window-i-in-loop-i c = search rules
 
-sub-entry : tie.Need-overflow-sub-entry invariant-loop decreases-loop
-sub-entry c = search rules
+slice_bounds-entry-count : tie.Need-slice_bounds-entry-count invariant-loop-i decreases-loop-i
+slice_bounds-entry-count c = search rules
 
-part-entry-start : tie.Need-slice-bounds-entry-start invariant-loop decreases-loop
-part-entry-start c = search rules
+slice_bounds-entry-start : tie.Need-slice_bounds-entry-start invariant-loop-i decreases-loop-i
+slice_bounds-entry-start c = search rules
 
-part-entry-end : tie.Need-slice-bounds-entry-end invariant-loop decreases-loop
-part-entry-end c = search rules
+slice_bounds-entry-end : tie.Need-slice_bounds-entry-end invariant-loop-i decreases-loop-i
+slice_bounds-entry-end c = search rules
 
-entry-requires : tie.Need-entry-requires invariant-loop decreases-loop
+entry-requires : tie.Need-entry-requires invariant-loop-i decreases-loop-i
 entry-requires c κs = let z = c.before.before.before in let l = head z in
-    (record { room = room l; inside = λ h e. below _ _ _ (l.loop.inv.2.marks h e) (start l).pre.0.0 }, lent_sized _ _ _ _ (start l).pre.1.0 _ _ (here z) z.size.ensures c.before.before.if1.false)
+    (record { room = room l; inside = λ h e. below _ _ _ (l.loop-i.inv.2.marks h e) (start l).requires.0.0 }, lent_sized _ _ _ _ (start l).requires.1.0 _ _ (here z) z.size.ensures c.if1.false)
 
-same-length-2 : tie.Need-same-length-2 invariant-loop decreases-loop
-same-length-2 c = search rules
+shape_of-bits-then-not-entry : tie.Need-shape_of-bits-then-not-entry invariant-loop-i decreases-loop-i
+shape_of-bits-then-not-entry c = search rules
 
-returns-2 : tie.Need-returns-2 invariant-loop decreases-loop
-returns-2 c = let x = c.before.before.before.before in let z = x.before in let l = head z in
-    goes_bad _ _ _ _ _ (bad_entry _ _ _ _ _ (start l).pre.0.0 l.loop.inv.2 (used-here z) (sized z) (ends-here z x.if1.false) _ (c.before.entry.ensures ∙ ap (ok_entry (heads l)) (lent-here z x.if1.false)) c.if2.true)
+returns-then-not-entry : tie.Need-returns-then-not-entry invariant-loop-i decreases-loop-i
+returns-then-not-entry c = let x = c.before.before.before.before in let z = x.before in let l = head z in
+    goes_bad _ _ _ _ _ (bad_entry _ _ _ _ _ (start l).requires.0.0 l.loop-i.inv.2 (used_here z) (sized z) (ends_here z x.if1.false) _ (c.entry.ensures ∙ ap (ok_entry (heads l)) (lent_here z x.if1.false)) c.if-not-entry.true)
 
-add-mark : tie.Need-overflow-add-mark invariant-loop decreases-loop
-add-mark c = let z = c.before.before.before.before.before.before in let l = head z in let s = start l in record { fits = omega (arith, used-here z, s.pre.0.0, length_stored s.args.words.now s.args.tail.now) }
+overflow_add-base : tie.Need-overflow_add-base invariant-loop-i decreases-loop-i
+overflow_add-base c = let z = c.before.before.before.before.before.before in let l = head z in let s = start l in record { fits = omega (arith, used_here z, s.requires.0.0, length_stored s.args.words.now s.args.tail.now) }
 
-mark-requires : tie.Need-mark-requires invariant-loop decreases-loop
-mark-requires c κs = let z = c.before.before.before.before.before.before in let l = head z in omega (arith, room l, used-here z, (start l).pre.0.0)
+mark-requires : tie.Need-mark-requires invariant-loop-i decreases-loop-i
+mark-requires c κs = let z = c.before.before.before.before.before.before in let l = head z in omega (arith, room l, used_here z, (start l).requires.0.0)
 
-add-i : tie.Need-overflow-add-i invariant-loop decreases-loop
-add-i c = search rules
+overflow_add-i-in-loop-i : tie.Need-overflow_add-i-in-loop-i invariant-loop-i decreases-loop-i
+overflow_add-i-in-loop-i c = search rules
 
-loop-less : tie.Need-loop-smaller invariant-loop decreases-loop
-loop-less c = let z = c.before.before.before.before.before.before.before.before.before in omega (arith, size_pos (get_or (start (head z)).args.window.now (head z).loop.i 0), z.size.ensures, here z)
+loop-i-smaller : tie.Need-loop-i-smaller invariant-loop-i decreases-loop-i
+loop-i-smaller c = let z = c.before.before.before.before.before.before.before.before.before in omega (arith, size_pos (get_or (start (head z)).args.window.now (head z).loop-i.i 0), z.size.ensures, here z)
 
-loop-again : tie.Need-loop-preserved invariant-loop decreases-loop
-loop-again c = let m = c.before.before in let t = m.before.before in let e = t.before in let x = e.before.before.before in let z = x.before in let l = head z in (
-  m.mark.auto.0 ∙ l.loop.inv.0,
+loop-i-preserved : tie.Need-loop-i-preserved invariant-loop-i decreases-loop-i
+loop-i-preserved c = let m = c.before.before in let t = m.before.before in let e = t.before in let x = e.before.before.before in let z = x.before in let l = head z in (
+  m.mark.auto.0 ∙ l.loop-i.inv.0,
   omega (arith, x.if1.false, here z),
-  onward _ _ _ _ _ _ (good_entry _ _ _ _ _ (start l).pre.0.0 l.loop.inv.2 (used-here z) (sized z) (ends-here z x.if1.false) _ (e.entry.ensures ∙ ap (ok_entry (heads l)) (lent-here z x.if1.false)) t.if2.false _ m.mark.ensures),
+  onward _ _ _ _ _ _ (good_entry _ _ _ _ _ (start l).requires.0.0 l.loop-i.inv.2 (used_here z) (sized z) (ends_here z x.if1.false) _ (e.entry.ensures ∙ ap (ok_entry (heads l)) (lent_here z x.if1.false)) t.if-not-entry.false _ m.mark.ensures),
 )
 
-same-length-3 : tie.Need-same-length-3 invariant-loop decreases-loop
-same-length-3 c = search rules
+shape_of-bits : tie.Need-shape_of-bits invariant-loop-i decreases-loop-i
+shape_of-bits c = search rules
 
-returns-3 : tie.Need-returns-3 invariant-loop decreases-loop
-returns-3 c = let l = c.before in goes_end _ _ _ _ _ _ l.loop.invariant.2 l.loop.invariant.1 c.loop-test.false
+returns : tie.Need-returns invariant-loop-i decreases-loop-i
+returns c = let l = c.before in goes_end _ _ _ _ _ _ l.loop-i.invariant.2 l.loop-i.invariant.1 c.loop-i-test.false
 
 pub run_spec : {M : Type 1} → statement M
 run_spec =
     tie.close
     (tie.spec
-    invariant-loop
-    decreases-loop
-    loop-holds
-    mul-size
-    shared-slice-read-size
-    size-requires
-    sub-if1
-    same_length
-    returns
-    add-entry
-    mul-entry
-    sub-entry
-    part-entry-start
-    part-entry-end
+    invariant-loop-i
+    decreases-loop-i
+    loop-i-init
+    offset_bounds-window-i
+    bounds-window-i
+    size-n-requires
+    overflow_sub-window
+    shape_of-bits-then-n-window
+    returns-then-n-window
+    overflow_add-i
+    offset_bounds-window-i-in-loop-i
+    slice_bounds-entry-count
+    slice_bounds-entry-start
+    slice_bounds-entry-end
     entry-requires
-    same-length-2
-    returns-2
-    add-mark
+    shape_of-bits-then-not-entry
+    returns-then-not-entry
+    overflow_add-base
     mark-requires
-    add-i
-    loop-less
-    loop-again
-    same-length-3
-    returns-3)
+    overflow_add-i-in-loop-i
+    loop-i-smaller
+    loop-i-preserved
+    shape_of-bits
+    returns)

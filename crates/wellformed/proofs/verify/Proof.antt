@@ -5,92 +5,92 @@ use borrow.Author.Rules.{rules}
 use Rattle.wellformed.proofs.verify.Statement.{statement}
 use Rattle.wellformed.proofs.verify.Tie as tie
 
-returns : tie.Need-returns
-returns c = search too_short
+returns-then-words-lt-FRESH_LENGTH : tie.Need-returns-then-words-lt-FRESH_LENGTH
+returns-then-words-lt-FRESH_LENGTH c = search too_short
 
-returns-2 : tie.Need-returns-2
-returns-2 c = search too_long
+returns-then-words-gt-LONGEST : tie.Need-returns-then-words-gt-LONGEST
+returns-then-words-gt-LONGEST c = search too_long
 
-sub_same : tie.Need-overflow-sub-same
-sub_same c = search rules
+slice_bounds-same-count : tie.Need-slice_bounds-same-count
+slice_bounds-same-count c = search rules
 
-part-same-start : tie.Need-slice-bounds-same-start
-part-same-start c = search rules
+slice_bounds-same-start : tie.Need-slice_bounds-same-start
+slice_bounds-same-start c = search rules
 
-part-same-end : tie.Need-slice-bounds-same-end
-part-same-end c = search rules
+slice_bounds-same-end : tie.Need-slice_bounds-same-end
+slice_bounds-same-end c = search rules
 
-slice-aggregate-same : tie.Need-slice-aggregate-same
-slice-aggregate-same c = search rules
+slice_aggregate_same : tie.Need-slice-aggregate-same
+slice_aggregate_same c = search rules
 
 same-requires : tie.Need-same-requires
 same-requires c κs = search rules
 
-returns-3 : tie.Need-returns-3
+returns-then-not-same : tie.Need-returns-then-not-same
 unfolding fresh_words
-returns-3 c = search stale
+returns-then-not-same c = search stale
 
-shared-slice-read-w : tie.Need-shared-slice-read-w
-shared-slice-read-w c = search rules
+bounds-words-0 : tie.Need-bounds-words-0
+bounds-words-0 c = search rules
 
-returns-4 : tie.Need-returns-4
+returns-then-w : tie.Need-returns-then-w
 unfolding fresh_words
-returns-4 c = search too_few
+returns-then-w c = search too_few
 
-returns-5 : tie.Need-returns-5
+returns-then-w-words : tie.Need-returns-then-w-words
 unfolding fresh_words
-returns-5 c = search too_many
+returns-then-w-words c = search too_many
 
-mul-zeros : tie.Need-overflow-mul-zeros
-mul-zeros c = search rules
+offset_bounds-words-used : tie.Need-offset_bounds-words-used
+offset_bounds-words-used c = search rules
 
-sub-zeros : tie.Need-overflow-sub-zeros
-sub-zeros c = search rules
+slice_bounds-zeros-count : tie.Need-slice_bounds-zeros-count
+slice_bounds-zeros-count c = search rules
 
-part-zeros-start : tie.Need-slice-bounds-zeros-start
-part-zeros-start c = search rules
+slice_bounds-zeros-start : tie.Need-slice_bounds-zeros-start
+slice_bounds-zeros-start c = search rules
 
-part-zeros-end : tie.Need-slice-bounds-zeros-end
-part-zeros-end c = search rules
+slice_bounds-zeros-end : tie.Need-slice_bounds-zeros-end
+slice_bounds-zeros-end c = search rules
 
 zeros-requires : tie.Need-zeros-requires
 zeros-requires c κs = search rules
 
-returns-6 : tie.Need-returns-6
+returns-then-not-zeros : tie.Need-returns-then-not-zeros
 unfolding fresh_words
-returns-6 c = search dirty
+returns-then-not-zeros c = search dirty
 
 entries-requires : tie.Need-entries-requires
 entries-requires c κs = search rules
 
-same_length : tie.Need-same-length
-same_length c = search rules
+shape_of-bits : tie.Need-shape_of-bits
+shape_of-bits c = search rules
 
-returns-7 : tie.Need-returns-7
+returns : tie.Need-returns
 unfolding fresh_words
-returns-7 c = search clean
+returns c = search clean
 
-pub verify-spec : {M : Type 1} → statement M
-verify-spec =
+pub verify_spec : {M : Type 1} → statement M
+verify_spec =
     tie.close
     (tie.spec
-    returns
-    returns-2
-    sub_same
-    part-same-start
-    part-same-end
-    slice-aggregate-same
+    returns-then-words-lt-FRESH_LENGTH
+    returns-then-words-gt-LONGEST
+    slice_bounds-same-count
+    slice_bounds-same-start
+    slice_bounds-same-end
+    slice_aggregate_same
     same-requires
-    returns-3
-    shared-slice-read-w
-    returns-4
-    returns-5
-    mul-zeros
-    sub-zeros
-    part-zeros-start
-    part-zeros-end
+    returns-then-not-same
+    bounds-words-0
+    returns-then-w
+    returns-then-w-words
+    offset_bounds-words-used
+    slice_bounds-zeros-count
+    slice_bounds-zeros-start
+    slice_bounds-zeros-end
     zeros-requires
-    returns-6
+    returns-then-not-zeros
     entries-requires
-    same_length
-    returns-7)
+    shape_of-bits
+    returns)

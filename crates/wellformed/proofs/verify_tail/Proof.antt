@@ -8,55 +8,55 @@ use borrow.Author.Rules.{rules}
 use Rattle.wellformed.proofs.verify_tail.Statement.{statement}
 use Rattle.wellformed.proofs.verify_tail.Tie as tie
 
-returns : tie.Need-returns
-returns c = search no_store
+returns-then-k-gt-MOST_LATER : tie.Need-returns-then-k-gt-MOST_LATER
+returns-then-k-gt-MOST_LATER c = search no_store
 
-add-used : tie.Need-overflow-add-used
-add-used c = search rules
+overflow_add-used : tie.Need-overflow_add-used
+overflow_add-used c = search rules
 
-slice-aggregate-headed : tie.Need-slice-aggregate-headed
-slice-aggregate-headed c = search rules
+slice_bounds-headed-end : tie.Need-slice_bounds-headed-end
+slice_bounds-headed-end c = search rules
 
-slice-aggregate-headed-2 : tie.Need-slice-aggregate-headed-2
-slice-aggregate-headed-2 c = search rules
+slice_aggregate_headed_2 : tie.Need-slice-aggregate-headed-2
+slice_aggregate_headed_2 c = search rules
 
 headed-requires : tie.Need-headed-requires
 headed-requires c κs = search rules
 
-slice-aggregate-entries-in : tie.Need-slice-aggregate-entries-in
-slice-aggregate-entries-in c = search rules
+slice_bounds-entries_in-end : tie.Need-slice_bounds-entries_in-end
+slice_bounds-entries_in-end c = search rules
 
-slice-aggregate-entries-in-2 : tie.Need-slice-aggregate-entries-in-2
-slice-aggregate-entries-in-2 c = search rules
+slice_bounds-entries_in-end-2 : tie.Need-slice_bounds-entries_in-end-2
+slice_bounds-entries_in-end-2 c = search rules
 
-entries-in-requires : tie.Need-entries-in-requires
-entries-in-requires c κs =
+entries_in-requires : tie.Need-entries_in-requires
+entries_in-requires c κs =
     let h = c.before.before.before.before in
     let s = c.before.before.before.before.before.before.before.before.before.before in
     let n = length_stored h.headed.new.0 s.args.tail.now in
-    ((omega arith, omega (arith, n, h.headed.auto.0), omega (arith, n, h.headed.auto.0, s.requires, tail_length s.args.tail.now, c.before.before.before.before.before.before.before.if1.false)), search rules)
+    ((omega arith, omega (arith, n, h.headed.auto.0), omega (arith, n, h.headed.auto.0, s.requires, tail_length s.args.tail.now, c.if-k-gt-MOST_LATER.false)), search rules)
 
-same_length : tie.Need-same-length
-same_length c = search rules
+shape_of-bits : tie.Need-shape_of-bits
+shape_of-bits c = search rules
 
-returns-2 : tie.Need-returns-2
+returns : tie.Need-returns
 unfolding fresh_words
-returns-2 c =
+returns c =
     let h = c.before.before.before.before.before.before.before.before in
     let s = c.before.before.before.before.before.before.before.before.before.before.before.before.before.before in
-    tail_right s.args.tail.now c.before.before.before.before.before.before.before.before.before.before.before.if1.false h.headed.new.0 _ h.headed.ensures refl _ _ c.before.before.before.entries-in.ensures
+    tail_right s.args.tail.now c.if-k-gt-MOST_LATER.false h.headed.new.0 _ h.headed.ensures refl _ _ c.entries_in.ensures
 
-pub verify-tail-spec : {M : Type 1} → statement M
-verify-tail-spec =
+pub verify_tail_spec : {M : Type 1} → statement M
+verify_tail_spec =
     tie.close
     (tie.spec
-    returns
-    add-used
-    slice-aggregate-headed
-    slice-aggregate-headed-2
+    returns-then-k-gt-MOST_LATER
+    overflow_add-used
+    slice_bounds-headed-end
+    slice_aggregate_headed_2
     headed-requires
-    slice-aggregate-entries-in
-    slice-aggregate-entries-in-2
-    entries-in-requires
-    same_length
-    returns-2)
+    slice_bounds-entries_in-end
+    slice_bounds-entries_in-end-2
+    entries_in-requires
+    shape_of-bits
+    returns)

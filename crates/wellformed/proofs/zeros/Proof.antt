@@ -8,47 +8,47 @@ use Rattle.wellformed.proofs.Zero.{not_zero, a_zero, no_more}
 use Rattle.wellformed.proofs.zeros.Statement.{statement}
 use Rattle.wellformed.proofs.zeros.Tie as tie
 
-abbrev invariant-loop : tie.invariant-loop
-invariant-loop a i₀ i = (i ≤ length a) × (all_zero a ≡ all_zero (drop i a))
+abbrev invariant-loop-i : tie.invariant-loop-i
+invariant-loop-i a i₀ i = (i ≤ length a) × (all_zero a ≡ all_zero (drop i a))
 
-abbrev decreases-loop : tie.decreases-loop
-decreases-loop a i₀ i = length a - i
+abbrev decreases-loop-i : tie.decreases-loop-i
+decreases-loop-i a i₀ i = length a - i
 
-loop-holds : tie.Need-loop-init invariant-loop decreases-loop
-loop-holds c = (search rules, refl)
+loop-i-init : tie.Need-loop-i-init invariant-loop-i decreases-loop-i
+loop-i-init c = (search rules, refl)
 
-mul-if1 : tie.Need-overflow-mul-if1 invariant-loop decreases-loop
-mul-if1 c = search rules
+offset_bounds-a-i : tie.Need-offset_bounds-a-i invariant-loop-i decreases-loop-i
+offset_bounds-a-i c = search rules
 
-shared-slice-read-if1 : tie.Need-shared-slice-read-if1 invariant-loop decreases-loop
-shared-slice-read-if1 c = search rules
+bounds-a-i : tie.Need-bounds-a-i invariant-loop-i decreases-loop-i
+bounds-a-i c = search rules
 
-returns : tie.Need-returns invariant-loop decreases-loop
-returns c = search not_zero
+returns-then-a-i-ne0 : tie.Need-returns-then-a-i-ne0 invariant-loop-i decreases-loop-i
+returns-then-a-i-ne0 c = search not_zero
 
-add-i : tie.Need-overflow-add-i invariant-loop decreases-loop
-add-i c = search rules
+overflow_add-i : tie.Need-overflow_add-i invariant-loop-i decreases-loop-i
+overflow_add-i c = search rules
 
-loop-less : tie.Need-loop-smaller invariant-loop decreases-loop
-loop-less c = search rules
+loop-i-smaller : tie.Need-loop-i-smaller invariant-loop-i decreases-loop-i
+loop-i-smaller c = search rules
 
-loop-again : tie.Need-loop-preserved invariant-loop decreases-loop
-loop-again c = (search rules, search a_zero)
+loop-i-preserved : tie.Need-loop-i-preserved invariant-loop-i decreases-loop-i
+loop-i-preserved c = (search rules, search a_zero)
 
-returns-2 : tie.Need-returns-2 invariant-loop decreases-loop
-returns-2 c = search no_more
+returns : tie.Need-returns invariant-loop-i decreases-loop-i
+returns c = search no_more
 
-pub zeros-spec : {M : Type 1} → statement M
-zeros-spec =
+pub zeros_spec : {M : Type 1} → statement M
+zeros_spec =
     tie.close
     (tie.spec
-    invariant-loop
-    decreases-loop
-    loop-holds
-    mul-if1
-    shared-slice-read-if1
-    returns
-    add-i
-    loop-less
-    loop-again
-    returns-2)
+    invariant-loop-i
+    decreases-loop-i
+    loop-i-init
+    offset_bounds-a-i
+    bounds-a-i
+    returns-then-a-i-ne0
+    overflow_add-i
+    loop-i-smaller
+    loop-i-preserved
+    returns)
