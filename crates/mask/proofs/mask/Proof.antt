@@ -4,35 +4,35 @@ use Rattle.mask.proofs.Steps.{constant, zeros_few, zeros_fit, steps_are}
 use Rattle.mask.proofs.mask.Statement.{statement}
 use Rattle.mask.proofs.mask.Tie as tie
 
-is-less-requires : tie.Need-is-less-requires
-is-less-requires c κs = search rules
+is_less-requires : tie.Need-is_less-requires
+is_less-requires c κs = search rules
+
+returns-then-is_less : tie.Need-returns-then-is_less
+returns-then-is_less c = rw (sym c.is_less.ensures ∙ c.if-is_less.true)
+
+returns-then-min-max : tie.Need-returns-then-min-max
+returns-then-min-max c = search constant
+
+overflow_cast-bit : tie.Need-overflow_cast-bit
+overflow_cast-bit c = search zeros_fit
+
+overflow_shr-bit : tie.Need-overflow_shr-bit
+overflow_shr-bit c = search zeros_few
+
+wrapping_sub_u64-below-requires : tie.Need-wrapping_sub_u64-below-requires
+wrapping_sub_u64-below-requires c κs = search rules
 
 returns : tie.Need-returns
-returns c = rw (sym c.before.is-less.ensures ∙ c.if1.true)
+returns c = search steps_are
 
-returns-2 : tie.Need-returns-2
-returns-2 c = search constant
-
-cast-bit : tie.Need-overflow-cast-bit
-cast-bit c = search zeros_fit
-
-shr-bit : tie.Need-overflow-shr-bit
-shr-bit c = search zeros_few
-
-wrapping-sub-u64-requires : tie.Need-wrapping-sub-u64-requires
-wrapping-sub-u64-requires c κs = search rules
-
-returns-3 : tie.Need-returns-3
-returns-3 c = search steps_are
-
-pub mask-spec : {M : Type 1} → statement M
-mask-spec =
+pub mask_spec : {M : Type 1} → statement M
+mask_spec =
     tie.close
     (tie.spec
-    is-less-requires
-    returns
-    returns-2
-    cast-bit
-    shr-bit
-    wrapping-sub-u64-requires
-    returns-3)
+    is_less-requires
+    returns-then-is_less
+    returns-then-min-max
+    overflow_cast-bit
+    overflow_shr-bit
+    wrapping_sub_u64-below-requires
+    returns)
