@@ -26,12 +26,30 @@ GENERIC = set("args requires ensures before result new old now invariant true fa
 HEAD = re.compile(r"^(?:pub |abbrev |unfoldable )*([^\s:(){}]+) : ", re.M)
 
 
+def references(root):
+    """The reference parameters of each function of the repository, by crate and name, in order."""
+    found = {}
+    for folder, below, names in os.walk(os.path.join(root, "crates")):
+        below[:] = [b for b in below if b != "out"]
+        for file in names:
+            if file.endswith(".rt"):
+                with open(os.path.join(folder, file), encoding="utf-8") as f:
+                    text = f.read()
+                crate = os.path.relpath(folder, os.path.join(root, "crates")).split(os.sep)[0]
+                for m in re.finditer(r"\bfn (\w+)(?:<[^>]*>)?\(([^{]*?)\)(?=\s*(?:->|requires|ensures|where|\{))", text, re.S):
+                    found[crate, m.group(1)] = re.findall(r"(\w+):\s*&", m.group(2))
+    return found
+
+
+REFS = references(os.path.join(os.path.dirname(os.path.abspath(__file__)), ".."))
+
+
 class Function:
     """What names.json says of one function: its goals, places, steps and loops, by their old names."""
 
     def __init__(self, d):
         self.needs, self.at, self.places, self.parent, self.step, self.arm, self.merged = {}, {}, {}, {}, {}, {}, set()
-        self.any = {}
+        self.any, self.callee = {}, {}
         for i, (old, new) in enumerate(d.get("needs", [])):
             self.needs[norm(old)] = new
             if i < len(d.get("asked_at", [])):
@@ -43,6 +61,9 @@ class Function:
             if isinstance(place[2], list) and place[2][0]:
                 self.step[name] = (norm(place[2][0]), place[2][1])
                 self.any.setdefault(norm(place[2][0]), place[2][1])
+                if place[3]:
+                    steps = place[3].split("::")
+                    self.callee[place[2][1]] = REFS.get((steps[0], steps[-1]), [])
             arm = d["arms"][i] if i < len(d.get("arms", [])) else None
             if arm:
                 self.arm[name] = arm
@@ -59,13 +80,31 @@ class Function:
             yield place
             place = self.parent.get(place)
 
+    def by_name(self, step, fields):
+        """The fields behind a step, where a number stood for a reference that was passed."""
+        refs = self.callee.get(step)
+        if refs and len(fields) > 1 and fields[0] in ("new", "auto") and fields[1].isdigit() and int(fields[1]) < len(refs):
+            return [fields[0], refs[int(fields[1])]] + fields[2:]
+        return fields
+
     def path(self, place, fields):
         """The new path for the old one, behind a variable at the place; or None. And the place that a bare path leads to."""
+        changed, at = self.raw_path(place, fields)
+        if changed and at is None:
+            changed = changed[:1] + self.by_name(changed[0], changed[1:])
+        return changed, at
+
+    def raw_path(self, place, fields):
         here, k = place, 0
         while k < len(fields) and fields[k] == "before" and here:
             here, k = self.parent.get(here), k + 1
         if here is None:
-            return None, None
+            # an older Rattle had more places above: fields go by their name alone
+            while k < len(fields) and fields[k] == "before":
+                k += 1
+            if k == len(fields):
+                return None, None
+            here = place
         if k == len(fields):
             n, p = 0, place
             while p != here and p:
@@ -121,7 +160,7 @@ def convert(path, d, function, said):
 
 
 def block(text, it, labels, own, function, path, said):
-    known = {}
+    known, bare = {}, {}
     head = HEAD.match(text)
     name = head.group(1)
     need = re.match(r"(?:tie|lts)\.Need-([^\s()]+)", text[head.end() :])
@@ -177,6 +216,10 @@ def block(text, it, labels, own, function, path, said):
                     new = ".".join([word] + changed)
                 if bound and place:
                     known[bound.group(1)] = place
+                elif bound and changed:
+                    bare[bound.group(1)] = changed[0] if len(changed) == 1 else ""
+            elif word in bare:
+                new = ".".join([word] + it.by_name(bare[word], fields))
             elif fields:
                 # a variable whose place is not known
                 for k, f in enumerate(fields):
