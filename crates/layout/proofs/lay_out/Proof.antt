@@ -17,50 +17,50 @@ small_end c =
     let s = begun c in
     end_fits (front s.args.list.now) c.add_up.new.sums.0 s.requires.2 c.add_up.ensures (few_fields s.args.list.now s.requires.1)
 
-overflow_sub_n : tie.Need-overflow_sub-n
-overflow_sub_n c = search rules
+overflow_sub-n : tie.Need-overflow_sub-n
+overflow_sub-n c = search rules
 
-slice_bounds_add_up_end : tie.Need-slice_bounds-add_up-end
-slice_bounds_add_up_end c = search rules
+slice_bounds-add_up-end : tie.Need-slice_bounds-add_up-end
+slice_bounds-add_up-end c = search rules
 
-slice_bounds_add_up_end_2 : tie.Need-slice_bounds-add_up-end-2
-slice_bounds_add_up_end_2 c = sym (front_length c.before.before.args.list.now)
+slice_bounds-add_up-end-2 : tie.Need-slice_bounds-add_up-end-2
+slice_bounds-add_up-end-2 c = sym (front_length c.args.list.now)
 
-slice_bounds_add_up_end_3 : tie.Need-slice_bounds-add_up-end-3
-slice_bounds_add_up_end_3 c = search rules
+slice_bounds-add_up-end-3 : tie.Need-slice_bounds-add_up-end-3
+slice_bounds-add_up-end-3 c = search rules
 
 add_up-requires : tie.Need-add_up-requires
 add_up-requires c κs = let s = c.before.before.before in (few_fields s.args.list.now s.requires.1, s.requires.2, refl)
 
-bounds_sums_3 : tie.Need-bounds-sums-3
-bounds_sums_3 c = search rules
+bounds-sums-3 : tie.Need-bounds-sums-3
+bounds-sums-3 c = search rules
 
-bounds_sums_2 : tie.Need-bounds-sums-2
-bounds_sums_2 c = search rules
+bounds-sums-2 : tie.Need-bounds-sums-2
+bounds-sums-2 c = search rules
 
-overflow_add_two : tie.Need-overflow_add-two
-overflow_add_two c = record { fits = omega (arith, small_end c.before) }
+overflow_add-two : tie.Need-overflow_add-two
+overflow_add-two c = record { fits = omega (arith, small_end c.before) }
 
-bounds_sums_1 : tie.Need-bounds-sums-1
-bounds_sums_1 c = search rules
+bounds-sums-1 : tie.Need-bounds-sums-1
+bounds-sums-1 c = search rules
 
-overflow_add_one : tie.Need-overflow_add-one
-overflow_add_one c = record { fits = omega (arith, small_end c.before) }
+overflow_add-one : tie.Need-overflow_add-one
+overflow_add-one c = record { fits = omega (arith, small_end c.before) }
 
-bounds_sums_0 : tie.Need-bounds-sums-0
-bounds_sums_0 c = search rules
+bounds-sums-0 : tie.Need-bounds-sums-0
+bounds-sums-0 c = search rules
 
-overflow_add_end : tie.Need-overflow_add-end
-overflow_add_end c = record { fits = omega (arith, small_end c.before) }
+overflow_add-end : tie.Need-overflow_add-end
+overflow_add-end c = record { fits = omega (arith, small_end c.before) }
 
-slice_bounds_place_end : tie.Need-slice_bounds-place-end
-slice_bounds_place_end c = search rules
+slice_bounds-place-end : tie.Need-slice_bounds-place-end
+slice_bounds-place-end c = search rules
 
-slice_bounds_place_end_2 : tie.Need-slice_bounds-place-end-2
-slice_bounds_place_end_2 c = sym (front_length c.before.before.before.before.before.before.args.list.now)
+slice_bounds-place-end-2 : tie.Need-slice_bounds-place-end-2
+slice_bounds-place-end-2 c = sym (front_length c.args.list.now)
 
-slice_bounds_place_end_3 : tie.Need-slice_bounds-place-end-3
-slice_bounds_place_end_3 c = search rules
+slice_bounds-place-end-3 : tie.Need-slice_bounds-place-end-3
+slice_bounds-place-end-3 c = search rules
 
 place-requires : tie.Need-place-requires
 place-requires c κs =
@@ -72,20 +72,20 @@ place-requires c κs =
       starts (front s.args.list.now) a.add_up.new.sums.0 s.requires.2 a.add_up.ensures,
     )
 
-overflow_add_list : tie.Need-overflow_add-list
-overflow_add_list c = record { fits = omega (arith, small_end c.before.before.before.before.before.before.before) }
+overflow_add-list : tie.Need-overflow_add-list
+overflow_add-list c = record { fits = omega (arith, small_end c.before.before.before.before.before.before.before) }
 
-overflow_mul_list : tie.Need-overflow_mul-list
-overflow_mul_list c = record { fits = omega (arith, small_end c.before.before.before.before.before.before.before) }
+overflow_mul-list : tie.Need-overflow_mul-list
+overflow_mul-list c = record { fits = omega (arith, small_end c.before.before.before.before.before.before.before) }
 
-offset_bounds_list_n : tie.Need-offset_bounds-list-n
-offset_bounds_list_n c = search rules
+offset_bounds-list-n : tie.Need-offset_bounds-list-n
+offset_bounds-list-n c = search rules
 
-bounds_list_n : tie.Need-bounds-list-n
-bounds_list_n c = search rules
+bounds-list-n : tie.Need-bounds-list-n
+bounds-list-n c = search rules
 
-shape_of_list : tie.Need-shape_of-list
-shape_of_list c = search rules
+shape_of-list : tie.Need-shape_of-list
+shape_of-list c = search rules
 
 returns : tie.Need-returns
 returns c =
@@ -98,25 +98,25 @@ pub lay_out_spec : {M : Type 1} → statement M
 lay_out_spec =
     tie.close
     (tie.spec
-    overflow_sub_n
-    slice_bounds_add_up_end
-    slice_bounds_add_up_end_2
-    slice_bounds_add_up_end_3
+    overflow_sub-n
+    slice_bounds-add_up-end
+    slice_bounds-add_up-end-2
+    slice_bounds-add_up-end-3
     add_up-requires
-    bounds_sums_3
-    bounds_sums_2
-    overflow_add_two
-    bounds_sums_1
-    overflow_add_one
-    bounds_sums_0
-    overflow_add_end
-    slice_bounds_place_end
-    slice_bounds_place_end_2
-    slice_bounds_place_end_3
+    bounds-sums-3
+    bounds-sums-2
+    overflow_add-two
+    bounds-sums-1
+    overflow_add-one
+    bounds-sums-0
+    overflow_add-end
+    slice_bounds-place-end
+    slice_bounds-place-end-2
+    slice_bounds-place-end-3
     place-requires
-    overflow_add_list
-    overflow_mul_list
-    offset_bounds_list_n
-    bounds_list_n
-    shape_of_list
+    overflow_add-list
+    overflow_mul-list
+    offset_bounds-list-n
+    bounds-list-n
+    shape_of-list
     returns)
