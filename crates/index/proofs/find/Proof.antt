@@ -4,35 +4,35 @@ use borrow.Author.Rules.{rules}
 use Rattle.index.proofs.find.Statement.{statement}
 use Rattle.index.proofs.find.Tie as tie
 
-search_f_requires : tie.Need-search-f-requires
-search_f_requires c κs = search rules
+search-f-requires : tie.Need-search-f-requires
+search-f-requires c κs = search rules
 
 enum_known-f : tie.Need-enum_known-f
 enum_known-f c = search rules
 
-enum_told_1 : tie.Need-enum_told-1
-enum_told_1 c = search rules
+enum_told-1 : tie.Need-enum_told-1
+enum_told-1 c = search rules
 
 covered-requires : tie.Need-covered-requires
 covered-requires c κs = search rules
 
-find_rest_requires : tie.Need-find-rest-requires
-find_rest_requires c κs = (c.requires.0, tail_of _ _ _ _ c.requires.0 c.requires.1 _ c.covered.ensures)
+find-rest-requires : tie.Need-find-rest-requires
+find-rest-requires c κs = (c.requires.0, tail_of _ _ _ _ c.requires.0 c.requires.1 _ c.covered.ensures)
 
-returns_in_At : tie.Need-returns-in-At
-returns_in_At c = found_first _ _ c.requires.1 c.requires.0.full _ _ c.search-f.ensures _ c.in-At.is
+returns-in-At : tie.Need-returns-in-At
+returns-in-At c = found_first _ _ c.requires.1 c.requires.0.full _ _ c.search-f.ensures _ c.in-At.is
 
-returns_in_Nothing : tie.Need-returns-in-Nothing
-returns_in_Nothing c = found_later _ _ c.requires.1 c.requires.0.full _ _ c.search-f.ensures c.in-Nothing.is _ c.covered.ensures _ c.find-rest.ensures.answer
+returns-in-Nothing : tie.Need-returns-in-Nothing
+returns-in-Nothing c = found_later _ _ c.requires.1 c.requires.0.full _ _ c.search-f.ensures c.in-Nothing.is _ c.covered.ensures _ c.find-rest.ensures.answer
 
 pub find_spec : {M : Type 1} → statement M
 find_spec =
     tie.close
     (tie.spec
-    search_f_requires
+    search-f-requires
     enum_known-f
-    enum_told_1
+    enum_told-1
     covered-requires
-    find_rest_requires
-    returns_in_At
-    returns_in_Nothing)
+    find-rest-requires
+    returns-in-At
+    returns-in-Nothing)

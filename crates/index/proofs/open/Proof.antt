@@ -14,11 +14,11 @@ extend-requires c κs =
     let n = length-take-le s.args.used s.args.words.now s.requires.1 in
     (s.requires.1, s.requires.2, c.blank.ensures.covers _ (omega (arith, n, s.requires.0)))
 
-shape_of_index : tie.Need-shape_of-index
-shape_of_index c = search rules
+shape_of-index : tie.Need-shape_of-index
+shape_of-index c = search rules
 
 returns : tie.Need-returns
 returns c = search rules
 
 pub open_spec : {M : Type 1} → statement M
-open_spec = tie.close (tie.spec blank-requires extend-requires shape_of_index returns)
+open_spec = tie.close (tie.spec blank-requires extend-requires shape_of-index returns)
