@@ -103,7 +103,13 @@ class Function:
             while k < len(fields) and fields[k] == "before":
                 k += 1
             if k == len(fields):
-                return None, None
+                # there the function's start was meant
+                n, p, last = 0, place, place
+                while p:
+                    if p not in self.merged:
+                        n += 1
+                    last, p = p, self.parent.get(p)
+                return ["before"] * (n - 1), last
             here = place
         if k == len(fields):
             n, p = 0, place
@@ -136,25 +142,37 @@ class Function:
         return rest, None
 
 
-def convert(path, d, function, said):
+def convert(path, d, crate, function, said):
     with open(path, encoding="utf-8") as f:
         text = f.read()
-    it = Function(d)
+    aliases = {}
+    for m in re.finditer(rf"^use Rattle\.{crate}\.proofs\.(\S+)\.(?:Tie|Lts)(\S*) as (\S+)$", text, re.M):
+        key = f"Rattle-{crate}-proofs.{m.group(1)}.Lts{m.group(2)}"
+        if "needs" in d.get(key, {}):
+            aliases[m.group(3)] = Function(d[key])
+        else:
+            said.append(f"{path}: no {key}")
+    cycle = len(aliases) > 1 and function.startswith("+") and function.count("_") >= 0 and len({k.replace("-tie", "").replace("-lts", "") for k in aliases}) > 1
+    any_alias = "|".join(re.escape(a) for a in sorted(aliases, key=len, reverse=True)) or "tie|lts"
+    global ALIAS
+    ALIAS = any_alias
     labels = {}
-    for m in re.finditer(r"^(pub )?(\S+) : (?:\(.*?\) → )?(?:tie|lts)\.Need-([^\s()]+)", text, re.M):
-        new = it.needs.get(norm(m.group(3)))
+    for m in re.finditer(rf"^(pub )?(\S+) : (?:\(.*?\) → )?({any_alias})\.Need-([^\s()]+)", text, re.M):
+        new = aliases[m.group(3)].needs.get(norm(m.group(4)))
         if new:
-            labels[m.group(2)] = new
-    for m in re.finditer(r"^abbrev (\S+) : (?:tie|lts)\.((?:invariant|decreases)-[^\s()]+)", text, re.M):
-        new = it.loops.get(norm(m.group(2)))
+            labels[m.group(2)] = new if not function.startswith("+") else m.group(3).replace("-lts", "").replace("-tie", "").replace("-", "_") + "-" + new
+    for m in re.finditer(rf"^abbrev (\S+) : ({any_alias})\.((?:invariant|decreases)-[^\s()]+)", text, re.M):
+        new = aliases[m.group(2)].loops.get(norm(m.group(3)))
         if new:
-            labels[m.group(1)] = new
+            labels[m.group(1)] = new if not function.startswith("+") else m.group(2).replace("-lts", "").replace("-tie", "").replace("-", "_") + "-" + new
+    it = aliases
     own = {m.group(1) for m in HEAD.finditer(text)}
     cuts = [m.start() for m in HEAD.finditer(text)] + [len(text)]
     out = [text[: cuts[0]]] if cuts[0] else []
     for a, b in zip(cuts, cuts[1:]):
         out.append(block(text[a:b], it, labels, own, function, path, said))
     result = "".join(out)
+    result = re.sub(r"(?m)^(use \S+ as )(\S+)$", lambda m: m.group(1) + (m.group(2).replace("-", "_") if m.group(2) in aliases else m.group(2)), result)
     with open(path, "w", encoding="utf-8") as f:
         f.write(result)
 
@@ -163,20 +181,27 @@ def block(text, it, labels, own, function, path, said):
     known, bare = {}, {}
     head = HEAD.match(text)
     name = head.group(1)
-    need = re.match(r"(?:tie|lts)\.Need-([^\s()]+)", text[head.end() :])
+    all_of, it = it, None
+    need = re.match(rf"({ALIAS})\.Need-([^\s()]+)", text[head.end() :])
     if need:
-        first = re.search(rf"^{re.escape(name)} (\S+)", text[head.end() :], re.M)
-        if first and norm(need.group(1)) in it.at:
-            known[first.group(1)] = it.at[norm(need.group(1))]
+        it = all_of[need.group(1)]
+        first = re.search(rf"^{re.escape(name)} (\S+)(?: (c)\b)?", text[head.end() :], re.M)
+        if first and norm(need.group(2)) in it.at:
+            known[first.group(2) or first.group(1)] = it.at[norm(need.group(2))]
     else:
-        for m in re.finditer(r"\(([^\s():]+) : (?:tie|lts)\.([^\s()]+)[^()]*\)", text):
-            if norm(m.group(2)) in it.places:
-                known[m.group(1)] = norm(m.group(2))
-        m = re.match(r"(?:tie|lts)\.([^\s()]+)", text[head.end() :])
-        if m and norm(m.group(1)) in it.places:
+        for m in re.finditer(rf"\(([^\s():]+) : ({ALIAS})\.([^\s()]+)[^()]*\)", text):
+            it = it or all_of.get(m.group(2))
+            if it and norm(m.group(3)) in it.places:
+                known[m.group(1)] = norm(m.group(3))
+        m = re.match(rf"({ALIAS})\.([^\s()]+)", text[head.end() :])
+        if m:
+            it = it or all_of.get(m.group(1))
+        if m and it and norm(m.group(2)) in it.places:
             first = re.search(rf"^{re.escape(name)} (\S+)", text[head.end() :], re.M)
             if first and first.group(1) != "=":
-                known[first.group(1)] = norm(m.group(1))
+                known[first.group(1)] = norm(m.group(2))
+    if it is None:
+        it = next(iter(all_of.values())) if all_of else Function({})
     out, at = [], 0
     for m in re.finditer(r'(?<![^\s(){};,"«»])([^\s(){}.;,@"«»]+)((?:\.[^\s(){}.;,@"«»]+)*)|(?<=\))((?:\.[^\s(){}.;,@"«»]+)+)', text):
         line = text[text.rfind("\n", 0, m.start()) + 1 : m.start()]
@@ -192,7 +217,8 @@ def block(text, it, labels, own, function, path, said):
         else:
             word, fields = m.group(1), [f for f in m.group(2).split(".") if f]
             new = m.group(0)
-            if word in ("tie", "lts") and fields:
+            if word in all_of and fields:
+                it_was, it = it, all_of[word]
                 w = fields[0]
                 if w.startswith("Need-"):
                     x = it.needs.get(norm(w[5:]))
@@ -207,6 +233,7 @@ def block(text, it, labels, own, function, path, said):
                 elif w not in ("close", "spec", "Claims", "the-claims"):
                     said.append(f"{path}: no place {w}")
                 new = ".".join([word] + fields)
+                it = it_was
             elif word in known:
                 bound = re.search(r"let (\S+) = $", text[: m.start()])
                 changed, place = it.path(known[word], fields)
@@ -235,6 +262,8 @@ def block(text, it, labels, own, function, path, said):
                 new = labels[word]
             elif not fields and word in own and ("-" in word or re.search(r"[a-z][A-Z]", word)) and not word.endswith("-spec"):
                 new = re.sub(r"([a-z0-9])([A-Z])", lambda x: x.group(1) + "_" + x.group(2).lower(), word.replace("-", "_"))
+            if word in all_of:
+                new = word.replace("-", "_") + new[len(word) :]
             if word.replace("-", "_") == function + "_spec" and not fields:
                 new = function + "_spec"
         if new != m.group(0):
@@ -254,14 +283,7 @@ def main():
         if "Proof.antt" not in files:
             continue
         steps = os.path.relpath(folder, top).split(os.sep)
-        keys = [k for k in d if k.startswith(f"Rattle-{name}-proofs." + ".".join(steps)) and k.endswith("Lts")]
-        path = os.path.join(folder, "Proof.antt")
-        if len(keys) != 1 or "needs" not in d[keys[0]]:
-            said.append(f"{path}: keys {keys}")
-            if not keys:
-                continue
-        key = [k for k in keys if k == f"Rattle-{name}-proofs." + ".".join(steps) + ".Lts"] or keys
-        convert(path, d[key[0]], steps[-1], said)
+        convert(os.path.join(folder, "Proof.antt"), d, name, steps[-1], said)
     print("\n".join(said))
 
 
