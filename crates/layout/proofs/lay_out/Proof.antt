@@ -10,7 +10,7 @@ use Rattle.layout.proofs.lay_out.Tie as tie
 
 -- once the bytes are added up: the function's start, and the end before it is rounded, which is small
 abbrev begun : tie.After-add_up → tie.Start
-begun c = c.before.before.before.before
+begun c = c.before.before.before
 
 small_end : (c : tie.After-add_up) → let sums = c.add_up.new.sums.0 in get_or sums 3 0 + get_or sums 2 0 + get_or sums 1 0 + get_or sums 0 0 ≤ 2040
 small_end c =
@@ -30,7 +30,7 @@ slice_bounds-add_up-end-3 : tie.Need-slice_bounds-add_up-end-3
 slice_bounds-add_up-end-3 c = search rules
 
 add_up-requires : tie.Need-add_up-requires
-add_up-requires c κs = let s = c.before.before.before in (few_fields s.args.list.now s.requires.1, s.requires.2, refl)
+add_up-requires c κs = let s = c.before.before in (few_fields s.args.list.now s.requires.1, s.requires.2, refl)
 
 bounds-sums-3 : tie.Need-bounds-sums-3
 bounds-sums-3 c = search rules
