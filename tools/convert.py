@@ -84,7 +84,7 @@ class Function:
         """The fields behind a step, where a number stood for a reference that was passed."""
         refs = self.callee.get(step)
         if refs and len(fields) > 1 and fields[0] in ("new", "auto") and fields[1].isdigit() and int(fields[1]) < len(refs):
-            return [fields[0], refs[int(fields[1])]] + fields[2:]
+            return [fields[0], refs[int(fields[1])]] + fields[3 if len(fields) > 2 and fields[2] == "0" else 2 :]
         return fields
 
     def path(self, place, fields):
@@ -122,9 +122,9 @@ class Function:
                 p = self.parent.get(p)
             return ["before"] * n, here
         rest = fields[k:]
-        below = place
-        chain = [place] if here == place else list(self.above(place))
-        for p in self.above(here):
+        chain = list(self.above(place))
+        # an older Rattle had more places: where the step is not found above, the nearest below is meant
+        for p in list(self.above(here)) + chain:
             step = self.step.get(p)
             # an arm that took two places in: its own step and that of the place above it
             owner = p
