@@ -23,7 +23,7 @@ covered-at-requires : tie.Need-covered-at-requires invariant-loop-at decreases-l
 covered-at-requires c κs = search rules
 
 loop-at-init : tie.Need-loop-at-init invariant-loop-at decreases-loop-at
-loop-at-init c = (refl, extend_first _ _ _ c.requires.0 c.requires.1 c.requires.2 c.if1.false _ c.covered-at.ensures)
+loop-at-init c = (refl, extend_first _ _ _ c.requires.0 c.requires.1 c.requires.2 c.if-half-used.false _ c.covered-at.ensures)
 
 offset_bounds-words-at : tie.Need-offset_bounds-words-at invariant-loop-at decreases-loop-at
 offset_bounds-words-at c = search rules
