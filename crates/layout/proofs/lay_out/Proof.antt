@@ -12,10 +12,10 @@ use Rattle.layout.proofs.lay_out.Tie as tie
 abbrev begun : tie.After-add_up → tie.Start
 begun c = c.before.before.before
 
-small_end : (c : tie.After-add_up) → let sums = c.add_up.new.sums.0 in get_or sums 3 0 + get_or sums 2 0 + get_or sums 1 0 + get_or sums 0 0 ≤ 2040
+small_end : (c : tie.After-add_up) → let sums = c.add_up.new.sums in get_or sums 3 0 + get_or sums 2 0 + get_or sums 1 0 + get_or sums 0 0 ≤ 2040
 small_end c =
     let s = begun c in
-    end_fits (front s.args.list.now) c.add_up.new.sums.0 s.requires.2 c.add_up.ensures (few_fields s.args.list.now s.requires.1)
+    end_fits (front s.args.list.now) c.add_up.new.sums s.requires.2 c.add_up.ensures (few_fields s.args.list.now s.requires.1)
 
 overflow_sub-n : tie.Need-overflow_sub-n
 overflow_sub-n c = search rules
@@ -69,7 +69,7 @@ place-requires c κs =
       few_fields s.args.list.now s.requires.1,
       s.requires.2,
       refl,
-      starts (front s.args.list.now) a.add_up.new.sums.0 s.requires.2 a.add_up.ensures,
+      starts (front s.args.list.now) a.add_up.new.sums s.requires.2 a.add_up.ensures,
     )
 
 overflow_add-list : tie.Need-overflow_add-list
@@ -92,7 +92,7 @@ returns c =
     let p = c.before.before.before in
     let a = c.before.before.before.before.before.before.before in
     let s = begun a in
-    ended s.args.list.now a.add_up.new.sums.0 p.place.new.list s.requires.0 s.requires.2 a.add_up.ensures p.place.ensures
+    ended s.args.list.now a.add_up.new.sums p.place.new.list s.requires.0 s.requires.2 a.add_up.ensures p.place.ensures
 
 pub lay_out_spec : {M : Type 1} → statement M
 lay_out_spec =
