@@ -25,7 +25,7 @@ abbrev start : tie.At-loop-at invariant-loop-at decreases-loop-at → tie.Start 
 start l = l.before.before.before.before.before.before.before.before.before
 
 len : (l : tie.At-loop-at invariant-loop-at decreases-loop-at) → length l.loop-at.bits ≡ length (start l).args.bits.now
-len l = l.loop-at.invariant.0 ∙ l.clear.auto.0
+len l = l.loop-at.invariant.0 ∙ l.clear.auto.bits
 
 low : (z : tie.After-smaller-m invariant-loop-at decreases-loop-at) → z.smaller-m.result ≤ (start z.before.before).args.used - z.loop-at.at
 low z = omega (arith, z.smaller-m.ensures)
@@ -46,15 +46,15 @@ gather-requires : tie.Need-gather-requires invariant-loop-at decreases-loop-at
 gather-requires c κs = let l = c.before.before.before in let s = start l in (omega (arith, c.smaller-m.ensures, c.loop-at-test.true, s.requires.0.1), omega (arith, c.smaller-m.ensures))
 
 slice_bounds-run-end : tie.Need-slice_bounds-run-end invariant-loop-at decreases-loop-at
-slice_bounds-run-end c = omega (arith, c.smaller-m.ensures, c.gather.auto.1.1.1.1.0)
+slice_bounds-run-end c = omega (arith, c.smaller-m.ensures, c.gather.auto.tail.1.1.1.0)
 
 slice_bounds-run-end-in-loop-at : tie.Need-slice_bounds-run-end-in-loop-at invariant-loop-at decreases-loop-at
-slice_bounds-run-end-in-loop-at c = let g = c.before.before.before.before in sym (length-take-le _ g.gather.new.1.1.1.1.0 (omega (arith, c.smaller.ensures, g.gather.auto.1.1.1.1.0)))
+slice_bounds-run-end-in-loop-at c = let g = c.before.before.before.before in sym (length-take-le _ g.gather.new.tail.1.1.1.0 (omega (arith, c.smaller-m.ensures, g.gather.auto.tail.1.1.1.0)))
 
 run-r-requires : tie.Need-run-r-requires invariant-loop-at decreases-loop-at
 run-r-requires c κs = let g = c.before.before.before.before in let l = c.before.before.before.before.before.before.before.before in let s = start l in (
   (s.requires.0.1, omega (arith, s.requires.0.2, len l)),
-  (copy_window _ _ _ c.smaller.result s.requires.0.1 c.loop-test.true (low c.before.before.before.before.before.before) _ _ g.gather.ensures, (omega arith, from_zero _ _ _ _ l.loop.invariant.2)),
+  (copy_window _ _ _ c.smaller-m.result s.requires.0.1 c.loop-at-test.true (low c.before.before.before.before.before.before) _ _ g.gather.ensures, (omega arith, from_zero _ _ _ _ l.loop.invariant.2)),
 )
 
 enum_known-r : tie.Need-enum_known-r invariant-loop-at decreases-loop-at
@@ -80,17 +80,17 @@ shape_of-room-then-i-eq0 c = search rules
 
 returns-then-i-eq0 : tie.Need-returns-then-i-eq0 invariant-loop-at decreases-loop-at
 returns-then-i-eq0 c = let l = c.before.before.before.before.before.before.before.before.before.before.before.before.before.before in let s = start l in
-    copied_long _ _ _ c.smaller.result s.requires.0.1 c.loop-test.true (low c.before.before.before.before.before.before.before.before.before.before.before.before) _ _ c.gather.ensures (length l.loop.room) _ _ (omega (arith, s.requires.1, l.loop.invariant.1)) c.smaller.ensures _ c.run-r.ensures c.in-At.is c.if-i-eq0.true
+    copied_long _ _ _ c.smaller-m.result s.requires.0.1 c.loop-at-test.true (low c.before.before.before.before.before.before.before.before.before.before.before.before) _ _ c.gather.ensures (length l.loop.room) _ _ (omega (arith, s.requires.1, l.loop.invariant.1)) c.smaller-m.ensures _ c.run-r.ensures c.in-At.is c.if-i-eq0.true
 
 overflow_add-at : tie.Need-overflow_add-at invariant-loop-at decreases-loop-at
 overflow_add-at c = let l = c.before.before.before.before.before.before.before.before.before.before.before.before.before.before in let s = start l in let q = run_at _ _ _ _ _ _ c.run-r.ensures _ c.in-At.is in record { fits = omega (arith, q.0.within, s.requires.0.1, length_stored s.args.words.now s.args.tail.now) }
 
 loop-at-smaller : tie.Need-loop-at-smaller invariant-loop-at decreases-loop-at
-loop-at-smaller c = let q = run_at _ _ _ _ _ _ c.run-r.ensures _ c.in-At.is in omega (arith, q.0.within, c.if-i-eq0.false, c.loop-test.true)
+loop-at-smaller c = let q = run_at _ _ _ _ _ _ c.run-r.ensures _ c.in-At.is in omega (arith, q.0.within, c.if-i-eq0.false, c.loop-at-test.true)
 
 loop-at-preserved : tie.Need-loop-at-preserved invariant-loop-at decreases-loop-at
 loop-at-preserved c = let l = c.before.before.before.before.before.before.before.before.before.before.before.before.before.before in
-    (c.run-r.auto.1.1.1.0 ∙ l.loop.invariant.0, c.gather.auto.1.1.1.1.0 ∙ l.loop.invariant.1, (run_at _ _ _ _ _ _ c.run-r.ensures _ c.in-At.is).0)
+    (c.run-r.auto.tail.1.1.0 ∙ l.loop.invariant.0, c.gather.auto.tail.1.1.1.0 ∙ l.loop.invariant.1, (run_at _ _ _ _ _ _ c.run-r.ensures _ c.in-At.is).0)
 
 shape_of-bits : tie.Need-shape_of-bits invariant-loop-at decreases-loop-at
 shape_of-bits c = search rules

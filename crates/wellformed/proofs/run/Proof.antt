@@ -104,7 +104,7 @@ slice_bounds-entry-end c = search rules
 
 entry-requires : tie.Need-entry-requires invariant-loop-i decreases-loop-i
 entry-requires c κs = let z = c.before.before.before in let l = head z in
-    (record { room = room l; inside = λ h e. below _ _ _ (l.loop-i.inv.2.marks h e) (start l).requires.0.0 }, lent_sized _ _ _ _ (start l).requires.1.0 _ _ (here z) z.size.ensures c.if1.false)
+    (record { room = room l; inside = λ h e. below _ _ _ (l.loop-i.inv.2.marks h e) (start l).requires.0.0 }, lent_sized _ _ _ _ (start l).requires.1.0 _ _ (here z) z.size.ensures c.if-n-window.false)
 
 shape_of-bits-then-not-entry : tie.Need-shape_of-bits-then-not-entry invariant-loop-i decreases-loop-i
 shape_of-bits-then-not-entry c = search rules
@@ -127,7 +127,7 @@ loop-i-smaller c = let z = c.before.before.before.before.before.before.before.be
 
 loop-i-preserved : tie.Need-loop-i-preserved invariant-loop-i decreases-loop-i
 loop-i-preserved c = let m = c.before.before in let t = m.before.before in let e = t.before in let x = e.before.before.before in let z = x.before in let l = head z in (
-  m.mark.auto.0 ∙ l.loop-i.inv.0,
+  m.mark.auto.bits ∙ l.loop-i.inv.0,
   omega (arith, x.if1.false, here z),
   onward _ _ _ _ _ _ (good_entry _ _ _ _ _ (start l).requires.0.0 l.loop-i.inv.2 (used_here z) (sized z) (ends_here z x.if1.false) _ (e.entry.ensures ∙ ap (ok_entry (heads l)) (lent_here z x.if1.false)) t.if-not-entry.false _ m.mark.ensures),
 )

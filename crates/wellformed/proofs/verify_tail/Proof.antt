@@ -33,8 +33,8 @@ entries_in-requires : tie.Need-entries_in-requires
 entries_in-requires c κs =
     let h = c.before.before.before.before in
     let s = c.before.before.before.before.before.before.before.before.before.before in
-    let n = length_stored h.headed.new.0 s.args.tail.now in
-    ((omega arith, omega (arith, n, h.headed.auto.0), omega (arith, n, h.headed.auto.0, s.requires, tail_length s.args.tail.now, c.if-k-gt-MOST_LATER.false)), search rules)
+    let n = length_stored h.headed.new.dst s.args.tail.now in
+    ((omega arith, omega (arith, n, h.headed.auto.dst), omega (arith, n, h.headed.auto.dst, s.requires, tail_length s.args.tail.now, c.if-k-gt-MOST_LATER.false)), search rules)
 
 shape_of-bits : tie.Need-shape_of-bits
 shape_of-bits c = search rules
@@ -44,7 +44,7 @@ unfolding fresh_words
 returns c =
     let h = c.before.before.before.before.before.before.before.before in
     let s = c.before.before.before.before.before.before.before.before.before.before.before.before.before.before in
-    tail_right s.args.tail.now c.if-k-gt-MOST_LATER.false h.headed.new.0 _ h.headed.ensures refl _ _ c.entries_in.ensures
+    tail_right s.args.tail.now c.if-k-gt-MOST_LATER.false h.headed.new.dst _ h.headed.ensures refl _ _ c.entries_in.ensures
 
 pub verify_tail_spec : {M : Type 1} → statement M
 verify_tail_spec =
