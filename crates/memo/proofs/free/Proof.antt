@@ -6,63 +6,63 @@ use lib.ListN.{length}
 use Rattle.memo.proofs.free.Statement.{statement}
 use Rattle.memo.proofs.free.Tie as tie
 
-abbrev invariant-loop : tie.invariant-loop
-invariant-loop memo key lines i₀ n₀ i n = (i < lines) × (n ≤ lines) × (lines ≡ length memo)
+abbrev invariant-loop-n : tie.invariant-loop-n
+invariant-loop-n memo key lines i₀ n₀ i n = (i < lines) × (n ≤ lines) × (lines ≡ length memo)
 
-abbrev decreases-loop : tie.decreases-loop
-decreases-loop memo key lines i₀ n₀ i n = n
+abbrev decreases-loop-n : tie.decreases-loop-n
+decreases-loop-n memo key lines i₀ n₀ i n = n
 
-home-requires : tie.Need-home-requires invariant-loop decreases-loop
+home-i-requires : tie.Need-home-i-requires invariant-loop-n decreases-loop-n
+home-i-requires c κs = search rules
+
+probes-n-requires : tie.Need-probes-n-requires invariant-loop-n decreases-loop-n
+probes-n-requires c κs = search rules
+
+loop-n-init : tie.Need-loop-n-init invariant-loop-n decreases-loop-n
+loop-n-init c = search rules
+
+offset_bounds-memo-i : tie.Need-offset_bounds-memo-i invariant-loop-n decreases-loop-n
+offset_bounds-memo-i c = search rules
+
+bounds-memo-i : tie.Need-bounds-memo-i invariant-loop-n decreases-loop-n
+bounds-memo-i c = search rules
+
+returns-then-line-eq0 : tie.Need-returns-then-line-eq0 invariant-loop-n decreases-loop-n
+returns-then-line-eq0 c = search rules
+
+after-i-requires : tie.Need-after-i-requires invariant-loop-n decreases-loop-n
+after-i-requires c κs = search rules
+
+overflow_sub-n : tie.Need-overflow_sub-n invariant-loop-n decreases-loop-n
+overflow_sub-n c = search rules
+
+loop-n-smaller : tie.Need-loop-n-smaller invariant-loop-n decreases-loop-n
+loop-n-smaller c = search rules
+
+loop-n-preserved : tie.Need-loop-n-preserved invariant-loop-n decreases-loop-n
+loop-n-preserved c = search rules
+
+home-requires : tie.Need-home-requires invariant-loop-n decreases-loop-n
 home-requires c κs = search rules
 
-probes-requires : tie.Need-probes-requires invariant-loop decreases-loop
-probes-requires c κs = search rules
-
-loop-holds : tie.Need-loop-init invariant-loop decreases-loop
-loop-holds c = search rules
-
-mul-line : tie.Need-overflow-mul-line invariant-loop decreases-loop
-mul-line c = search rules
-
-shared-slice-read-line : tie.Need-shared-slice-read-line invariant-loop decreases-loop
-shared-slice-read-line c = search rules
-
-returns : tie.Need-returns invariant-loop decreases-loop
+returns : tie.Need-returns invariant-loop-n decreases-loop-n
 returns c = search rules
-
-after-requires : tie.Need-after-requires invariant-loop decreases-loop
-after-requires c κs = search rules
-
-sub-n : tie.Need-overflow-sub-n invariant-loop decreases-loop
-sub-n c = search rules
-
-loop-less : tie.Need-loop-smaller invariant-loop decreases-loop
-loop-less c = search rules
-
-loop-again : tie.Need-loop-preserved invariant-loop decreases-loop
-loop-again c = search rules
-
-home-requires-2 : tie.Need-home-requires-2 invariant-loop decreases-loop
-home-requires-2 c κs = search rules
-
-returns-2 : tie.Need-returns-2 invariant-loop decreases-loop
-returns-2 c = search rules
 
 pub free_spec : {M : Type 1} → statement M
 free_spec =
     tie.close
     (tie.spec
-    invariant-loop
-    decreases-loop
+    invariant-loop-n
+    decreases-loop-n
+    home-i-requires
+    probes-n-requires
+    loop-n-init
+    offset_bounds-memo-i
+    bounds-memo-i
+    returns-then-line-eq0
+    after-i-requires
+    overflow_sub-n
+    loop-n-smaller
+    loop-n-preserved
     home-requires
-    probes-requires
-    loop-holds
-    mul-line
-    shared-slice-read-line
-    returns
-    after-requires
-    sub-n
-    loop-less
-    loop-again
-    home-requires-2
-    returns-2)
+    returns)

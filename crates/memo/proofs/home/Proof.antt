@@ -4,14 +4,14 @@ use borrow.Author.Rules.{rules}
 use Rattle.memo.proofs.home.Statement.{statement}
 use Rattle.memo.proofs.home.Tie as tie
 
-returns : tie.Need-returns
-returns c = search rules
+returns-then-key-lines : tie.Need-returns-then-key-lines
+returns-then-key-lines c = search rules
 
-rem-result : tie.Need-nonzero-rem-result
-rem-result c = search rules
+nonzero_rem-result : tie.Need-nonzero_rem-result
+nonzero_rem-result c = search rules
 
-returns-2 : tie.Need-returns-2
-returns-2 c = mod-lt _ c.before.before.requires
+returns-then-key-lt-ANSWERS : tie.Need-returns-then-key-lt-ANSWERS
+returns-then-key-lt-ANSWERS c = mod-lt _ c.requires
 
 stir-requires : tie.Need-stir-requires
 stir-requires c κs = search rules
@@ -19,8 +19,8 @@ stir-requires c κs = search rules
 slot-requires : tie.Need-slot-requires
 slot-requires c κs = search rules
 
-returns-3 : tie.Need-returns-3
-returns-3 c = search rules
+returns : tie.Need-returns
+returns c = search rules
 
-pub home-spec : {M : Type 1} → statement M
-home-spec = tie.close (tie.spec returns rem-result returns-2 stir-requires slot-requires returns-3)
+pub home_spec : {M : Type 1} → statement M
+home_spec = tie.close (tie.spec returns-then-key-lines nonzero_rem-result returns-then-key-lt-ANSWERS stir-requires slot-requires returns)

@@ -4,51 +4,51 @@ use borrow.Author.Rules.{rules}
 use Rattle.memo.proofs.note.Statement.{statement}
 use Rattle.memo.proofs.note.Tie as tie
 
+returns-then-memo-eq0 : tie.Need-returns-then-memo-eq0
+returns-then-memo-eq0 c = noted_none _ _ _
+
+returns-then-key-eq0 : tie.Need-returns-then-key-eq0
+returns-then-key-eq0 c = noted_none _ _ _
+
+returns-then-key-ge-KEYS : tie.Need-returns-then-key-ge-KEYS
+returns-then-key-ge-KEYS c = noted_none _ _ _
+
+returns-then-answer-ge-ANSWERS : tie.Need-returns-then-answer-ge-ANSWERS
+returns-then-answer-ge-ANSWERS c = noted_none _ _ _
+
+free-i-requires : tie.Need-free-i-requires
+free-i-requires c κs = search rules
+
+overflow_mul-memo : tie.Need-overflow_mul-memo
+overflow_mul-memo c = search rules
+
+overflow_add-memo : tie.Need-overflow_add-memo
+overflow_add-memo c = search rules
+
+offset_bounds-memo-i : tie.Need-offset_bounds-memo-i
+offset_bounds-memo-i c = search rules
+
+bounds-memo-i : tie.Need-bounds-memo-i
+bounds-memo-i c = search rules
+
+shape_of-memo : tie.Need-shape_of-memo
+shape_of-memo c = search rules
+
 returns : tie.Need-returns
-returns c = noted_none _ _ _
+returns c = search noted_line
 
-returns-2 : tie.Need-returns-2
-returns-2 c = noted_none _ _ _
-
-returns-3 : tie.Need-returns-3
-returns-3 c = noted_none _ _ _
-
-returns-4 : tie.Need-returns-4
-returns-4 c = noted_none _ _ _
-
-free-requires : tie.Need-free-requires
-free-requires c κs = search rules
-
-mul-memo : tie.Need-overflow-mul-memo
-mul-memo c = search rules
-
-add-memo : tie.Need-overflow-add-memo
-add-memo c = search rules
-
-mul-memo-2 : tie.Need-overflow-mul-memo-2
-mul-memo-2 c = search rules
-
-slice-write-memo : tie.Need-slice-write-memo
-slice-write-memo c = search rules
-
-same_length : tie.Need-same-length
-same_length c = search rules
-
-returns-5 : tie.Need-returns-5
-returns-5 c = search noted_line
-
-pub note-spec : {M : Type 1} → statement M
-note-spec =
+pub note_spec : {M : Type 1} → statement M
+note_spec =
     tie.close
     (tie.spec
-    returns
-    returns-2
-    returns-3
-    returns-4
-    free-requires
-    mul-memo
-    add-memo
-    mul-memo-2
-    slice-write-memo
-    same_length
-    returns-5)
+    returns-then-memo-eq0
+    returns-then-key-eq0
+    returns-then-key-ge-KEYS
+    returns-then-answer-ge-ANSWERS
+    free-i-requires
+    overflow_mul-memo
+    overflow_add-memo
+    offset_bounds-memo-i
+    bounds-memo-i
+    shape_of-memo
+    returns)

@@ -5,24 +5,24 @@ use borrow.Author.Rules.{rules}
 use Rattle.memo.proofs.noted.Statement.{statement}
 use Rattle.memo.proofs.noted.Tie as tie
 
-enum-known-r : tie.Need-enum-known-r
-enum-known-r c = search rules
+enum_known-r : tie.Need-enum_known-r
+enum_known-r c = search rules
 
 note-requires : tie.Need-note-requires
 note-requires c κs = search rules
 
-enum_told : tie.Need-enum-told
-enum_told c = search rules
+enum_told-1 : tie.Need-enum_told-1
+enum_told-1 c = search rules
 
-same_length : tie.Need-same-length
-same_length c = search rules
+shape_of-memo : tie.Need-shape_of-memo
+shape_of-memo c = search rules
 
-returns : tie.Need-returns
-returns c = (sym c.before.before.before.before.before.r.given.1, learned_at _ _ _ _ _ _ c.before.before.before.before.before.r.given.1 c.before.before.note.ensures)
+returns-in-At : tie.Need-returns-in-At
+returns-in-At c = (sym c.in-At.is, learned_at _ _ _ _ _ _ c.in-At.is c.note.ensures)
 
-returns-2 : tie.Need-returns-2
-returns-2 c = (sym c.enum_told.given.1, learned_none _ _ _ c.enum_told.given.1)
+returns-in-Full : tie.Need-returns-in-Full
+returns-in-Full c = (sym c.in-Full.is, learned_none _ _ _ c.in-Full.is)
 
-pub noted-spec : {M : Type 1} → statement M
-noted-spec =
-    tie.close (tie.spec enum-known-r note-requires enum_told same_length returns returns-2)
+pub noted_spec : {M : Type 1} → statement M
+noted_spec =
+    tie.close (tie.spec enum_known-r note-requires enum_told-1 shape_of-memo returns-in-At returns-in-Full)

@@ -7,71 +7,71 @@ use Rattle.memo.proofs.Lines.{tells_nothing, tells_line}
 use Rattle.memo.proofs.recall.Statement.{statement}
 use Rattle.memo.proofs.recall.Tie as tie
 
-abbrev invariant-loop : tie.invariant-loop
-invariant-loop memo key lines i₀ n₀ i n = (i < lines) × (n ≤ lines) × (lines ≡ length memo) × (0 < key)
+abbrev invariant-loop-n : tie.invariant-loop-n
+invariant-loop-n memo key lines i₀ n₀ i n = (i < lines) × (n ≤ lines) × (lines ≡ length memo) × (0 < key)
 
-abbrev decreases-loop : tie.decreases-loop
-decreases-loop memo key lines i₀ n₀ i n = n
+abbrev decreases-loop-n : tie.decreases-loop-n
+decreases-loop-n memo key lines i₀ n₀ i n = n
 
-returns : tie.Need-returns invariant-loop decreases-loop
+returns-then-lines-eq0 : tie.Need-returns-then-lines-eq0 invariant-loop-n decreases-loop-n
+returns-then-lines-eq0 c = tells_nothing _ _
+
+returns-then-key-eq0 : tie.Need-returns-then-key-eq0 invariant-loop-n decreases-loop-n
+returns-then-key-eq0 c = tells_nothing _ _
+
+home-i-requires : tie.Need-home-i-requires invariant-loop-n decreases-loop-n
+home-i-requires c κs = search rules
+
+probes-n-requires : tie.Need-probes-n-requires invariant-loop-n decreases-loop-n
+probes-n-requires c κs = search rules
+
+loop-n-init : tie.Need-loop-n-init invariant-loop-n decreases-loop-n
+loop-n-init c = search rules
+
+offset_bounds-memo-i : tie.Need-offset_bounds-memo-i invariant-loop-n decreases-loop-n
+offset_bounds-memo-i c = search rules
+
+bounds-memo-i : tie.Need-bounds-memo-i invariant-loop-n decreases-loop-n
+bounds-memo-i c = search rules
+
+returns-then-line-eq0 : tie.Need-returns-then-line-eq0 invariant-loop-n decreases-loop-n
+returns-then-line-eq0 c = tells_nothing _ _
+
+returns-then-line-key : tie.Need-returns-then-line-key invariant-loop-n decreases-loop-n
+returns-then-line-key c = search tells_line
+
+after-i-requires : tie.Need-after-i-requires invariant-loop-n decreases-loop-n
+after-i-requires c κs = search rules
+
+overflow_sub-n : tie.Need-overflow_sub-n invariant-loop-n decreases-loop-n
+overflow_sub-n c = search rules
+
+loop-n-smaller : tie.Need-loop-n-smaller invariant-loop-n decreases-loop-n
+loop-n-smaller c = search rules
+
+loop-n-preserved : tie.Need-loop-n-preserved invariant-loop-n decreases-loop-n
+loop-n-preserved c = search rules
+
+returns : tie.Need-returns invariant-loop-n decreases-loop-n
 returns c = tells_nothing _ _
 
-returns-2 : tie.Need-returns-2 invariant-loop decreases-loop
-returns-2 c = tells_nothing _ _
-
-home-requires : tie.Need-home-requires invariant-loop decreases-loop
-home-requires c κs = search rules
-
-probes-requires : tie.Need-probes-requires invariant-loop decreases-loop
-probes-requires c κs = search rules
-
-loop-holds : tie.Need-loop-init invariant-loop decreases-loop
-loop-holds c = search rules
-
-mul-line : tie.Need-overflow-mul-line invariant-loop decreases-loop
-mul-line c = search rules
-
-shared-slice-read-line : tie.Need-shared-slice-read-line invariant-loop decreases-loop
-shared-slice-read-line c = search rules
-
-returns-3 : tie.Need-returns-3 invariant-loop decreases-loop
-returns-3 c = tells_nothing _ _
-
-returns-4 : tie.Need-returns-4 invariant-loop decreases-loop
-returns-4 c = search tells_line
-
-after-requires : tie.Need-after-requires invariant-loop decreases-loop
-after-requires c κs = search rules
-
-sub-n : tie.Need-overflow-sub-n invariant-loop decreases-loop
-sub-n c = search rules
-
-loop-less : tie.Need-loop-smaller invariant-loop decreases-loop
-loop-less c = search rules
-
-loop-again : tie.Need-loop-preserved invariant-loop decreases-loop
-loop-again c = search rules
-
-returns-5 : tie.Need-returns-5 invariant-loop decreases-loop
-returns-5 c = tells_nothing _ _
-
-pub recall-spec : {M : Type 1} → statement M
-recall-spec =
+pub recall_spec : {M : Type 1} → statement M
+recall_spec =
     tie.close
     (tie.spec
-    invariant-loop
-    decreases-loop
-    returns
-    returns-2
-    home-requires
-    probes-requires
-    loop-holds
-    mul-line
-    shared-slice-read-line
-    returns-3
-    returns-4
-    after-requires
-    sub-n
-    loop-less
-    loop-again
-    returns-5)
+    invariant-loop-n
+    decreases-loop-n
+    returns-then-lines-eq0
+    returns-then-key-eq0
+    home-i-requires
+    probes-n-requires
+    loop-n-init
+    offset_bounds-memo-i
+    bounds-memo-i
+    returns-then-line-eq0
+    returns-then-line-key
+    after-i-requires
+    overflow_sub-n
+    loop-n-smaller
+    loop-n-preserved
+    returns)
