@@ -5,10 +5,9 @@ use mathlib.Core.List.{List}
 use Prim.Native.Nat.{ℕ, zero, suc, ◌+◌, ◌-◌, ◌*◌, ◌/◌, ◌%◌, ◌≤◌, ◌<◌}
 use native.Mathlib.Omega.{arith}
 use lib.ListN.{length, take, drop, get_or}
-use lib.Seq.{drop-drop}
 use Rattle.words.specs.Ran.{HasSize}
 use Rattle.words.proofs.Sizes.{name_size}
-use Rattle.source.specs.Packed.{of_bytes, packed}
+use Rattle.source.specs.Packed.{of_bytes}
 use Rattle.source.proofs.Packing.{length_packed, packed_word}
 use Rattle.names.specs.Name.{name_entry, wrapped}
 use Rattle.names.proofs.Bytes.{length_most}

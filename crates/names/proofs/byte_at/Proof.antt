@@ -4,39 +4,39 @@ use borrow.Author.Rules.{rules}
 use Rattle.names.proofs.byte_at.Statement.{statement}
 use Rattle.names.proofs.byte_at.Tie as tie
 
-text-at-requires : tie.Need-text-at-requires
-text-at-requires c κs = search rules
+text_at-requires : tie.Need-text_at-requires
+text_at-requires c κs = search rules
+
+returns-then-not-wrap : tie.Need-returns-then-not-wrap
+returns-then-not-wrap c = (search plain, search rules)
+
+returns-then-i-eq0 : tie.Need-returns-then-i-eq0
+returns-then-i-eq0 c = (search opens, search rules)
+
+overflow_sub-i : tie.Need-overflow_sub-i
+overflow_sub-i c = search rules
+
+returns-then-i-text : tie.Need-returns-then-i-text
+returns-then-i-text c = (search closes, search rules)
+
+overflow_sub-i-2 : tie.Need-overflow_sub-i-2
+overflow_sub-i-2 c = search rules
+
+text_at-requires-2 : tie.Need-text_at-requires-2
+text_at-requires-2 c κs = search rules
 
 returns : tie.Need-returns
-returns c = (search plain, search rules)
+returns c = (search between, search rules)
 
-returns-2 : tie.Need-returns-2
-returns-2 c = (search opens, search rules)
-
-sub-if3 : tie.Need-overflow-sub-if3
-sub-if3 c = search rules
-
-returns-3 : tie.Need-returns-3
-returns-3 c = (search closes, search rules)
-
-sub-text-at : tie.Need-overflow-sub-text-at
-sub-text-at c = search rules
-
-text-at-requires-2 : tie.Need-text-at-requires-2
-text-at-requires-2 c κs = search rules
-
-returns-4 : tie.Need-returns-4
-returns-4 c = (search between, search rules)
-
-pub byte-at-spec : {M : Type 1} → statement M
-byte-at-spec =
+pub byte_at_spec : {M : Type 1} → statement M
+byte_at_spec =
     tie.close
     (tie.spec
-    text-at-requires
-    returns
-    returns-2
-    sub-if3
-    returns-3
-    sub-text-at
-    text-at-requires-2
-    returns-4)
+    text_at-requires
+    returns-then-not-wrap
+    returns-then-i-eq0
+    overflow_sub-i
+    returns-then-i-text
+    overflow_sub-i-2
+    text_at-requires-2
+    returns)

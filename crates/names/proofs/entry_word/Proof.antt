@@ -8,35 +8,35 @@ use Rattle.names.proofs.NameEntry.{name_most, first_word, later_word}
 use Rattle.names.proofs.entry_word.Statement.{statement}
 use Rattle.names.proofs.entry_word.Tie as tie
 
-name-head-requires : tie.Need-name-head-requires
-name-head-requires c κs = search rules
+name_head-requires : tie.Need-name_head-requires
+name_head-requires c κs = search rules
 
-returns : tie.Need-returns
-returns c = search first_word
+returns-then-i-eq0 : tie.Need-returns-then-i-eq0
+returns-then-i-eq0 c = search first_word
 
 -- no entry of a name has more words
-here : (c : tie.Else1) → length (name_entry (wrapped c.before.before.args.wrap c.before.before.args.text.now)) ≤ 8194
+here : (c : tie.Else-i-eq0) → length (name_entry (wrapped c.args.wrap c.args.text.now)) ≤ 8194
 here c = search name_most
 
-sub-name-word : tie.Need-overflow-sub-name-word
-sub-name-word c = search rules
+overflow_sub-i : tie.Need-overflow_sub-i
+overflow_sub-i c = search rules
 
-mul-name-word : tie.Need-overflow-mul-name-word
-mul-name-word c = record { fits = omega (arith, here c) }
+overflow_mul-i : tie.Need-overflow_mul-i
+overflow_mul-i c = record { fits = omega (arith, here c) }
 
-name-word-requires : tie.Need-name-word-requires
-name-word-requires c κs = omega (arith, here c)
+name_word-requires : tie.Need-name_word-requires
+name_word-requires c κs = omega (arith, here c)
 
-returns-2 : tie.Need-returns-2
-returns-2 c = search later_word
+returns : tie.Need-returns
+returns c = search later_word
 
-pub entry-word-spec : {M : Type 1} → statement M
-entry-word-spec =
+pub entry_word_spec : {M : Type 1} → statement M
+entry_word_spec =
     tie.close
     (tie.spec
-    name-head-requires
-    returns
-    sub-name-word
-    mul-name-word
-    name-word-requires
-    returns-2)
+    name_head-requires
+    returns-then-i-eq0
+    overflow_sub-i
+    overflow_mul-i
+    name_word-requires
+    returns)

@@ -5,57 +5,57 @@ use native.Mathlib.Omega.{arith}
 use Rattle.names.proofs.find_bytes.Statement.{statement}
 use Rattle.names.proofs.find_bytes.Tie as tie
 
-sub-look-name : tie.Need-overflow-sub-look-name
-sub-look-name c = search rules
+overflow_sub-from : tie.Need-overflow_sub-from
+overflow_sub-from c = search rules
 
-sub-look-name-2 : tie.Need-overflow-sub-look-name-2
-sub-look-name-2 c = search rules
+overflow_sub-used : tie.Need-overflow_sub-used
+overflow_sub-used c = search rules
 
-look-name-requires : tie.Need-look-name-requires
-look-name-requires c κs = ((search rules, search rules, search behind_filled), search rules)
+look_name-requires : tie.Need-look_name-requires
+look_name-requires c κs = ((search rules, search rules, search behind_filled), search rules)
 
-returns : tie.Need-returns
-returns c = search behind_searched
+returns-then-old-from : tie.Need-returns-then-old-from
+returns-then-old-from c = search behind_searched
 
-look-name-requires-2 : tie.Need-look-name-requires-2
-look-name-requires-2 c κs = ((search rules, search rules, search old_filled), search rules)
+look_name-first-requires : tie.Need-look_name-first-requires
+look_name-first-requires c κs = ((search rules, search rules, search old_filled), search rules)
 
-enum_told : tie.Need-enum-told
-enum_told c = search rules
+enum_told-1 : tie.Need-enum_told-1
+enum_told-1 c = search rules
 
-enum-told-2 : tie.Need-enum-told-2
-enum-told-2 c = search rules
+enum_told-in-Nothing : tie.Need-enum_told-in-Nothing
+enum_told-in-Nothing c = search rules
 
-sub-look-name-3 : tie.Need-overflow-sub-look-name-3
-sub-look-name-3 c = search rules
+overflow_sub-used-in-Nothing : tie.Need-overflow_sub-used-in-Nothing
+overflow_sub-used-in-Nothing c = search rules
 
-look-name-requires-3 : tie.Need-look-name-requires-3
-look-name-requires-3 c κs = ((search rules, search rules, search new_filled), search rules)
+look_name-second-requires : tie.Need-look_name-second-requires
+look_name-second-requires c κs = ((search rules, search rules, search new_filled), search rules)
 
 behind-requires : tie.Need-behind-requires
 behind-requires c κs =
-    let s = c.before.before.before.before.before.before.before.before in
-    omega (arith, count_few _ _ _ _ s.requires.0.0 s.requires.0.1 c.before.before.before.before.if1.false _ _ _ c.before.before.before.look-name2.ensures c.before.enum-told2.given.1 _ _ c.look-name3.ensures)
+    let s = c.before.before.before.before.before.before.before in
+    omega (arith, count_few _ _ _ _ s.requires.0.0 s.requires.0.1 c.if-old-from.false _ _ _ c.look_name-first.ensures c.in-Nothing.is _ _ c.look_name-second.ensures)
 
-returns-2 : tie.Need-returns-2
-returns-2 c = search in_old
+returns-in-At : tie.Need-returns-in-At
+returns-in-At c = search in_old
 
-returns-3 : tie.Need-returns-3
-returns-3 c = search in_new
+returns-in-Nothing : tie.Need-returns-in-Nothing
+returns-in-Nothing c = search in_new
 
-pub find-bytes-spec : {M : Type 1} → statement M
-find-bytes-spec =
+pub find_bytes_spec : {M : Type 1} → statement M
+find_bytes_spec =
     tie.close
     (tie.spec
-    sub-look-name
-    sub-look-name-2
-    look-name-requires
-    returns
-    look-name-requires-2
-    enum_told
-    enum-told-2
-    sub-look-name-3
-    look-name-requires-3
+    overflow_sub-from
+    overflow_sub-used
+    look_name-requires
+    returns-then-old-from
+    look_name-first-requires
+    enum_told-1
+    enum_told-in-Nothing
+    overflow_sub-used-in-Nothing
+    look_name-second-requires
     behind-requires
-    returns-2
-    returns-3)
+    returns-in-At
+    returns-in-Nothing)

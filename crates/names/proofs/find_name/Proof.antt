@@ -4,35 +4,35 @@ use borrow.Author.Rules.{rules}
 use Rattle.names.proofs.find_name.Statement.{statement}
 use Rattle.names.proofs.find_name.Tie as tie
 
-search-name-requires : tie.Need-search-name-requires
-search-name-requires c κs = search rules
+search_name-f-requires : tie.Need-search_name-f-requires
+search_name-f-requires c κs = search rules
 
-enum-known-f : tie.Need-enum-known-f
-enum-known-f c = search rules
+enum_known-f : tie.Need-enum_known-f
+enum_known-f c = search rules
 
-enum_told : tie.Need-enum-told
-enum_told c = search rules
+enum_told-1 : tie.Need-enum_told-1
+enum_told-1 c = search rules
 
 covered-requires : tie.Need-covered-requires
 covered-requires c κs = search rules
 
-find-bytes-requires : tie.Need-find-bytes-requires
-find-bytes-requires c κs = ((c.before.before.before.before.before.before.before.before.requires.0, tail_of _ _ _ _ c.before.before.before.before.before.before.before.before.requires.0 c.before.before.before.before.before.before.before.before.requires.1.1 _ c.covered.ensures), search rules)
+find_bytes-rest-requires : tie.Need-find_bytes-rest-requires
+find_bytes-rest-requires c κs = ((c.requires.0, tail_of _ _ _ _ c.requires.0 c.requires.1.1 _ c.covered.ensures), search rules)
 
-returns : tie.Need-returns
-returns c = found_first _ _ c.before.before.before.before.before.before.before.before.requires.1.1 c.before.before.before.before.before.before.before.before.requires.0.full _ _ c.before.before.before.search-name.ensures _ c.before.f.given.1
+returns-in-At : tie.Need-returns-in-At
+returns-in-At c = found_first _ _ c.requires.1.1 c.requires.0.full _ _ c.search_name-f.ensures _ c.in-At.is
 
-returns-2 : tie.Need-returns-2
-returns-2 c = found_later _ _ c.before.before.before.before.before.before.before.before.before.requires.1.1 c.before.before.before.before.before.before.before.before.before.requires.0.full _ _ c.before.before.before.before.search-name.ensures c.before.before.enum_told.given.1 _ c.before.covered.ensures _ c.find-bytes.ensures.answer
+returns-in-Nothing : tie.Need-returns-in-Nothing
+returns-in-Nothing c = found_later _ _ c.requires.1.1 c.requires.0.full _ _ c.search_name-f.ensures c.in-Nothing.is _ c.covered.ensures _ c.find_bytes-rest.ensures.answer
 
-pub find-name-spec : {M : Type 1} → statement M
-find-name-spec =
+pub find_name_spec : {M : Type 1} → statement M
+find_name_spec =
     tie.close
     (tie.spec
-    search-name-requires
-    enum-known-f
-    enum_told
+    search_name-f-requires
+    enum_known-f
+    enum_told-1
     covered-requires
-    find-bytes-requires
-    returns
-    returns-2)
+    find_bytes-rest-requires
+    returns-in-At
+    returns-in-Nothing)

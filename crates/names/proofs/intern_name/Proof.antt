@@ -5,79 +5,79 @@ use borrow.Author.Rules.{rules}
 use Rattle.names.proofs.intern_name.Statement.{statement}
 use Rattle.names.proofs.intern_name.Tie as tie
 
-find-name-requires : tie.Need-find-name-requires
-find-name-requires c κs = search rules
+find_name-f-requires : tie.Need-find_name-f-requires
+find_name-f-requires c κs = search rules
 
-enum-known-f : tie.Need-enum-known-f
-enum-known-f c = search rules
+enum_known-f : tie.Need-enum_known-f
+enum_known-f c = search rules
 
-enum_told : tie.Need-enum-told
-enum_told c = search rules
+enum_told-1 : tie.Need-enum_told-1
+enum_told-1 c = search rules
 
-sub_at : tie.Need-overflow-sub-at
-sub_at c = search rules
+overflow_sub-at : tie.Need-overflow_sub-at
+overflow_sub-at c = search rules
 
-name-size-requires : tie.Need-name-size-requires
-name-size-requires c κs = search rules
+name_size-n-requires : tie.Need-name_size-n-requires
+name_size-n-requires c κs = search rules
 
-sub-if1 : tie.Need-overflow-sub-if1
-sub-if1 c = search rules
+overflow_sub-new : tie.Need-overflow_sub-new
+overflow_sub-new c = search rules
 
-mul-write-name : tie.Need-overflow-mul-write-name
-mul-write-name c = search rules
+offset_bounds-new-at : tie.Need-offset_bounds-new-at
+offset_bounds-new-at c = search rules
 
-sub-write-name : tie.Need-overflow-sub-write-name
-sub-write-name c = search rules
+slice_bounds-write_name-count : tie.Need-slice_bounds-write_name-count
+slice_bounds-write_name-count c = search rules
 
-part-write-name-start : tie.Need-slice-bounds-write-name-start
-part-write-name-start c = search rules
+slice_bounds-write_name-start : tie.Need-slice_bounds-write_name-start
+slice_bounds-write_name-start c = search rules
 
-part-write-name-end : tie.Need-slice-bounds-write-name-end
-part-write-name-end c = search rules
+slice_bounds-write_name-end : tie.Need-slice_bounds-write_name-end
+slice_bounds-write_name-end c = search rules
 
-write-name-requires : tie.Need-write-name-requires
-write-name-requires c κs = search rules
+write_name-requires : tie.Need-write_name-requires
+write_name-requires c κs = search rules
 
-add-t27 : tie.Need-overflow-add-t27
-add-t27 c = search rules
+overflow_add-result : tie.Need-overflow_add-result
+overflow_add-result c = search rules
 
-same_length : tie.Need-same-length
-same_length c = search rules
+shape_of-new-in-At : tie.Need-shape_of-new-in-At
+shape_of-new-in-At c = search rules
 
-returns : tie.Need-returns
-returns c = search there
+returns-in-At : tie.Need-returns-in-At
+returns-in-At c = search there
 
-same-length-2 : tie.Need-same-length-2
-same-length-2 c = search rules
+shape_of-new-then-n-new : tie.Need-shape_of-new-then-n-new
+shape_of-new-then-n-new c = search rules
 
-returns-2 : tie.Need-returns-2
-returns-2 c = search put
+returns-then-n-new : tie.Need-returns-then-n-new
+returns-then-n-new c = search put
 
-same-length-3 : tie.Need-same-length-3
-same-length-3 c = search rules
+shape_of-new-else-n-new : tie.Need-shape_of-new-else-n-new
+shape_of-new-else-n-new c = search rules
 
-returns-3 : tie.Need-returns-3
-returns-3 c = search too_long
+returns-else-n-new : tie.Need-returns-else-n-new
+returns-else-n-new c = search too_long
 
-pub intern-name-spec : {M : Type 1} → statement M
-intern-name-spec =
+pub intern_name_spec : {M : Type 1} → statement M
+intern_name_spec =
     tie.close
     (tie.spec
-    find-name-requires
-    enum-known-f
-    enum_told
-    sub_at
-    name-size-requires
-    sub-if1
-    mul-write-name
-    sub-write-name
-    part-write-name-start
-    part-write-name-end
-    write-name-requires
-    add-t27
-    same_length
-    returns
-    same-length-2
-    returns-2
-    same-length-3
-    returns-3)
+    find_name-f-requires
+    enum_known-f
+    enum_told-1
+    overflow_sub-at
+    name_size-n-requires
+    overflow_sub-new
+    offset_bounds-new-at
+    slice_bounds-write_name-count
+    slice_bounds-write_name-start
+    slice_bounds-write_name-end
+    write_name-requires
+    overflow_add-result
+    shape_of-new-in-At
+    returns-in-At
+    shape_of-new-then-n-new
+    returns-then-n-new
+    shape_of-new-else-n-new
+    returns-else-n-new)

@@ -8,91 +8,91 @@ use borrow.Author.Rules.{rules}
 use Rattle.names.proofs.is_name_at.Statement.{statement}
 use Rattle.names.proofs.is_name_at.Tie as tie
 
-mul-size : tie.Need-overflow-mul-size
-mul-size c = search rules
+offset_bounds-old-at : tie.Need-offset_bounds-old-at
+offset_bounds-old-at c = search rules
 
-shared-slice-read-size : tie.Need-shared-slice-read-size
-shared-slice-read-size c = search rules
+bounds-old-at : tie.Need-bounds-old-at
+bounds-old-at c = search rules
 
-size-requires : tie.Need-size-requires
-size-requires c κs = search rules
+size-n-requires : tie.Need-size-n-requires
+size-n-requires c κs = search rules
 
-add-same-name : tie.Need-overflow-add-same-name
-add-same-name c = omega (arith, old_inside _ _ _ _ c.before.before.before.before.before.before.requires.0.0 c.before.before.before.before.before.before.requires.0.1 c.before.before.if1.true)
+overflow_add-at : tie.Need-overflow_add-at
+overflow_add-at c = omega (arith, old_inside _ _ _ _ c.requires.0.0 c.requires.0.1 c.if-at-old.true)
 
-mul-same-name : tie.Need-overflow-mul-same-name
-mul-same-name c = search rules
+offset_bounds-old-at-then-at-old : tie.Need-offset_bounds-old-at-then-at-old
+offset_bounds-old-at-then-at-old c = search rules
 
-sub-same-name : tie.Need-overflow-sub-same-name
-sub-same-name c = search rules
+slice_bounds-same_name-count : tie.Need-slice_bounds-same_name-count
+slice_bounds-same_name-count c = search rules
 
-part-same-name-start : tie.Need-slice-bounds-same-name-start
-part-same-name-start c = search rules
+slice_bounds-same_name-start : tie.Need-slice_bounds-same_name-start
+slice_bounds-same_name-start c = search rules
 
-part-same-name-end : tie.Need-slice-bounds-same-name-end
-part-same-name-end c = omega (arith, old_inside _ _ _ _ c.before.before.before.before.before.before.requires.0.0 c.before.before.before.before.before.before.requires.0.1 c.before.before.if1.true)
+slice_bounds-same_name-end : tie.Need-slice_bounds-same_name-end
+slice_bounds-same_name-end c = omega (arith, old_inside _ _ _ _ c.requires.0.0 c.requires.0.1 c.if-at-old.true)
 
-same-requires : tie.Need-same-name-requires
-same-requires c κs = search rules
+same_name-requires : tie.Need-same_name-requires
+same_name-requires c κs = search rules
+
+returns-then-at-old : tie.Need-returns-then-at-old
+returns-then-at-old c = in_old _ _ _ _ c.requires.0.0 c.requires.0.1 c.if-at-old.true _ _ _ c.size-n.ensures c.same_name.ensures
+
+overflow_sub-p : tie.Need-overflow_sub-p
+overflow_sub-p c = search rules
+
+offset_bounds-new-p : tie.Need-offset_bounds-new-p
+offset_bounds-new-p c = omega (arith, new_inside _ _ _ _ c.requires.0.0 c.requires.0.1 c.if-at-old.false, size_pos (get_or c.args.new.now (c.args.at - length c.args.old.now) 0))
+
+bounds-new-p : tie.Need-bounds-new-p
+bounds-new-p c = omega (arith, new_inside _ _ _ _ c.requires.0.0 c.requires.0.1 c.if-at-old.false, size_pos (get_or c.args.new.now (c.args.at - length c.args.old.now) 0))
+
+size-n-requires-2 : tie.Need-size-n-requires-2
+size-n-requires-2 c κs = search rules
+
+overflow_add-p : tie.Need-overflow_add-p
+overflow_add-p c = omega (arith, new_inside _ _ _ _ c.requires.0.0 c.requires.0.1 c.if-at-old.false)
+
+offset_bounds-new-p-2 : tie.Need-offset_bounds-new-p-2
+offset_bounds-new-p-2 c = omega (arith, new_inside _ _ _ _ c.requires.0.0 c.requires.0.1 c.if-at-old.false)
+
+slice_bounds-same_name-count-2 : tie.Need-slice_bounds-same_name-count-2
+slice_bounds-same_name-count-2 c = search rules
+
+slice_bounds-same_name-start-2 : tie.Need-slice_bounds-same_name-start-2
+slice_bounds-same_name-start-2 c = search rules
+
+slice_bounds-same_name-end-2 : tie.Need-slice_bounds-same_name-end-2
+slice_bounds-same_name-end-2 c = omega (arith, new_inside _ _ _ _ c.requires.0.0 c.requires.0.1 c.if-at-old.false)
+
+same_name-requires-2 : tie.Need-same_name-requires-2
+same_name-requires-2 c κs = search rules
 
 returns : tie.Need-returns
-returns c = in_old _ _ _ _ c.before.before.before.before.before.before.before.before.requires.0.0 c.before.before.before.before.before.before.before.before.requires.0.1 c.before.before.before.before.if1.true _ _ _ c.before.before.size.ensures c.same_name.ensures
+returns c = in_new _ _ _ _ c.requires.0.0 c.requires.0.1 c.if-at-old.false _ _ _ c.size-n-2.ensures c.same_name-2.ensures
 
-sub-p : tie.Need-overflow-sub-p
-sub-p c = search rules
-
-mul-size-2 : tie.Need-overflow-mul-size-2
-mul-size-2 c = omega (arith, new_inside _ _ _ _ c.before.before.before.before.requires.0.0 c.before.before.before.before.requires.0.1 c.if1.false, size_pos (get_or c.before.before.before.before.args.new.now (c.before.before.before.before.args.at - length c.before.before.before.before.args.old.now) 0))
-
-shared-slice-read-size-2 : tie.Need-shared-slice-read-size-2
-shared-slice-read-size-2 c = omega (arith, new_inside _ _ _ _ c.before.before.before.before.before.requires.0.0 c.before.before.before.before.before.requires.0.1 c.before.if1.false, size_pos (get_or c.before.before.before.before.before.args.new.now (c.before.before.before.before.before.args.at - length c.before.before.before.before.before.args.old.now) 0))
-
-size-requires-2 : tie.Need-size-requires-2
-size-requires-2 c κs = search rules
-
-add-same-name-2 : tie.Need-overflow-add-same-name-2
-add-same-name-2 c = omega (arith, new_inside _ _ _ _ c.before.before.before.before.before.before.requires.0.0 c.before.before.before.before.before.before.requires.0.1 c.before.before.if1.false)
-
-mul-same-name-2 : tie.Need-overflow-mul-same-name-2
-mul-same-name-2 c = omega (arith, new_inside _ _ _ _ c.before.before.before.before.before.before.requires.0.0 c.before.before.before.before.before.before.requires.0.1 c.before.before.if1.false)
-
-sub-same-name-2 : tie.Need-overflow-sub-same-name-2
-sub-same-name-2 c = search rules
-
-part-same-name-start-2 : tie.Need-slice-bounds-same-name-start-2
-part-same-name-start-2 c = search rules
-
-part-same-name-end-2 : tie.Need-slice-bounds-same-name-end-2
-part-same-name-end-2 c = omega (arith, new_inside _ _ _ _ c.before.before.before.before.before.before.requires.0.0 c.before.before.before.before.before.before.requires.0.1 c.before.before.if1.false)
-
-same-requires-2 : tie.Need-same-name-requires-2
-same-requires-2 c κs = search rules
-
-returns-2 : tie.Need-returns-2
-returns-2 c = in_new _ _ _ _ c.before.before.before.before.before.before.before.before.requires.0.0 c.before.before.before.before.before.before.before.before.requires.0.1 c.before.before.before.before.if1.false _ _ _ c.before.before.size2.ensures c.same-name2.ensures
-
-pub is-name-at-spec : {M : Type 1} → statement M
-is-name-at-spec =
+pub is_name_at_spec : {M : Type 1} → statement M
+is_name_at_spec =
     tie.close
     (tie.spec
-    mul-size
-    shared-slice-read-size
-    size-requires
-    add-same-name
-    mul-same-name
-    sub-same-name
-    part-same-name-start
-    part-same-name-end
-    same-requires
-    returns
-    sub-p
-    mul-size-2
-    shared-slice-read-size-2
-    size-requires-2
-    add-same-name-2
-    mul-same-name-2
-    sub-same-name-2
-    part-same-name-start-2
-    part-same-name-end-2
-    same-requires-2
-    returns-2)
+    offset_bounds-old-at
+    bounds-old-at
+    size-n-requires
+    overflow_add-at
+    offset_bounds-old-at-then-at-old
+    slice_bounds-same_name-count
+    slice_bounds-same_name-start
+    slice_bounds-same_name-end
+    same_name-requires
+    returns-then-at-old
+    overflow_sub-p
+    offset_bounds-new-p
+    bounds-new-p
+    size-n-requires-2
+    overflow_add-p
+    offset_bounds-new-p-2
+    slice_bounds-same_name-count-2
+    slice_bounds-same_name-start-2
+    slice_bounds-same_name-end-2
+    same_name-requires-2
+    returns)

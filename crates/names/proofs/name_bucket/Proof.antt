@@ -4,14 +4,14 @@ use borrow.Author.Rules.{rules}
 use Rattle.names.proofs.name_bucket.Statement.{statement}
 use Rattle.names.proofs.name_bucket.Tie as tie
 
-name-hash-requires : tie.Need-name-hash-requires
-name-hash-requires c κs = search rules
+name_hash-requires : tie.Need-name_hash-requires
+name_hash-requires c κs = search rules
 
 slot-requires : tie.Need-slot-requires
 slot-requires c κs = search rules
 
 returns : tie.Need-returns
-returns c = (in_bucket _ _ _ _ c.before.name-hash.ensures c.slot.ensures.0, c.slot.ensures.1)
+returns c = (in_bucket _ _ _ _ c.name_hash.ensures c.slot.ensures.0, c.slot.ensures.1)
 
-pub name-bucket-spec : {M : Type 1} → statement M
-name-bucket-spec = tie.close (tie.spec name-hash-requires slot-requires returns)
+pub name_bucket_spec : {M : Type 1} → statement M
+name_bucket_spec = tie.close (tie.spec name_hash-requires slot-requires returns)

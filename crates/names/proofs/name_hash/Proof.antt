@@ -9,47 +9,47 @@ use Rattle.names.proofs.Told.{hashed, all_hashed}
 use Rattle.names.proofs.name_hash.Statement.{statement}
 use Rattle.names.proofs.name_hash.Tie as tie
 
-abbrev invariant-loop : tie.invariant-loop
-invariant-loop text wrap n h₀ i₀ h i = (i ≤ length (name_entry (wrapped wrap text))) × (hash_from 0 (name_entry (wrapped wrap text)) ≡ hash_from h (drop i (name_entry (wrapped wrap text))))
+abbrev invariant-loop-i : tie.invariant-loop-i
+invariant-loop-i text wrap n h₀ i₀ h i = (i ≤ length (name_entry (wrapped wrap text))) × (hash_from 0 (name_entry (wrapped wrap text)) ≡ hash_from h (drop i (name_entry (wrapped wrap text))))
 
-abbrev decreases-loop : tie.decreases-loop
-decreases-loop text wrap n h₀ i₀ h i = n - i
+abbrev decreases-loop-i : tie.decreases-loop-i
+decreases-loop-i text wrap n h₀ i₀ h i = n - i
 
-name-size-requires : tie.Need-name-size-requires invariant-loop decreases-loop
-name-size-requires c κs = search rules
+name_size-n-requires : tie.Need-name_size-n-requires invariant-loop-i decreases-loop-i
+name_size-n-requires c κs = search rules
 
-loop-holds : tie.Need-loop-init invariant-loop decreases-loop
-loop-holds c = (search rules, refl)
+loop-i-init : tie.Need-loop-i-init invariant-loop-i decreases-loop-i
+loop-i-init c = (search rules, refl)
 
-entry-word-requires : tie.Need-entry-word-requires invariant-loop decreases-loop
-entry-word-requires c κs = (search rules, search rules)
+entry_word-requires : tie.Need-entry_word-requires invariant-loop-i decreases-loop-i
+entry_word-requires c κs = (search rules, search rules)
 
-stir-requires : tie.Need-stir-requires invariant-loop decreases-loop
-stir-requires c κs = search rules
+stir-h-requires : tie.Need-stir-h-requires invariant-loop-i decreases-loop-i
+stir-h-requires c κs = search rules
 
-add-i : tie.Need-overflow-add-i invariant-loop decreases-loop
-add-i c = search rules
+overflow_add-i : tie.Need-overflow_add-i invariant-loop-i decreases-loop-i
+overflow_add-i c = search rules
 
-loop-less : tie.Need-loop-smaller invariant-loop decreases-loop
-loop-less c = search rules
+loop-i-smaller : tie.Need-loop-i-smaller invariant-loop-i decreases-loop-i
+loop-i-smaller c = search rules
 
-loop-again : tie.Need-loop-preserved invariant-loop decreases-loop
-loop-again c = (search rules, search hashed)
+loop-i-preserved : tie.Need-loop-i-preserved invariant-loop-i decreases-loop-i
+loop-i-preserved c = (search rules, search hashed)
 
-returns : tie.Need-returns invariant-loop decreases-loop
+returns : tie.Need-returns invariant-loop-i decreases-loop-i
 returns c = search all_hashed
 
-pub name-hash-spec : {M : Type 1} → statement M
-name-hash-spec =
+pub name_hash_spec : {M : Type 1} → statement M
+name_hash_spec =
     tie.close
     (tie.spec
-    invariant-loop
-    decreases-loop
-    name-size-requires
-    loop-holds
-    entry-word-requires
-    stir-requires
-    add-i
-    loop-less
-    loop-again
+    invariant-loop-i
+    decreases-loop-i
+    name_size-n-requires
+    loop-i-init
+    entry_word-requires
+    stir-h-requires
+    overflow_add-i
+    loop-i-smaller
+    loop-i-preserved
     returns)

@@ -6,14 +6,14 @@ use Rattle.names.proofs.NameEntry.{head_word}
 use Rattle.names.proofs.name_head.Statement.{statement}
 use Rattle.names.proofs.name_head.Tie as tie
 
-name-len-requires : tie.Need-name-len-requires
-name-len-requires c κs = search rules
+name_len-requires : tie.Need-name_len-requires
+name_len-requires c κs = search rules
 
-mul-result : tie.Need-overflow-mul-result
-mul-result c = record { fits = omega (arith, length_most c.before.before.args.text.now c.before.before.args.wrap) }
+overflow_mul-result : tie.Need-overflow_mul-result
+overflow_mul-result c = record { fits = omega (arith, length_most c.args.text.now c.args.wrap) }
 
 returns : tie.Need-returns
 returns c = search head_word
 
-pub name-head-spec : {M : Type 1} → statement M
-name-head-spec = tie.close (tie.spec name-len-requires mul-result returns)
+pub name_head_spec : {M : Type 1} → statement M
+name_head_spec = tie.close (tie.spec name_len-requires overflow_mul-result returns)

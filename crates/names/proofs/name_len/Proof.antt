@@ -4,14 +4,14 @@ use borrow.Author.Rules.{rules}
 use Rattle.names.proofs.name_len.Statement.{statement}
 use Rattle.names.proofs.name_len.Tie as tie
 
-add-result : tie.Need-overflow-add-result
-add-result c = search rules
+overflow_add-result : tie.Need-overflow_add-result
+overflow_add-result c = search rules
+
+returns-then-wrap : tie.Need-returns-then-wrap
+returns-then-wrap c = search length_wrapped
 
 returns : tie.Need-returns
-returns c = search length_wrapped
+returns c = search length_plain
 
-returns-2 : tie.Need-returns-2
-returns-2 c = search length_plain
-
-pub name-len-spec : {M : Type 1} → statement M
-name-len-spec = tie.close (tie.spec add-result returns returns-2)
+pub name_len_spec : {M : Type 1} → statement M
+name_len_spec = tie.close (tie.spec overflow_add-result returns-then-wrap returns)

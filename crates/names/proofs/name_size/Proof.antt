@@ -6,17 +6,17 @@ use borrow.Author.Rules.{rules}
 use Rattle.names.proofs.name_size.Statement.{statement}
 use Rattle.names.proofs.name_size.Tie as tie
 
-name-len-requires : tie.Need-name-len-requires
-name-len-requires c κs = search rules
+name_len-requires : tie.Need-name_len-requires
+name_len-requires c κs = search rules
 
-add-result : tie.Need-overflow-add-result
-add-result c = record { fits = omega (arith, length_most c.before.before.args.text.now c.before.before.args.wrap) }
+overflow_add-result : tie.Need-overflow_add-result
+overflow_add-result c = record { fits = omega (arith, length_most c.args.text.now c.args.wrap) }
 
-add-result-2 : tie.Need-overflow-add-result-2
-add-result-2 c = search rules
+overflow_add-result-2 : tie.Need-overflow_add-result-2
+overflow_add-result-2 c = search rules
 
 returns : tie.Need-returns
 returns c = search size_of_name
 
-pub name-size-spec : {M : Type 1} → statement M
-name-size-spec = tie.close (tie.spec name-len-requires add-result add-result-2 returns)
+pub name_size_spec : {M : Type 1} → statement M
+name_size_spec = tie.close (tie.spec name_len-requires overflow_add-result overflow_add-result-2 returns)

@@ -11,68 +11,68 @@ use Rattle.names.proofs.Bytes.{plain_word}
 use Rattle.names.proofs.name_word.Statement.{statement}
 use Rattle.names.proofs.name_word.Tie as tie
 
-abbrev invariant-loop : tie.invariant-loop
-invariant-loop text wrap at w₀ j₀ w j = (j ≤ 8) × (w < 2 ^ (8 * (8 - j))) × (w ≡ of_bytes (take (8 - j) (drop (at + j) (wrapped wrap text))))
+abbrev invariant-loop-j : tie.invariant-loop-j
+invariant-loop-j text wrap at w₀ j₀ w j = (j ≤ 8) × (w < 2 ^ (8 * (8 - j))) × (w ≡ of_bytes (take (8 - j) (drop (at + j) (wrapped wrap text))))
 
-abbrev decreases-loop : tie.decreases-loop
-decreases-loop text wrap at w₀ j₀ w j = j
+abbrev decreases-loop-j : tie.decreases-loop-j
+decreases-loop-j text wrap at w₀ j₀ w j = j
 
-add-if2 : tie.Need-overflow-add-if2 invariant-loop decreases-loop
-add-if2 c = search rules
+overflow_add-at : tie.Need-overflow_add-at invariant-loop-j decreases-loop-j
+overflow_add-at c = search rules
 
-eight-requires : tie.Need-eight-requires invariant-loop decreases-loop
+eight-requires : tie.Need-eight-requires invariant-loop-j decreases-loop-j
 eight-requires c κs = search rules
 
-returns : tie.Need-returns invariant-loop decreases-loop
-returns c = search plain_word
+returns-then-at-text : tie.Need-returns-then-at-text invariant-loop-j decreases-loop-j
+returns-then-at-text c = search plain_word
 
-loop-holds : tie.Need-loop-init invariant-loop decreases-loop
+loop-j-init : tie.Need-loop-j-init invariant-loop-j decreases-loop-j
 unfolding of_bytes
-loop-holds c = (search rules, search rules, refl)
+loop-j-init c = (search rules, search rules, refl)
 
-sub-j : tie.Need-overflow-sub-j invariant-loop decreases-loop
-sub-j c = search rules
+overflow_sub-j : tie.Need-overflow_sub-j invariant-loop-j decreases-loop-j
+overflow_sub-j c = search rules
 
-add-byte-at : tie.Need-overflow-add-byte-at invariant-loop decreases-loop
-add-byte-at c = search rules
+overflow_add-at-in-loop-j : tie.Need-overflow_add-at-in-loop-j invariant-loop-j decreases-loop-j
+overflow_add-at-in-loop-j c = search rules
 
-byte-at-requires : tie.Need-byte-at-requires invariant-loop decreases-loop
-byte-at-requires c κs = search rules
+byte_at-requires : tie.Need-byte_at-requires invariant-loop-j decreases-loop-j
+byte_at-requires c κs = search rules
 
 -- the bytes before the last to come leave room for it
-here : (c : tie.After-byte-at invariant-loop decreases-loop) → c.before.before.loop.w < 2 ^ 56
+here : (c : tie.After-byte_at invariant-loop-j decreases-loop-j) → c.loop-j.w < 2 ^ 56
 here c = search room
 
-mul-w : tie.Need-overflow-mul-w invariant-loop decreases-loop
-mul-w c = record { fits = omega (arith, here c) }
+overflow_mul-w : tie.Need-overflow_mul-w invariant-loop-j decreases-loop-j
+overflow_mul-w c = record { fits = omega (arith, here c) }
 
-add-w : tie.Need-overflow-add-w invariant-loop decreases-loop
-add-w c = record { fits = omega (arith, here c) }
+overflow_add-w : tie.Need-overflow_add-w invariant-loop-j decreases-loop-j
+overflow_add-w c = record { fits = omega (arith, here c) }
 
-loop-less : tie.Need-loop-smaller invariant-loop decreases-loop
-loop-less c = search rules
+loop-j-smaller : tie.Need-loop-j-smaller invariant-loop-j decreases-loop-j
+loop-j-smaller c = search rules
 
-loop-again : tie.Need-loop-preserved invariant-loop decreases-loop
-loop-again c = (search rules, search wider_by_one, search one_more)
+loop-j-preserved : tie.Need-loop-j-preserved invariant-loop-j decreases-loop-j
+loop-j-preserved c = (search rules, search wider_by_one, search one_more)
 
-returns-2 : tie.Need-returns-2 invariant-loop decreases-loop
-returns-2 c = search all_eight
+returns : tie.Need-returns invariant-loop-j decreases-loop-j
+returns c = search all_eight
 
-pub name-word-spec : {M : Type 1} → statement M
-name-word-spec =
+pub name_word_spec : {M : Type 1} → statement M
+name_word_spec =
     tie.close
     (tie.spec
-    invariant-loop
-    decreases-loop
-    add-if2
+    invariant-loop-j
+    decreases-loop-j
+    overflow_add-at
     eight-requires
-    returns
-    loop-holds
-    sub-j
-    add-byte-at
-    byte-at-requires
-    mul-w
-    add-w
-    loop-less
-    loop-again
-    returns-2)
+    returns-then-at-text
+    loop-j-init
+    overflow_sub-j
+    overflow_add-at-in-loop-j
+    byte_at-requires
+    overflow_mul-w
+    overflow_add-w
+    loop-j-smaller
+    loop-j-preserved
+    returns)

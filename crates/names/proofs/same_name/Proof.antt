@@ -10,61 +10,61 @@ use Rattle.names.proofs.Told.{other_size, differs, agrees}
 use Rattle.names.proofs.same_name.Statement.{statement}
 use Rattle.names.proofs.same_name.Tie as tie
 
-abbrev invariant-loop : tie.invariant-loop
-invariant-loop e text wrap i₀ i = (i ≤ length e) × (length e ≡ length (name_entry (wrapped wrap text))) × (eqs e (name_entry (wrapped wrap text)) ≡ eqs (drop i e) (drop i (name_entry (wrapped wrap text))))
+abbrev invariant-loop-i : tie.invariant-loop-i
+invariant-loop-i e text wrap i₀ i = (i ≤ length e) × (length e ≡ length (name_entry (wrapped wrap text))) × (eqs e (name_entry (wrapped wrap text)) ≡ eqs (drop i e) (drop i (name_entry (wrapped wrap text))))
 
-abbrev decreases-loop : tie.decreases-loop
-decreases-loop e text wrap i₀ i = length e - i
+abbrev decreases-loop-i : tie.decreases-loop-i
+decreases-loop-i e text wrap i₀ i = length e - i
 
-name-size-requires : tie.Need-name-size-requires invariant-loop decreases-loop
-name-size-requires c κs = search rules
+name_size-requires : tie.Need-name_size-requires invariant-loop-i decreases-loop-i
+name_size-requires c κs = search rules
 
-returns : tie.Need-returns invariant-loop decreases-loop
-returns c = search other_size
+returns-then-e-name_size : tie.Need-returns-then-e-name_size invariant-loop-i decreases-loop-i
+returns-then-e-name_size c = search other_size
 
-loop-holds : tie.Need-loop-init invariant-loop decreases-loop
-loop-holds c = (search rules, search rules, refl)
+loop-i-init : tie.Need-loop-i-init invariant-loop-i decreases-loop-i
+loop-i-init c = (search rules, search rules, refl)
 
-mul-if2 : tie.Need-overflow-mul-if2 invariant-loop decreases-loop
-mul-if2 c = search rules
+offset_bounds-e-i : tie.Need-offset_bounds-e-i invariant-loop-i decreases-loop-i
+offset_bounds-e-i c = search rules
 
-shared-slice-read-if2 : tie.Need-shared-slice-read-if2 invariant-loop decreases-loop
-shared-slice-read-if2 c = search rules
+bounds-e-i : tie.Need-bounds-e-i invariant-loop-i decreases-loop-i
+bounds-e-i c = search rules
 
-entry-word-requires : tie.Need-entry-word-requires invariant-loop decreases-loop
-entry-word-requires c κs = (search rules, search rules)
+entry_word-requires : tie.Need-entry_word-requires invariant-loop-i decreases-loop-i
+entry_word-requires c κs = (search rules, search rules)
 
-returns-2 : tie.Need-returns-2 invariant-loop decreases-loop
-returns-2 c = search differs
+returns-then-e-i : tie.Need-returns-then-e-i invariant-loop-i decreases-loop-i
+returns-then-e-i c = search differs
 
-add-i : tie.Need-overflow-add-i invariant-loop decreases-loop
-add-i c = search rules
+overflow_add-i : tie.Need-overflow_add-i invariant-loop-i decreases-loop-i
+overflow_add-i c = search rules
 
-loop-less : tie.Need-loop-smaller invariant-loop decreases-loop
-loop-less c = search rules
+loop-i-smaller : tie.Need-loop-i-smaller invariant-loop-i decreases-loop-i
+loop-i-smaller c = search rules
 
-loop-again : tie.Need-loop-preserved invariant-loop decreases-loop
-loop-again c =
+loop-i-preserved : tie.Need-loop-i-preserved invariant-loop-i decreases-loop-i
+loop-i-preserved c =
     let t = c.before.before.before in
-    (search rules, search rules, agrees _ _ _ _ c.before.entry-word.ensures t.before.loop.invariant.2 t.before.loop.invariant.1 t.loop-test.true c.if2.false)
+    (search rules, search rules, agrees _ _ _ _ c.entry_word.ensures t.loop-i.invariant.2 t.loop-i.invariant.1 t.loop-i-test.true c.if-e-i.false)
 
-returns-3 : tie.Need-returns-3 invariant-loop decreases-loop
-returns-3 c = search no_more
+returns : tie.Need-returns invariant-loop-i decreases-loop-i
+returns c = search no_more
 
-pub same-name-spec : {M : Type 1} → statement M
-same-name-spec =
+pub same_name_spec : {M : Type 1} → statement M
+same_name_spec =
     tie.close
     (tie.spec
-    invariant-loop
-    decreases-loop
-    name-size-requires
-    returns
-    loop-holds
-    mul-if2
-    shared-slice-read-if2
-    entry-word-requires
-    returns-2
-    add-i
-    loop-less
-    loop-again
-    returns-3)
+    invariant-loop-i
+    decreases-loop-i
+    name_size-requires
+    returns-then-e-name_size
+    loop-i-init
+    offset_bounds-e-i
+    bounds-e-i
+    entry_word-requires
+    returns-then-e-i
+    overflow_add-i
+    loop-i-smaller
+    loop-i-preserved
+    returns)

@@ -10,75 +10,75 @@ use Rattle.index.proofs.Chain.{empty_index, chain_start, chain_starts, chain_nex
 use Rattle.names.proofs.search_name.Statement.{statement}
 use Rattle.names.proofs.search_name.Tie as tie
 
-abbrev invariant-loop : tie.invariant-loop
-invariant-loop old new used text wrap index half b at₀ lowest₀ at lowest = Seek (take (indexed_to index) (take used (old ++ new))) index (name_entry (wrapped wrap text)) at lowest
+abbrev invariant-loop-at : tie.invariant-loop-at
+invariant-loop-at old new used text wrap index half b at₀ lowest₀ at lowest = Seek (take (indexed_to index) (take used (old ++ new))) index (name_entry (wrapped wrap text)) at lowest
 
-abbrev decreases-loop : tie.decreases-loop
-decreases-loop old new used text wrap index half b at₀ lowest₀ at lowest = at
+abbrev decreases-loop-at : tie.decreases-loop-at
+decreases-loop-at old new used text wrap index half b at₀ lowest₀ at lowest = at
 
-returns : tie.Need-returns invariant-loop decreases-loop
-returns c = empty_index _ _ c.before.before.before.before.before.requires.1.1 c.if1.true _
+returns-then-half-eq0 : tie.Need-returns-then-half-eq0 invariant-loop-at decreases-loop-at
+returns-then-half-eq0 c = empty_index _ _ c.requires.1.1 c.if-half-eq0.true _
 
-name-bucket-requires : tie.Need-name-bucket-requires invariant-loop decreases-loop
-name-bucket-requires c κs = search rules
+name_bucket-b-requires : tie.Need-name_bucket-b-requires invariant-loop-at decreases-loop-at
+name_bucket-b-requires c κs = search rules
 
-mul_at : tie.Need-overflow-mul-at invariant-loop decreases-loop
-mul_at c = search rules
+offset_bounds-index-b : tie.Need-offset_bounds-index-b invariant-loop-at decreases-loop-at
+offset_bounds-index-b c = search rules
 
-shared-slice-read-at : tie.Need-shared-slice-read-at invariant-loop decreases-loop
-shared-slice-read-at c = search rules
+bounds-index-b : tie.Need-bounds-index-b invariant-loop-at decreases-loop-at
+bounds-index-b c = search rules
 
-loop-holds : tie.Need-loop-init invariant-loop decreases-loop
-loop-holds c = chain_start _ _ c.before.before.before.before.before.before.before.requires.1.1 c.before.before.if1.false _ _ c.before.name-bucket.ensures.0 c.before.name-bucket.ensures.1
+loop-at-init : tie.Need-loop-at-init invariant-loop-at decreases-loop-at
+loop-at-init c = chain_start _ _ c.requires.1.1 c.if-half-eq0.false _ _ c.name_bucket-b.ensures.0 c.name_bucket-b.ensures.1
 
-is-name-at-requires : tie.Need-is-name-at-requires invariant-loop decreases-loop
-is-name-at-requires c κs = ((c.before.before.before.before.before.before.before.before.before.requires.0, chain_starts _ _ c.before.before.before.before.before.before.before.before.before.requires.1.1 _ _ _ c.before.loop.invariant c.loop-test.true), search rules)
+is_name_at-same-requires : tie.Need-is_name_at-same-requires invariant-loop-at decreases-loop-at
+is_name_at-same-requires c κs = ((c.requires.0, chain_starts _ _ c.requires.1.1 _ _ _ c.loop-at.invariant c.loop-at-test.true), search rules)
 
-either-requires : tie.Need-either-requires invariant-loop decreases-loop
-either-requires c κs = search rules
+either-lowest-requires : tie.Need-either-lowest-requires invariant-loop-at decreases-loop-at
+either-lowest-requires c κs = search rules
 
-add_at : tie.Need-overflow-add-at invariant-loop decreases-loop
-add_at c = search rules
+overflow_add-at : tie.Need-overflow_add-at invariant-loop-at decreases-loop-at
+overflow_add-at c = search rules
 
-mul-at-2 : tie.Need-overflow-mul-at-2 invariant-loop decreases-loop
-mul-at-2 c = search rules
+offset_bounds-index-half : tie.Need-offset_bounds-index-half invariant-loop-at decreases-loop-at
+offset_bounds-index-half c = search rules
 
-shared-slice-read-at-2 : tie.Need-shared-slice-read-at-2 invariant-loop decreases-loop
-shared-slice-read-at-2 c = search rules
+bounds-index-half : tie.Need-bounds-index-half invariant-loop-at decreases-loop-at
+bounds-index-half c = search rules
 
-sub_at : tie.Need-overflow-sub-at invariant-loop decreases-loop
-sub_at c = seek_some _ _ _ _ _ c.before.before.before.before.loop.invariant c.before.before.before.loop-test.true
+overflow_sub-at : tie.Need-overflow_sub-at invariant-loop-at decreases-loop-at
+overflow_sub-at c = seek_some _ _ _ _ _ c.loop-at.invariant c.loop-at-test.true
 
-loop-less : tie.Need-loop-smaller invariant-loop decreases-loop
-loop-less c = omega (arith, seek_some _ _ _ _ _ c.before.before.before.before.loop.invariant c.before.before.before.loop-test.true, seek_falls _ _ _ _ _ c.before.before.before.before.loop.invariant c.before.before.before.loop-test.true)
+loop-at-smaller : tie.Need-loop-at-smaller invariant-loop-at decreases-loop-at
+loop-at-smaller c = omega (arith, seek_some _ _ _ _ _ c.loop-at.invariant c.loop-at-test.true, seek_falls _ _ _ _ _ c.loop-at.invariant c.loop-at-test.true)
 
-loop-again : tie.Need-loop-preserved invariant-loop decreases-loop
-loop-again c = chain_next _ _ c.before.before.before.before.before.before.before.before.before.before.before.before.requires.1.1 _ _ _ c.before.before.before.before.loop.invariant c.before.before.before.loop-test.true _ c.before.before.is-name-at.ensures _ c.before.either.ensures
+loop-at-preserved : tie.Need-loop-at-preserved invariant-loop-at decreases-loop-at
+loop-at-preserved c = chain_next _ _ c.requires.1.1 _ _ _ c.loop-at.invariant c.loop-at-test.true _ c.is_name_at-same.ensures _ c.either-lowest.ensures
 
-returns-2 : tie.Need-returns-2 invariant-loop decreases-loop
-returns-2 c = seek_nothing _ _ _ _ _ c.before.before.loop.invariant c.before.loop-test.false c.if2.true
+returns-then-lowest-eq0 : tie.Need-returns-then-lowest-eq0 invariant-loop-at decreases-loop-at
+returns-then-lowest-eq0 c = seek_nothing _ _ _ _ _ c.loop-at.invariant c.loop-at-test.false c.if-lowest-eq0.true
 
-returns-3 : tie.Need-returns-3 invariant-loop decreases-loop
-returns-3 c = seek_at _ _ _ _ _ c.before.before.loop.invariant c.before.loop-test.false c.if2.false
+returns : tie.Need-returns invariant-loop-at decreases-loop-at
+returns c = seek_at _ _ _ _ _ c.loop-at.invariant c.loop-at-test.false c.if-lowest-eq0.false
 
-pub search-name-spec : {M : Type 1} → statement M
-search-name-spec =
+pub search_name_spec : {M : Type 1} → statement M
+search_name_spec =
     tie.close
     (tie.spec
-    invariant-loop
-    decreases-loop
-    returns
-    name-bucket-requires
-    mul_at
-    shared-slice-read-at
-    loop-holds
-    is-name-at-requires
-    either-requires
-    add_at
-    mul-at-2
-    shared-slice-read-at-2
-    sub_at
-    loop-less
-    loop-again
-    returns-2
-    returns-3)
+    invariant-loop-at
+    decreases-loop-at
+    returns-then-half-eq0
+    name_bucket-b-requires
+    offset_bounds-index-b
+    bounds-index-b
+    loop-at-init
+    is_name_at-same-requires
+    either-lowest-requires
+    overflow_add-at
+    offset_bounds-index-half
+    bounds-index-half
+    overflow_sub-at
+    loop-at-smaller
+    loop-at-preserved
+    returns-then-lowest-eq0
+    returns)

@@ -5,17 +5,17 @@ use borrow.Author.Rules.{rules}
 use Rattle.names.proofs.text_at.Statement.{statement}
 use Rattle.names.proofs.text_at.Tie as tie
 
-shared-slice-read-wide : tie.Need-shared-slice-read-wide
-shared-slice-read-wide c = search rules
+bounds-text-i : tie.Need-bounds-text-i
+bounds-text-i c = search rules
 
 wide-requires : tie.Need-wide-requires
 wide-requires c κs = search rules
 
+returns-then-i-text : tie.Need-returns-then-i-text
+returns-then-i-text c = search rules
+
 returns : tie.Need-returns
-returns c = search rules
+returns c = (sym (get_or-eq_default c.args.text.now 0 c.if-i-text.false), search rules)
 
-returns-2 : tie.Need-returns-2
-returns-2 c = (sym (get_or-eq_default c.before.before.args.text.now 0 c.if1.false), search rules)
-
-pub text-at-spec : {M : Type 1} → statement M
-text-at-spec = tie.close (tie.spec shared-slice-read-wide wide-requires returns returns-2)
+pub text_at_spec : {M : Type 1} → statement M
+text_at_spec = tie.close (tie.spec bounds-text-i wide-requires returns-then-i-text returns)

@@ -10,55 +10,55 @@ use Rattle.names.proofs.Told.{written, all_written}
 use Rattle.names.proofs.write_name.Statement.{statement}
 use Rattle.names.proofs.write_name.Tie as tie
 
-abbrev invariant-loop : tie.invariant-loop
-invariant-loop dst₀ text wrap n i₀ dst i = (i ≤ length (name_entry (wrapped wrap text))) × (length dst ≡ length dst₀) × (dst ≡ front (name_entry (wrapped wrap text)) i dst₀)
+abbrev invariant-loop-i : tie.invariant-loop-i
+invariant-loop-i dst₀ text wrap n i₀ dst i = (i ≤ length (name_entry (wrapped wrap text))) × (length dst ≡ length dst₀) × (dst ≡ front (name_entry (wrapped wrap text)) i dst₀)
 
-abbrev decreases-loop : tie.decreases-loop
-decreases-loop dst₀ text wrap n i₀ dst i = n - i
+abbrev decreases-loop-i : tie.decreases-loop-i
+decreases-loop-i dst₀ text wrap n i₀ dst i = n - i
 
-name-size-requires : tie.Need-name-size-requires invariant-loop decreases-loop
-name-size-requires c κs = search rules
+name_size-n-requires : tie.Need-name_size-n-requires invariant-loop-i decreases-loop-i
+name_size-n-requires c κs = search rules
 
-loop-holds : tie.Need-loop-init invariant-loop decreases-loop
-loop-holds c = (search rules, refl, front_none _ _)
+loop-i-init : tie.Need-loop-i-init invariant-loop-i decreases-loop-i
+loop-i-init c = (search rules, refl, front_none _ _)
 
-entry-word-requires : tie.Need-entry-word-requires invariant-loop decreases-loop
-entry-word-requires c κs = (search rules, search rules)
+entry_word-requires : tie.Need-entry_word-requires invariant-loop-i decreases-loop-i
+entry_word-requires c κs = (search rules, search rules)
 
-mul-dst : tie.Need-overflow-mul-dst invariant-loop decreases-loop
-mul-dst c = search rules
+offset_bounds-dst-i : tie.Need-offset_bounds-dst-i invariant-loop-i decreases-loop-i
+offset_bounds-dst-i c = search rules
 
-slice-write-dst : tie.Need-slice-write-dst invariant-loop decreases-loop
-slice-write-dst c = search rules
+bounds-dst-i : tie.Need-bounds-dst-i invariant-loop-i decreases-loop-i
+bounds-dst-i c = search rules
 
-add-i : tie.Need-overflow-add-i invariant-loop decreases-loop
-add-i c = search rules
+overflow_add-i : tie.Need-overflow_add-i invariant-loop-i decreases-loop-i
+overflow_add-i c = search rules
 
-loop-less : tie.Need-loop-smaller invariant-loop decreases-loop
-loop-less c = search rules
+loop-i-smaller : tie.Need-loop-i-smaller invariant-loop-i decreases-loop-i
+loop-i-smaller c = search rules
 
-loop-again : tie.Need-loop-preserved invariant-loop decreases-loop
-loop-again c = (search rules, simp length-set (search rules), search written)
+loop-i-preserved : tie.Need-loop-i-preserved invariant-loop-i decreases-loop-i
+loop-i-preserved c = (search rules, simp length-set (search rules), search written)
 
-same_length : tie.Need-same-length invariant-loop decreases-loop
-same_length c = search rules
+shape_of-dst : tie.Need-shape_of-dst invariant-loop-i decreases-loop-i
+shape_of-dst c = search rules
 
-returns : tie.Need-returns invariant-loop decreases-loop
+returns : tie.Need-returns invariant-loop-i decreases-loop-i
 returns c = search all_written
 
-pub write-name-spec : {M : Type 1} → statement M
-write-name-spec =
+pub write_name_spec : {M : Type 1} → statement M
+write_name_spec =
     tie.close
     (tie.spec
-    invariant-loop
-    decreases-loop
-    name-size-requires
-    loop-holds
-    entry-word-requires
-    mul-dst
-    slice-write-dst
-    add-i
-    loop-less
-    loop-again
-    same_length
+    invariant-loop-i
+    decreases-loop-i
+    name_size-n-requires
+    loop-i-init
+    entry_word-requires
+    offset_bounds-dst-i
+    bounds-dst-i
+    overflow_add-i
+    loop-i-smaller
+    loop-i-preserved
+    shape_of-dst
     returns)
