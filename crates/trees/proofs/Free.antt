@@ -3,7 +3,7 @@ use mathlib.Core.Path.{◌≡◌, refl}
 use mathlib.Core.Bool.{Bool, true, false, true≢false}
 use mathlib.Core.List.{List}
 use Prim.Native.Nat.{ℕ}
-use Rattle.trees.proofs.Tree.{Cls, ◌≼◌, Shape, con, tup, ptr, str, fre, mem, Ty, hi, lo, int, node, Tys, ε, ◌◂◌, shape_cls, cls, ◌⊑◌, up, dn, io, nd, fw, ◌⊑*◌, end, ◌&◌}
+use Rattle.trees.proofs.Tree.{Cls, ◌≼◌, Shape, con, tup, ptr, str, fre, mem, Ty, hi, lo, int, node, Tys, ε, ◌◂◌, shape_cls, cls, ◌⊑◌, up, dn, io, nd, fw, ◌⊑*◌, end, ◌&◌, nodes_below}
 use Rattle.trees.proofs.Meet.{Meet}
 
 -- memory, and forward references
@@ -82,7 +82,7 @@ module _ (bad : Shape → Bool) where
     not_top = elim [ ]
 
     parts : {s : Shape} {fs gs : List Bool} {ts us : Tys} → node s fs ts ⊑ node s gs us → ts ⊑* us
-    parts (nd f p) = p
+    parts p = (nodes_below p refl).1
 
     head : {t u : Ty} {ts us : Tys} → t ◂ ts ⊑* u ◂ us → (t ⊑ u) × (ts ⊑* us)
     head (p & ps) = (p, ps)

@@ -66,13 +66,14 @@ flags_more a b m = record { left = or_left a b ⨟ m.left; right = or_right a b 
 
 -- ---- parts
 
-node_least : {s : Shape} {fs gs hs : List Bool} {ts us vs : Tys} {u : Ty} → Flags fs gs hs → Meet* ts us vs → ((n : ℕ) → s ≢ fre n) → node s fs ts ⊑ u → node s gs us ⊑ u → node s hs vs ⊑ u
-node_least f m ne (dn p) q = dn p
-node_least f m ne (nd a p) (nd b q) = nd (f.least a b) (m.least p q)
-node_least f m ne fw q = absurd (ne _ refl)
+nodes_least : {s s' : Shape} {fs gs hs : List Bool} {ts us vs : Tys} {u : Ty} → Flags fs gs hs → Meet* ts us vs → ((n : ℕ) → s ≢ fre n) → s ≡ s' → node s fs ts ⊑ u → node s' gs us ⊑ u → node s hs vs ⊑ u
+nodes_least f m ne e (dn p) q = dn p
+nodes_least f m ne e (nd a p) (nd b q) = nd (f.least a b) (m.least p q)
+nodes_least f m ne e (nd a p) fw = absurd (ne _ e)
+nodes_least f m ne e fw q = absurd (ne _ refl)
 
 pub meet_node : {s : Shape} {fs gs hs : List Bool} {ts us vs : Tys} → ((n : ℕ) → s ≢ fre n) → Flags fs gs hs → Meet* ts us vs → Meet (node s fs ts) (node s gs us) (node s hs vs)
-meet_node ne f m = record { left = nd f.left m.left; right = nd f.right m.right; least = node_least f m ne }
+meet_node ne f m = record { left = nd f.left m.left; right = nd f.right m.right; least = nodes_least f m ne refl }
 
 pub meet_ε : Meet* ε ε ε
 meet_ε = record { left = end; right = end; least = λ p q. p }
@@ -112,6 +113,7 @@ meet_cons h p = record { left = dn p; right = dn same; least = cons_apart h }
 -- a float of size 32 or -32 with a constant that is not single
 b32_least : {n : ℕ} {fs : List Bool} {ts : Tys} {u : Ty} → lo f32 ⊑ u → node (con false n) fs ts ⊑ u → lo f64 ⊑ u
 b32_least p (dn q) = dn q
+b32_least p (nd f q) = elim p [ ]
 
 pub meet_b32 : {n : ℕ} {fs : List Bool} {ts : Tys} → Meet (lo f32) (node (con false n) fs ts) (lo f64)
 meet_b32 = record { left = dn wide; right = dn same; least = b32_least }

@@ -4,8 +4,8 @@
 -- A class is a group of types between two, hi and lo: all, Top and Bot; ctl, XCtrl and Ctrl; f64 and f32, the float sizes -64 and 64, -32 and 32;
 -- stc, $TOP and $BOT. Other types are Ints, by the keys of their ends, and nodes: a shape, flags (a pointer's nil, the finals of a struct's fields), and parts.
 use mathlib.Core.Path.{◌≡◌, refl, ap, ap₂}
-use mathlib.Core.Logic.{◌⊎◌, inl, inr}
-use mathlib.Core.Bool.{Bool, true, false}
+use mathlib.Core.Logic.{◌≢◌, ◌⊎◌, inl, inr}
+use mathlib.Core.Bool.{Bool, true, false, true≢false}
 use mathlib.Core.List.{List, [], ◌∷◌}
 use Prim.Native.Nat.{ℕ, ◌≤◌}
 use native.Mathlib.Nat.{le_refl, le_trans, le_antisymm}
@@ -95,6 +95,7 @@ pub ≼_antisym : {a b : Cls} → a ≼ b → b ≼ a → a ≡ b
 ≼_antisym any any = refl
 ≼_antisym any same = refl
 ≼_antisym same q = refl
+≼_antisym wide q = elim q [ ]
 
 pub ≼_linear : {a b c : Cls} → a ≼ c → b ≼ c → a ≼ b ⊎ b ≼ a
 ≼_linear any q = inl any
@@ -169,12 +170,22 @@ mutual
   ⊑*-trans end end = end
   ⊑*-trans (p & ps) (q & qs) = ⊑_trans p q & ⊑*-trans ps qs
 
+-- no forward reference has the shape of a struct
+fre≢str : {n m : ℕ} {ns as₁ : List ℕ} → fre n ≢ str m ns as₁
+fre≢str e = true≢false (ap elim [ con b n ↦ false | tup ↦ false | ptr ↦ false | str n ns as₁ ↦ false | fre n ↦ true | mem a ↦ false ] e)
+
+-- what lies below, of one shape, lies so by flags and parts
+pub nodes_below : {s s' : Shape} {fs gs : List Bool} {ts us : Tys} → node s fs ts ⊑ node s' gs us → s ≡ s' → (fs ≤* gs) × (ts ⊑* us)
+nodes_below (nd f p) e = (f, p)
+nodes_below fw e = absurd (fre≢str e)
+
 mutual
   pub ⊑_antisym : {a b : Ty} → a ⊑ b → b ⊑ a → a ≡ b
   ⊑_antisym (up p) (up q) = ap hi (≼_antisym p q)
   ⊑_antisym (dn p) (dn q) = ap lo (≼_antisym q p)
   ⊑_antisym (io p q) (io r s) = ap₂ int (le_antisymm r p) (le_antisymm q s)
-  ⊑_antisym (nd {s = s} f p) (nd g q) = ap₂ (node s) (≤*-antisym f g) (⊑*-antisym p q)
+  ⊑_antisym (nd {s = s} f p) q = ap₂ (node s) (≤*-antisym f (nodes_below q refl).0) (⊑*-antisym p (nodes_below q refl).1)
+  ⊑_antisym fw q = elim q [ ]
 
   pub ⊑*-antisym : {a b : Tys} → a ⊑* b → b ⊑* a → a ≡ b
   ⊑*-antisym end end = refl
