@@ -87,6 +87,18 @@ class Function:
             return [fields[0], refs[int(fields[1])]] + fields[3 if len(fields) > 2 and fields[2] == "0" else 2 :]
         return fields
 
+    def count(self, place, target):
+        """How many `before`s lead from a place to one above it."""
+        n, p = 0, place
+        while p and p != target:
+            # a place that is merged with the one above it is one record
+            if not (p in self.merged):
+                n += 1
+            elif self.parent.get(p) == target:
+                break
+            p = self.parent.get(p)
+        return n
+
     def path(self, place, fields):
         """The new path for the old one, behind a variable at the place; or None. And the place that a bare path leads to."""
         changed, at = self.raw_path(place, fields)
@@ -167,97 +179,138 @@ def convert(path, d, crate, function, said):
             labels[m.group(1)] = new if not function.startswith("+") else m.group(2).replace("-lts", "").replace("-tie", "").replace("-", "_") + "-" + new
     it = aliases
     own = {m.group(1) for m in HEAD.finditer(text)}
+    helpers = places_of(text, aliases)
     cuts = [m.start() for m in HEAD.finditer(text)] + [len(text)]
     out = [text[: cuts[0]]] if cuts[0] else []
     for a, b in zip(cuts, cuts[1:]):
-        out.append(block(text[a:b], it, labels, own, function, path, said))
+        out.append(block(text[a:b], it, labels, own, function, path, said, helpers))
     result = "".join(out)
     result = re.sub(r"(?m)^(use \S+ as )(\S+)$", lambda m: m.group(1) + (m.group(2).replace("-", "_") if m.group(2) in aliases else m.group(2)), result)
     with open(path, "w", encoding="utf-8") as f:
         f.write(result)
 
 
-def block(text, it, labels, own, function, path, said):
-    known, bare = {}, {}
+FIELDS = r'(?:\.[^\s(){}.;,@"«»]+)*'
+WORDS = dict(pre="requires", taken="true", left="false", inv="invariant", kept="auto", last="new", entry="initial", typed="type_inv", came="branch", good="well_formed")
+
+
+def renamed(fields, it, head=None):
+    """Fields behind something whose place is not known."""
+    for k, f in enumerate(fields):
+        if f == "before":
+            continue
+        if f in WORDS:
+            fields[k] = WORDS[f]
+        elif norm(f) in it.any and f not in GENERIC and (fields[k - 1] if k else head) != "args":
+            fields[k] = it.any[norm(f)]
+        break
+    return fields
+
+
+def places_of(text, aliases):
+    """The place of the first argument, and of the result, of each lemma of the file."""
+    found = {}
+    for m in HEAD.finditer(text):
+        rest = text[m.end() : m.end() + 400]
+        a = re.match(rf"\(?(?:[^\s():]+ : )?({ALIAS})\.([^\s()]+)", rest)
+        if a and not a.group(2).startswith(("Need-", "invariant-", "decreases-")):
+            b = re.match(rf"({ALIAS})\.[^\s()]+[^→\n]*→ ({ALIAS})\.([^\s()]+)", rest)
+            found[m.group(1)] = (norm(a.group(2)), norm(b.group(3)) if b else None)
+    return found
+
+
+def block(text, it, labels, own, function, path, said, helpers):
     head = HEAD.match(text)
     name = head.group(1)
-    all_of, it = it, None
+    all_of, it, root, place = it, None, None, None
+    first = re.search(rf"^{re.escape(name)}((?: [^\s=(){{}}]+)*) =", text[head.end() :], re.M)
+    names = first.group(1).split() if first else []
     need = re.match(rf"({ALIAS})\.Need-([^\s()]+)", text[head.end() :])
     if need:
         it = all_of[need.group(1)]
-        first = re.search(rf"^{re.escape(name)} (\S+)(?: (c)\b)?", text[head.end() :], re.M)
-        if first and norm(need.group(2)) in it.at:
-            known[first.group(2) or first.group(1)] = it.at[norm(need.group(2))]
+        root = "c" if "c" in names else names[0] if names else None
+        place = it.at.get(norm(need.group(2)))
     else:
-        for m in re.finditer(rf"\(([^\s():]+) : ({ALIAS})\.([^\s()]+)[^()]*\)", text):
-            it = it or all_of.get(m.group(2))
-            if it and norm(m.group(3)) in it.places:
-                known[m.group(1)] = norm(m.group(3))
-        m = re.match(rf"({ALIAS})\.([^\s()]+)", text[head.end() :])
+        m = re.search(rf"\(([^\s():]+) : ({ALIAS})\.([^\s()]+)[^()]*\)", text)
         if m:
-            it = it or all_of.get(m.group(1))
-        if m and it and norm(m.group(2)) in it.places:
-            first = re.search(rf"^{re.escape(name)} (\S+)", text[head.end() :], re.M)
-            if first and first.group(1) != "=":
-                known[first.group(1)] = norm(m.group(2))
+            it = all_of[m.group(2)]
+            if norm(m.group(3)) in it.places:
+                root, place = m.group(1), norm(m.group(3))
+        else:
+            m = re.match(rf"({ALIAS})\.([^\s()]+)", text[head.end() :])
+            if m:
+                it = all_of[m.group(1)]
+                if norm(m.group(2)) in it.places and names:
+                    root, place = names[0], norm(m.group(2))
     if it is None:
         it = next(iter(all_of.values())) if all_of else Function({})
+    if place is None:
+        root = None
+    # the variables that a `let` binds to a place above
+    above = {root: []} if root else {}
+    bare = {}
+    for m in re.finditer(rf"let ([^\s:]+) = (?:([^\s().]+) )?([^\s(){{}}.;,]+)((?:\.before)*) in\b", text):
+        if m.group(3) in above and (m.group(2) is None or helpers.get(m.group(2), (None, None))[1]):
+            above[m.group(1)] = above[m.group(3)] + m.group(4).split(".")[1:]
+            if m.group(2):
+                above[m.group(1)] = ["start"]
     out, at = [], 0
     for m in re.finditer(r'(?<![^\s(){};,"«»])([^\s(){}.;,@"«»]+)((?:\.[^\s(){}.;,@"«»]+)*)|(?<=\))((?:\.[^\s(){}.;,@"«»]+)+)', text):
         line = text[text.rfind("\n", 0, m.start()) + 1 : m.start()]
         if re.match(r"\s*(pub )?use ", line) or re.search(r"(^|\s)--(\s|$)", line):
             continue
         if m.group(3):
-            fields = m.group(3)[1:].split(".")
-            if fields[0] == "pre":
-                fields[0] = "requires"
-            elif norm(fields[0]) in it.any and fields[0] not in GENERIC:
-                fields[0] = it.any[norm(fields[0])]
-            new = "." + ".".join(fields)
+            new = "." + ".".join(renamed(m.group(3)[1:].split("."), it))
         else:
             word, fields = m.group(1), [f for f in m.group(2).split(".") if f]
             new = m.group(0)
+            bound = re.search(r"let (\S+) = $", text[: m.start()])
+            k = 0
+            while k < len(fields) and fields[k] == "before":
+                k += 1
             if word in all_of and fields:
-                it_was, it = it, all_of[word]
+                its = all_of[word]
                 w = fields[0]
                 if w.startswith("Need-"):
-                    x = it.needs.get(norm(w[5:]))
+                    x = its.needs.get(norm(w[5:]))
                     if x is None:
                         said.append(f"{path}: no goal {w}")
                     else:
                         fields[0] = "Need-" + x
-                elif norm(w) in it.loops:
-                    fields[0] = it.loops[norm(w)]
-                elif norm(w) in it.places:
-                    fields[0] = it.places[norm(w)]
+                elif norm(w) in its.loops:
+                    fields[0] = its.loops[norm(w)]
+                elif norm(w) in its.places:
+                    fields[0] = its.places[norm(w)]
                 elif w not in ("close", "spec", "Claims", "the-claims"):
                     said.append(f"{path}: no place {w}")
                 new = ".".join([word] + fields)
-                it = it_was
-            elif word in known:
-                bound = re.search(r"let (\S+) = $", text[: m.start()])
-                changed, place = it.path(known[word], fields)
-                if changed is None:
-                    said.append(f"{path}: {name}: {m.group(0)}")
+            elif word in above and k < len(fields):
+                if fields[k] in WORDS:
+                    changed = [WORDS[fields[k]]] + fields[k + 1 :]
                 else:
-                    new = ".".join([word] + changed)
-                if bound and place:
-                    known[bound.group(1)] = place
-                elif bound and changed:
+                    changed, _ = it.path(place, fields[k:])
+                if above[word] == ["start"] and word != root:
+                    changed = changed if fields[k] not in ("result", "loop") else fields[k:]
+                new = ".".join([root] + changed)
+                if bound:
                     bare[bound.group(1)] = changed[0] if len(changed) == 1 else ""
+            elif word in above:
+                before = re.search(r"([^\s(){};,.]+) $", text[: m.start()])
+                target = helpers.get(before.group(1), (None, None))[0] if before else None
+                if target in list(it.above(place)):
+                    new = ".".join([root] + ["before"] * it.count(place, target))
+                elif above[word] == ["start"]:
+                    pass
+                else:
+                    changed, _ = it.path(place, above[word] + fields)
+                    if changed is not None:
+                        new = ".".join([root] + changed)
+                    if bound:
+                        new = m.group(0)
             elif word in bare:
-                new = ".".join([word] + it.by_name(bare[word], fields))
+                new = ".".join([word] + it.by_name(bare[word], [WORDS.get(fields[0], fields[0])] + fields[1:] if fields else fields))
             elif fields:
-                # a variable whose place is not known
-                for k, f in enumerate(fields):
-                    if f == "before":
-                        continue
-                    if f == "pre":
-                        fields[k] = "requires"
-                    elif norm(f) in it.any and f not in GENERIC and (k == 0 or fields[k - 1] != "args"):
-                        fields[k] = it.any[norm(f)]
-                    break
-                new = ".".join([word] + fields)
+                new = ".".join([word] + renamed(fields, it))
             if not fields and word in labels:
                 new = labels[word]
             elif not fields and word in own and ("-" in word or re.search(r"[a-z][A-Z]", word)) and not word.endswith("-spec"):
@@ -269,7 +322,13 @@ def block(text, it, labels, own, function, path, said):
         if new != m.group(0):
             out.append(text[at : m.start()] + new)
             at = m.end()
-    return "".join(out) + text[at:]
+    text = "".join(out) + text[at:]
+    # a `let` that nothing reads any more
+    for word in reversed([w for w in above if w != root]):
+        uses = re.findall(rf'(?<![^\s(){{}};,"«»]){re.escape(word)}(?![^\s(){{}}.;,@"«»])', text)
+        if len(uses) == 1:
+            text = re.sub(rf"\n?[ ]*let {re.escape(word)} = [^\n]*? in(?=\n)", "", text, count=1) if re.search(rf"let {re.escape(word)} = [^\n]*? in\n", text) else re.sub(rf"let {re.escape(word)} = [^\n()]*? in ", "", text, count=1)
+    return text
 
 
 def main():

@@ -31,10 +31,10 @@ slice_bounds-entries_in-end-2 c = search rules
 
 entries_in-requires : tie.Need-entries_in-requires
 entries_in-requires c κs =
-    let h = c.before.before.before.before in
-    let s = c.before.before.before.before.before.before.before.before.before.before in
-    let n = length_stored h.headed.new.dst s.args.tail.now in
-    ((omega arith, omega (arith, n, h.headed.auto.dst), omega (arith, n, h.headed.auto.dst, s.requires, tail_length s.args.tail.now, c.if-k-gt-MOST_LATER.false)), search rules)
+    let c.before.before.before.before = c.before.before.before.before in
+    let c.before.before.before.before.before.before.before.before.before.before = c.before.before.before.before.before.before.before.before.before.before in
+    let n = length_stored c.headed.new.dst c.args.tail.now in
+    ((omega arith, omega (arith, n, c.headed.auto.dst), omega (arith, n, c.headed.auto.dst, c.requires, tail_length c.args.tail.now, c.if-k-gt-MOST_LATER.false)), search rules)
 
 shape_of-bits : tie.Need-shape_of-bits
 shape_of-bits c = search rules
@@ -42,9 +42,9 @@ shape_of-bits c = search rules
 returns : tie.Need-returns
 unfolding fresh_words
 returns c =
-    let h = c.before.before.before.before.before.before.before.before in
-    let s = c.before.before.before.before.before.before.before.before.before.before.before.before.before.before in
-    tail_right s.args.tail.now c.if-k-gt-MOST_LATER.false h.headed.new.dst _ h.headed.ensures refl _ _ c.entries_in.ensures
+    let c.before.before.before.before.before.before.before.before = c.before.before.before.before.before.before.before.before in
+    let c.before.before.before.before.before.before.before.before.before.before.before.before.before.before = c.before.before.before.before.before.before.before.before.before.before.before.before.before.before in
+    tail_right c.args.tail.now c.if-k-gt-MOST_LATER.false c.headed.new.dst _ c.headed.ensures refl _ _ c.entries_in.ensures
 
 pub verify_tail_spec : {M : Type 1} → statement M
 verify_tail_spec =
