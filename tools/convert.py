@@ -259,6 +259,8 @@ def block(text, it, labels, own, function, path, said, helpers):
         line = text[text.rfind("\n", 0, m.start()) + 1 : m.start()]
         if re.match(r"\s*(pub )?use ", line) or re.search(r"(^|\s)--(\s|$)", line):
             continue
+        if line.endswith("let "):
+            continue
         if m.group(3):
             new = "." + ".".join(renamed(m.group(3)[1:].split("."), it))
         else:

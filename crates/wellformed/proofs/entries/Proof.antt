@@ -16,10 +16,10 @@ slice_bounds-run-end : tie.Need-slice_bounds-run-end
 slice_bounds-run-end c = search rules
 
 slice_bounds-run-end-2 : tie.Need-slice_bounds-run-end-2
-slice_bounds-run-end-2 c = let c.before.before.before.before.before.before.before.before = c.before.before.before.before.before.before.before.before.before in sym (length-take-le _ c.args.words.now c.requires.1)
+slice_bounds-run-end-2 c = sym (length-take-le _ c.args.words.now c.requires.1)
 
 run-r-requires : tie.Need-run-r-requires
-run-r-requires c κs = let c.before.before.before.before.before.before.before.before = c.before.before.before.before.before.before.before.before.before in let c.before.before.before.before.before = c.before.before.before.before.before in let n = length_stored c.args.words.now [] in (
+run-r-requires c κs = let n = length_stored c.args.words.now [] in (
   (omega (arith, n, c.requires.1), omega (arith, n, c.requires.2, c.clear.auto.bits)),
   (plain_window _ _ c.requires.0 c.requires.1, (plain_some _ _ c.requires.0 c.requires.1, plain_begin _ _ c.requires.0 c.requires.1 _ c.clear.ensures)),
 )
@@ -34,13 +34,13 @@ shape_of-bits-in-At : tie.Need-shape_of-bits-in-At
 shape_of-bits-in-At c = search rules
 
 returns-in-At : tie.Need-returns-in-At
-returns-in-At c = let c.before.before.before.before.before.before.before.before.before.before.before.before.before = c.before.before.before.before.before.before.before.before.before.before.before.before.before.before.before in plain_at _ _ c.requires.0 c.requires.1 _ _ c.run-r.ensures _ c.in-At.is
+returns-in-At c = plain_at _ _ c.requires.0 c.requires.1 _ _ c.run-r.ensures _ c.in-At.is
 
 shape_of-bits-in-Fault : tie.Need-shape_of-bits-in-Fault
 shape_of-bits-in-Fault c = search rules
 
 returns-in-Fault : tie.Need-returns-in-Fault
-returns-in-Fault c = let c.before.before.before.before.before.before.before.before.before.before.before.before = c.before.before.before.before.before.before.before.before.before.before.before.before.before.before in plain_bad _ _ c.requires.0 c.requires.1 _ _ c.run-r.ensures c.in-Fault.is
+returns-in-Fault c = plain_bad _ _ c.requires.0 c.requires.1 _ _ c.run-r.ensures c.in-Fault.is
 
 pub entries_spec : {M : Type 1} → statement M
 entries_spec =

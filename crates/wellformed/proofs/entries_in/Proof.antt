@@ -43,16 +43,16 @@ smaller-m-requires : tie.Need-smaller-m-requires invariant-loop-at decreases-loo
 smaller-m-requires c κs = search rules
 
 gather-requires : tie.Need-gather-requires invariant-loop-at decreases-loop-at
-gather-requires c κs = let c.before.before.before = c.before.before.before in (omega (arith, c.smaller-m.ensures, c.loop-at-test.true, c.requires.0.1), omega (arith, c.smaller-m.ensures))
+gather-requires c κs = (omega (arith, c.smaller-m.ensures, c.loop-at-test.true, c.requires.0.1), omega (arith, c.smaller-m.ensures))
 
 slice_bounds-run-end : tie.Need-slice_bounds-run-end invariant-loop-at decreases-loop-at
 slice_bounds-run-end c = omega (arith, c.smaller-m.ensures, c.gather.auto.tail.1.1.1.0)
 
 slice_bounds-run-end-in-loop-at : tie.Need-slice_bounds-run-end-in-loop-at invariant-loop-at decreases-loop-at
-slice_bounds-run-end-in-loop-at c = let c.before.before.before.before = c.before.before.before.before in sym (length-take-le _ c.gather.new.tail.1.1.1.0 (omega (arith, c.smaller-m.ensures, c.gather.auto.tail.1.1.1.0)))
+slice_bounds-run-end-in-loop-at c = sym (length-take-le _ c.gather.new.tail.1.1.1.0 (omega (arith, c.smaller-m.ensures, c.gather.auto.tail.1.1.1.0)))
 
 run-r-requires : tie.Need-run-r-requires invariant-loop-at decreases-loop-at
-run-r-requires c κs = let c.before.before.before.before = c.before.before.before.before in let c.before.before.before.before.before.before.before.before = c.before.before.before.before.before.before.before.before in (
+run-r-requires c κs = (
   (c.requires.0.1, omega (arith, c.requires.0.2, len c.before.before.before.before.before.before.before)),
   (copy_window _ _ _ c.smaller-m.result c.requires.0.1 c.loop-at-test.true (low c.before.before.before.before.before) _ _ c.gather.ensures, (omega arith, from_zero _ _ _ _ c.loop-at.invariant.2)),
 )
@@ -79,17 +79,17 @@ shape_of-room-then-i-eq0 : tie.Need-shape_of-room-then-i-eq0 invariant-loop-at d
 shape_of-room-then-i-eq0 c = search rules
 
 returns-then-i-eq0 : tie.Need-returns-then-i-eq0 invariant-loop-at decreases-loop-at
-returns-then-i-eq0 c = let c.before.before.before.before.before.before.before.before.before.before.before.before.before.before = c.before.before.before.before.before.before.before.before.before.before.before.before.before.before.before in
+returns-then-i-eq0 c =
     copied_long _ _ _ c.smaller-m.result c.requires.0.1 c.loop-at-test.true (low c.before.before.before.before.before.before.before.before.before.before.before) _ _ c.gather.ensures (length c.loop-at.room) _ _ (omega (arith, c.requires.1, c.loop-at.invariant.1)) c.smaller-m.ensures _ c.run-r.ensures c.in-At.is c.if-i-eq0.true
 
 overflow_add-at : tie.Need-overflow_add-at invariant-loop-at decreases-loop-at
-overflow_add-at c = let c.before.before.before.before.before.before.before.before.before.before.before.before.before.before = c.before.before.before.before.before.before.before.before.before.before.before.before.before.before.before in let q = run_at _ _ _ _ _ _ c.run-r.ensures _ c.in-At.is in record { fits = omega (arith, q.0.within, c.requires.0.1, length_stored c.args.words.now c.args.tail.now) }
+overflow_add-at c = let q = run_at _ _ _ _ _ _ c.run-r.ensures _ c.in-At.is in record { fits = omega (arith, q.0.within, c.requires.0.1, length_stored c.args.words.now c.args.tail.now) }
 
 loop-at-smaller : tie.Need-loop-at-smaller invariant-loop-at decreases-loop-at
 loop-at-smaller c = let q = run_at _ _ _ _ _ _ c.run-r.ensures _ c.in-At.is in omega (arith, q.0.within, c.if-i-eq0.false, c.loop-at-test.true)
 
 loop-at-preserved : tie.Need-loop-at-preserved invariant-loop-at decreases-loop-at
-loop-at-preserved c = let c.before.before.before.before.before.before.before.before.before.before.before.before.before.before = c.before.before.before.before.before.before.before.before.before.before.before.before.before.before.before in
+loop-at-preserved c =
     (c.run-r.auto.tail.1.1.0 ∙ c.loop-at.invariant.0, c.gather.auto.tail.1.1.1.0 ∙ c.loop-at.invariant.1, (run_at _ _ _ _ _ _ c.run-r.ensures _ c.in-At.is).0)
 
 shape_of-bits : tie.Need-shape_of-bits invariant-loop-at decreases-loop-at

@@ -79,10 +79,6 @@ loop-j-smaller c = search rules
 
 loop-j-preserved : tie.Need-loop-j-preserved invariant-loop-j decreases-loop-j
 loop-j-preserved c =
-    let c.before.before.before = c.before.before.before.before in
-    let c.before.before.before.before.before = p.before.before in
-    let c.before.before.before.before.before.before.before.before = v.before.before.before in
-    let c.before.before.before.before.before.before.before.before.before.before.before = h.before.before.before in
     (search rules, good_field _ _ _ _ _ _ c.loop-j.invariant.1 c.loop-j-test.true _ c.head_at-name.ensures c.if-name-ne-NAME.false c.if-e-i-gt-LARGEST_FLAGS.false _ c.part-t.ensures _ _ c.in-Of.is c.larger-d.ensures)
 
 returns : tie.Need-returns invariant-loop-j decreases-loop-j

@@ -91,7 +91,6 @@ loop-j-smaller c = search rules
 
 loop-j-preserved : tie.Need-loop-j-preserved invariant-loop-j decreases-loop-j
 loop-j-preserved c =
-    let c.before.before.before.before.before.before.before = c.before.before.before.before.before.before.before.before in
     (search rules, good_field _ _ _ _ _ _ c.loop-j.invariant.1 c.loop-j-test.true _ c.near_head-name.ensures c.if-name-ne-NAME.false c.if-e-i-gt-LARGEST_FLAGS.false _ c.near_type-t.ensures _ _ c.in-Of.is c.larger-d.ensures)
 
 returns : tie.Need-returns invariant-loop-j decreases-loop-j

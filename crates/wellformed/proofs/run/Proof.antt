@@ -67,7 +67,7 @@ onward : (ws bits : List ℕ) (used base i n : ℕ) → Passed ws used bits (bas
 onward ws bits used base i n p = let e : base + (i + n) ≡ base + i + n = omega arith in rw e p
 
 loop-i-init : tie.Need-loop-i-init invariant-loop-i decreases-loop-i
-loop-i-init c = let c.before.before.before.before = c.before.before.before.before in (refl, c.requires.1.1.0, c.requires.1.1.1)
+loop-i-init c = (refl, c.requires.1.1.0, c.requires.1.1.1)
 
 offset_bounds-window-i : tie.Need-offset_bounds-window-i invariant-loop-i decreases-loop-i
 offset_bounds-window-i c = search rules
@@ -85,7 +85,7 @@ shape_of-bits-then-n-window : tie.Need-shape_of-bits-then-n-window invariant-loo
 shape_of-bits-then-n-window c = search rules
 
 returns-then-n-window : tie.Need-returns-then-n-window invariant-loop-i decreases-loop-i
-returns-then-n-window c = let c.before = c.before in stops _ _ _ _ (start c.before.before.before.before).requires.1.0 _ _ (here c.before) c.size-n.ensures _ c.loop.inv.2 c.if-n-window.true
+returns-then-n-window c = stops _ _ _ _ (start c.before.before.before.before).requires.1.0 _ _ (here c.before) c.size-n.ensures _ c.loop.inv.2 c.if-n-window.true
 
 overflow_add-i : tie.Need-overflow_add-i invariant-loop-i decreases-loop-i
 overflow_add-i c = search rules
@@ -103,30 +103,30 @@ slice_bounds-entry-end : tie.Need-slice_bounds-entry-end invariant-loop-i decrea
 slice_bounds-entry-end c = search rules
 
 entry-requires : tie.Need-entry-requires invariant-loop-i decreases-loop-i
-entry-requires c κs = let c.before.before.before = c.before.before.before in
+entry-requires c κs =
     (record { room = room c.before.before.before.before.before; inside = λ h e. below _ _ _ (c.loop.inv.2.marks h e) (start c.before.before.before.before.before).requires.0.0 }, lent_sized _ _ _ _ (start c.before.before.before.before.before).requires.1.0 _ _ (here c.before.before) c.size-n.ensures c.if-n-window.false)
 
 shape_of-bits-then-not-entry : tie.Need-shape_of-bits-then-not-entry invariant-loop-i decreases-loop-i
 shape_of-bits-then-not-entry c = search rules
 
 returns-then-not-entry : tie.Need-returns-then-not-entry invariant-loop-i decreases-loop-i
-returns-then-not-entry c = let c.before.before.before.before = c.before.before.before.before in let c.before.before.before.before.before = x.before in
+returns-then-not-entry c =
     goes_bad _ _ _ _ _ (bad_entry _ _ _ _ _ (start c.before.before.before.before.before.before.before).requires.0.0 c.loop.inv.2 (used_here c.before.before.before.before) (sized c.before.before.before.before) (ends_here c.before.before.before.before c.if-n-window.false) _ (c.initial.ensures ∙ ap (ok_entry (heads c.before.before.before.before.before.before.before)) (lent_here c.before.before.before.before c.if-n-window.false)) c.if-not-entry.true)
 
 overflow_add-base : tie.Need-overflow_add-base invariant-loop-i decreases-loop-i
-overflow_add-base c = let c.before.before.before.before.before.before = c.before.before.before.before.before.before in record { fits = omega (arith, used_here c.before.before.before.before.before, c.requires.0.0, length_stored c.args.words.now c.args.tail.now) }
+overflow_add-base c = record { fits = omega (arith, used_here c.before.before.before.before.before, c.requires.0.0, length_stored c.args.words.now c.args.tail.now) }
 
 mark-requires : tie.Need-mark-requires invariant-loop-i decreases-loop-i
-mark-requires c κs = let c.before.before.before.before.before.before = c.before.before.before.before.before.before in omega (arith, room c.before.before.before.before.before.before.before.before, used_here c.before.before.before.before.before, (start c.before.before.before.before.before.before.before.before).requires.0.0)
+mark-requires c κs = omega (arith, room c.before.before.before.before.before.before.before.before, used_here c.before.before.before.before.before, (start c.before.before.before.before.before.before.before.before).requires.0.0)
 
 overflow_add-i-in-loop-i : tie.Need-overflow_add-i-in-loop-i invariant-loop-i decreases-loop-i
 overflow_add-i-in-loop-i c = search rules
 
 loop-i-smaller : tie.Need-loop-i-smaller invariant-loop-i decreases-loop-i
-loop-i-smaller c = let c.before.before.before.before.before.before.before.before.before = c.before.before.before.before.before.before.before.before.before in omega (arith, size_pos (get_or (start (head c.before.before.before.before.before.before.before.before)).args.window.now (head c.before.before.before.before.before.before.before.before).loop-i.i 0), c.size-n.ensures, here c.before.before.before.before.before.before.before.before)
+loop-i-smaller c = omega (arith, size_pos (get_or (start (head c.before.before.before.before.before.before.before.before)).args.window.now (head c.before.before.before.before.before.before.before.before).loop-i.i 0), c.size-n.ensures, here c.before.before.before.before.before.before.before.before)
 
 loop-i-preserved : tie.Need-loop-i-preserved invariant-loop-i decreases-loop-i
-loop-i-preserved c = let c.before.before = c.before.before in let c.before.before.before.before = m.before.before in let c.before.before.before.before.before = t.before in let c.before.before.before.before.before.before.before.before = e.before.before.before in let c.before.before.before.before.before.before.before.before.before = x.before in (
+loop-i-preserved c = (
   c.mark.auto.bits ∙ c.loop.inv.0,
   omega (arith, c.if-n-window.false, here c.before.before.before.before.before.before.before.before),
   onward _ _ _ _ _ _ (good_entry _ _ _ _ _ (start c.before.before.before.before.before.before.before.before.before.before.before).requires.0.0 c.loop.inv.2 (used_here c.before.before.before.before.before.before.before.before) (sized c.before.before.before.before.before.before.before.before) (ends_here c.before.before.before.before.before.before.before.before c.if-n-window.false) _ (c.initial.ensures ∙ ap (ok_entry (heads c.before.before.before.before.before.before.before.before.before.before.before)) (lent_here c.before.before.before.before.before.before.before.before c.if-n-window.false)) c.if-not-entry.false _ c.mark.ensures),
@@ -136,7 +136,7 @@ shape_of-bits : tie.Need-shape_of-bits invariant-loop-i decreases-loop-i
 shape_of-bits c = search rules
 
 returns : tie.Need-returns invariant-loop-i decreases-loop-i
-returns c = let c.before = c.before in goes_end _ _ _ _ _ _ c.loop-i.invariant.2 c.loop-i.invariant.1 c.loop-i-test.false
+returns c = goes_end _ _ _ _ _ _ c.loop-i.invariant.2 c.loop-i.invariant.1 c.loop-i-test.false
 
 pub run_spec : {M : Type 1} → statement M
 run_spec =

@@ -31,8 +31,6 @@ slice_bounds-entries_in-end-2 c = search rules
 
 entries_in-requires : tie.Need-entries_in-requires
 entries_in-requires c κs =
-    let c.before.before.before.before = c.before.before.before.before in
-    let c.before.before.before.before.before.before.before.before.before.before = c.before.before.before.before.before.before.before.before.before.before in
     let n = length_stored c.headed.new.dst c.args.tail.now in
     ((omega arith, omega (arith, n, c.headed.auto.dst), omega (arith, n, c.headed.auto.dst, c.requires, tail_length c.args.tail.now, c.if-k-gt-MOST_LATER.false)), search rules)
 
@@ -42,8 +40,6 @@ shape_of-bits c = search rules
 returns : tie.Need-returns
 unfolding fresh_words
 returns c =
-    let c.before.before.before.before.before.before.before.before = c.before.before.before.before.before.before.before.before in
-    let c.before.before.before.before.before.before.before.before.before.before.before.before.before.before = c.before.before.before.before.before.before.before.before.before.before.before.before.before.before in
     tail_right c.args.tail.now c.if-k-gt-MOST_LATER.false c.headed.new.dst _ c.headed.ensures refl _ _ c.entries_in.ensures
 
 pub verify_tail_spec : {M : Type 1} → statement M
