@@ -26,24 +26,6 @@ GENERIC = set("args requires ensures before result new old now invariant true fa
 HEAD = re.compile(r"^(?:pub |abbrev |unfoldable )*([^\s:(){}]+) : ", re.M)
 
 
-def references(root):
-    """The reference parameters of each function of the repository, by crate and name, in order."""
-    found = {}
-    for folder, below, names in os.walk(os.path.join(root, "crates")):
-        below[:] = [b for b in below if b != "out"]
-        for file in names:
-            if file.endswith(".rt"):
-                with open(os.path.join(folder, file), encoding="utf-8") as f:
-                    text = f.read()
-                crate = os.path.relpath(folder, os.path.join(root, "crates")).split(os.sep)[0]
-                for m in re.finditer(r"\bfn (\w+)(?:<[^>]*>)?\(([^{]*?)\)(?=\s*(?:->|requires|ensures|where|\{))", text, re.S):
-                    found[crate, m.group(1)] = re.findall(r"(\w+):\s*&", m.group(2))
-    return found
-
-
-REFS = references(os.path.join(os.path.dirname(os.path.abspath(__file__)), ".."))
-
-
 class Function:
     """What names.json says of one function: its goals, places, steps and loops, by their old names."""
 
@@ -62,8 +44,7 @@ class Function:
                 self.step[name] = (norm(place[2][0]), place[2][1])
                 self.any.setdefault(norm(place[2][0]), place[2][1])
                 if place[3]:
-                    steps = place[3].split("::")
-                    self.callee[place[2][1]] = REFS.get((steps[0], steps[-1]), [])
+                    self.callee[place[2][1]] = d.get("params", {}).get(place[3], [])
             arm = d["arms"][i] if i < len(d.get("arms", [])) else None
             if arm:
                 self.arm[name] = arm
@@ -83,8 +64,12 @@ class Function:
     def by_name(self, step, fields):
         """The fields behind a step, where a number stood for a reference that was passed."""
         refs = self.callee.get(step)
-        if refs and len(fields) > 1 and fields[0] in ("new", "auto") and fields[1].isdigit() and int(fields[1]) < len(refs):
-            return [fields[0], refs[int(fields[1])]] + fields[3 if len(fields) > 2 and fields[2] == "0" else 2 :]
+        if refs and len(fields) > 1 and fields[0] in ("new", "auto", "last", "kept"):
+            k = 1
+            while k < len(fields) and fields[k] == "1":
+                k += 1
+            if k < len(fields) and fields[k] == "0" and k - 1 < len(refs):
+                return [WORDS.get(fields[0], fields[0]), refs[k - 1]] + fields[k + 1 :]
         return fields
 
     def count(self, place, target):
@@ -185,9 +170,46 @@ def convert(path, d, crate, function, said):
     for a, b in zip(cuts, cuts[1:]):
         out.append(block(text[a:b], it, labels, own, function, path, said, helpers))
     result = "".join(out)
+    result = goals(result, aliases, said, path, function)
     result = re.sub(r"(?m)^(use \S+ as )(\S+)$", lambda m: m.group(1) + (m.group(2).replace("-", "_") if m.group(2) in aliases else m.group(2)), result)
     with open(path, "w", encoding="utf-8") as f:
         f.write(result)
+
+
+def goals(text, aliases, said, path, function):
+    """Takes out the goals that are no longer asked, and adds those that are new."""
+    for alias, it in aliases.items():
+        asked = list(it.needs.values())
+        has = {}
+        for m in list(re.finditer(rf"^(?:pub )?(\S+) : {re.escape(alias)}\.Need-([^\s()]+)([^\n]*)\n", text, re.M)):
+            has[m.group(2)] = (m.group(1), m.group(3))
+        if not has:
+            continue
+        for goal, (label, rest) in has.items():
+            if goal not in asked:
+                said.append(f"{path}: no longer asked: {goal}")
+                text = re.sub(rf"(?ms)^{re.escape(label)} : .*?(?=^\S[^\n]* : |\Z)", "", text, count=1)
+                text = re.sub(rf"(?m)^ +{re.escape(label)}(?=\)*$)\n?", lambda m: "", text) if not re.search(rf"(?m)^ +{re.escape(label)}\)", text) else text
+        missing = [g for g in asked if g not in has]
+        for goal in missing:
+            at = asked.index(goal)
+            rest = next(iter(has.values()))[1]
+            prefix = "" if not function.startswith("+") else next(iter(has.values()))[0].rsplit(next(iter(has)), 1)[0]
+            label = prefix + goal
+            args = " c κs" if goal.endswith("requires") or "-requires-" in goal else " c"
+            said.append(f"{path}: newly asked: {goal}")
+            end = re.search(r"(?m)^pub \S*spec : ", text)
+            if not end:
+                continue
+            text = text[: end.start()] + f"{label} : {alias}.Need-{goal}{rest}\n{label}{args} = search rules\n\n" + text[end.start() :]
+            before = [has[g][0] for g in asked[:at] if g in has]
+            after = [has[g][0] for g in asked[at + 1 :] if g in has]
+            if before:
+                text = re.sub(rf"(?m)^( +){re.escape(before[-1])}(\)*)$", lambda m: m.group(1) + before[-1] + "\n" + m.group(1) + label + m.group(2), text, count=1)
+            elif after:
+                text = re.sub(rf"(?m)^( +){re.escape(after[0])}(\)*)$", lambda m: m.group(1) + label + "\n" + m.group(1) + after[0] + m.group(2), text, count=1)
+            has[goal] = (label, rest)
+    return text
 
 
 FIELDS = r'(?:\.[^\s(){}.;,@"«»]+)*'
@@ -291,8 +313,6 @@ def block(text, it, labels, own, function, path, said, helpers):
                     changed = [WORDS[fields[k]]] + fields[k + 1 :]
                 else:
                     changed, _ = it.path(place, fields[k:])
-                if above[word] == ["start"] and word != root:
-                    changed = changed if fields[k] not in ("result", "loop") else fields[k:]
                 new = ".".join([root] + changed)
                 if bound:
                     bare[bound.group(1)] = changed[0] if len(changed) == 1 else ""

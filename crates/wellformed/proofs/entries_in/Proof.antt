@@ -46,10 +46,10 @@ gather-requires : tie.Need-gather-requires invariant-loop-at decreases-loop-at
 gather-requires c κs = (omega (arith, c.smaller-m.ensures, c.loop-at-test.true, c.requires.0.1), omega (arith, c.smaller-m.ensures))
 
 slice_bounds-run-end : tie.Need-slice_bounds-run-end invariant-loop-at decreases-loop-at
-slice_bounds-run-end c = omega (arith, c.smaller-m.ensures, c.gather.auto.tail.1.1.1.0)
+slice_bounds-run-end c = omega (arith, c.smaller-m.ensures, c.gather.auto.e)
 
 slice_bounds-run-end-in-loop-at : tie.Need-slice_bounds-run-end-in-loop-at invariant-loop-at decreases-loop-at
-slice_bounds-run-end-in-loop-at c = sym (length-take-le _ c.gather.new.tail.1.1.1.0 (omega (arith, c.smaller-m.ensures, c.gather.auto.tail.1.1.1.0)))
+slice_bounds-run-end-in-loop-at c = sym (length-take-le _ c.gather.new.e (omega (arith, c.smaller-m.ensures, c.gather.auto.e)))
 
 run-r-requires : tie.Need-run-r-requires invariant-loop-at decreases-loop-at
 run-r-requires c κs = (
@@ -90,7 +90,7 @@ loop-at-smaller c = let q = run_at _ _ _ _ _ _ c.run-r.ensures _ c.in-At.is in o
 
 loop-at-preserved : tie.Need-loop-at-preserved invariant-loop-at decreases-loop-at
 loop-at-preserved c =
-    (c.run-r.auto.tail.1.1.0 ∙ c.loop-at.invariant.0, c.gather.auto.tail.1.1.1.0 ∙ c.loop-at.invariant.1, (run_at _ _ _ _ _ _ c.run-r.ensures _ c.in-At.is).0)
+    (c.run-r.auto.bits ∙ c.loop-at.invariant.0, c.gather.auto.e ∙ c.loop-at.invariant.1, (run_at _ _ _ _ _ _ c.run-r.ensures _ c.in-At.is).0)
 
 shape_of-bits : tie.Need-shape_of-bits invariant-loop-at decreases-loop-at
 shape_of-bits c = search rules

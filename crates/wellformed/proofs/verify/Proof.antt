@@ -20,9 +20,6 @@ slice_bounds-same-start c = search rules
 slice_bounds-same-end : tie.Need-slice_bounds-same-end
 slice_bounds-same-end c = search rules
 
-slice_aggregate_same : tie.Need-slice-aggregate-same
-slice_aggregate_same c = search rules
-
 same-requires : tie.Need-same-requires
 same-requires c κs = search rules
 
@@ -79,7 +76,6 @@ verify_spec =
     slice_bounds-same-count
     slice_bounds-same-start
     slice_bounds-same-end
-    slice_aggregate_same
     same-requires
     returns-then-not-same
     bounds-words-0

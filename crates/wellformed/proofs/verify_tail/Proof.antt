@@ -17,9 +17,6 @@ overflow_add-used c = search rules
 slice_bounds-headed-end : tie.Need-slice_bounds-headed-end
 slice_bounds-headed-end c = search rules
 
-slice_aggregate_headed_2 : tie.Need-slice-aggregate-headed-2
-slice_aggregate_headed_2 c = search rules
-
 headed-requires : tie.Need-headed-requires
 headed-requires c κs = search rules
 
@@ -49,7 +46,6 @@ verify_tail_spec =
     returns-then-k-gt-MOST_LATER
     overflow_add-used
     slice_bounds-headed-end
-    slice_aggregate_headed_2
     headed-requires
     slice_bounds-entries_in-end
     slice_bounds-entries_in-end-2
