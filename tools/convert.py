@@ -76,12 +76,12 @@ class Function:
         """How many `before`s lead from a place to one above it."""
         n, p = 0, place
         while p and p != target:
-            # a place that is merged with the one above it is one record
-            if not (p in self.merged):
-                n += 1
-            elif self.parent.get(p) == target:
-                break
-            p = self.parent.get(p)
+            n += 1
+            # an arm's record takes in as many places as it is deep
+            for _ in range(self.arm[p][1] if p in self.arm else 1):
+                p = self.parent.get(p)
+                if p == target or p is None:
+                    break
         return n
 
     def path(self, place, fields):
@@ -89,6 +89,8 @@ class Function:
         changed, at = self.raw_path(place, fields)
         if changed and at is None:
             changed = changed[:1] + self.by_name(changed[0], changed[1:])
+            if len(changed) > 1 and changed[1] in WORDS and changed[0] not in ("args", "result", "new"):
+                changed[1] = WORDS[changed[1]]
         return changed, at
 
     def raw_path(self, place, fields):
@@ -101,37 +103,22 @@ class Function:
                 k += 1
             if k == len(fields):
                 # there the function's start was meant
-                n, p, last = 0, place, place
-                while p:
-                    if p not in self.merged:
-                        n += 1
-                    last, p = p, self.parent.get(p)
-                return ["before"] * (n - 1), last
+                last = list(self.above(place))[-1]
+                return ["before"] * self.count(place, last), last
             here = place
         if k == len(fields):
-            n, p = 0, place
-            while p != here and p:
-                # a place that is merged with the one above it is one record
-                if not (p in self.merged):
-                    n += 1
-                elif self.parent.get(p) == here:
-                    break
-                p = self.parent.get(p)
+            n = self.count(place, here)
             return ["before"] * n, here
         rest = fields[k:]
         chain = list(self.above(place))
         # an older Rattle had more places: where the step is not found above, the nearest below is meant
         for p in list(self.above(here)) + chain:
             step = self.step.get(p)
-            # an arm that took two places in: its own step and that of the place above it
-            owner = p
-            for q in [p] + [c for c in chain if self.parent.get(c) == p and c in self.merged]:
-                if q in self.arm:
-                    name, depth, ways = self.arm[q]
-                    for to, old, tail in sorted(ways, key=lambda w: -len(w[2])):
-                        if norm(old) == norm(rest[0]) and (q == p or depth == 2) and [norm(t) for t in tail] == [norm(t) for t in rest[1 : 1 + len(tail)]]:
-                            if step and norm(rest[0]) == step[0] or q in self.arm and norm(self.step.get(q, ("",))[0]) == norm(rest[0]):
-                                return [name, to] + rest[1 + len(tail) :], None
+            if p in self.arm:
+                name, _, ways = self.arm[p]
+                for to, old, tail in sorted(ways, key=lambda w: -len(w[2])):
+                    if norm(old) == norm(rest[0]) and [norm(t) for t in tail] == [norm(t) for t in rest[1 : 1 + len(tail)]]:
+                        return [name, to] + rest[1 + len(tail) :], None
             if step and step[0] == norm(rest[0]):
                 return [step[1]] + rest[1:], None
         if norm(rest[0]) == "pre":

@@ -80,7 +80,7 @@ shape_of-room-then-i-eq0 c = search rules
 
 returns-then-i-eq0 : tie.Need-returns-then-i-eq0 invariant-loop-at decreases-loop-at
 returns-then-i-eq0 c =
-    copied_long _ _ _ c.smaller-m.result c.requires.0.1 c.loop-at-test.true (low c.before.before.before.before.before.before.before.before.before.before.before) _ _ c.gather.ensures (length c.loop-at.room) _ _ (omega (arith, c.requires.1, c.loop-at.invariant.1)) c.smaller-m.ensures _ c.run-r.ensures c.in-At.is c.if-i-eq0.true
+    copied_long _ _ _ c.smaller-m.result c.requires.0.1 c.loop-at-test.true (low c.before.before.before.before.before.before.before.before.before.before) _ _ c.gather.ensures (length c.loop-at.room) _ _ (omega (arith, c.requires.1, c.loop-at.invariant.1)) c.smaller-m.ensures _ c.run-r.ensures c.in-At.is c.if-i-eq0.true
 
 overflow_add-at : tie.Need-overflow_add-at invariant-loop-at decreases-loop-at
 overflow_add-at c = let q = run_at _ _ _ _ _ _ c.run-r.ensures _ c.in-At.is in record { fits = omega (arith, q.0.within, c.requires.0.1, length_stored c.args.words.now c.args.tail.now) }

@@ -85,7 +85,7 @@ shape_of-bits-then-n-window : tie.Need-shape_of-bits-then-n-window invariant-loo
 shape_of-bits-then-n-window c = search rules
 
 returns-then-n-window : tie.Need-returns-then-n-window invariant-loop-i decreases-loop-i
-returns-then-n-window c = stops _ _ _ _ (start c.before.before.before.before).requires.1.0 _ _ (here c.before) c.size-n.ensures _ c.loop-i.inv.2 c.if-n-window.true
+returns-then-n-window c = stops _ _ _ _ (start c.before.before.before.before).requires.1.0 _ _ (here c.before) c.size-n.ensures _ c.loop-i.invariant.2 c.if-n-window.true
 
 overflow_add-i : tie.Need-overflow_add-i invariant-loop-i decreases-loop-i
 overflow_add-i c = search rules
@@ -104,14 +104,14 @@ slice_bounds-entry-end c = search rules
 
 entry-requires : tie.Need-entry-requires invariant-loop-i decreases-loop-i
 entry-requires c κs =
-    (record { room = room c.before.before.before.before.before; inside = λ h e. below _ _ _ (c.loop-i.inv.2.marks h e) (start c.before.before.before.before.before).requires.0.0 }, lent_sized _ _ _ _ (start c.before.before.before.before.before).requires.1.0 _ _ (here c.before.before) c.size-n.ensures c.if-n-window.false)
+    (record { room = room c.before.before.before.before.before; inside = λ h e. below _ _ _ (c.loop-i.invariant.2.marks h e) (start c.before.before.before.before.before).requires.0.0 }, lent_sized _ _ _ _ (start c.before.before.before.before.before).requires.1.0 _ _ (here c.before.before) c.size-n.ensures c.if-n-window.false)
 
 shape_of-bits-then-not-entry : tie.Need-shape_of-bits-then-not-entry invariant-loop-i decreases-loop-i
 shape_of-bits-then-not-entry c = search rules
 
 returns-then-not-entry : tie.Need-returns-then-not-entry invariant-loop-i decreases-loop-i
 returns-then-not-entry c =
-    goes_bad _ _ _ _ _ (bad_entry _ _ _ _ _ (start c.before.before.before.before.before.before.before).requires.0.0 c.loop-i.inv.2 (used_here c.before.before.before.before) (sized c.before.before.before.before) (ends_here c.before.before.before.before c.if-n-window.false) _ (c.initial.ensures ∙ ap (ok_entry (heads c.before.before.before.before.before.before.before)) (lent_here c.before.before.before.before c.if-n-window.false)) c.if-not-entry.true)
+    goes_bad _ _ _ _ _ (bad_entry _ _ _ _ _ (start c.before.before.before.before.before.before.before).requires.0.0 c.loop-i.invariant.2 (used_here c.before.before.before.before) (sized c.before.before.before.before) (ends_here c.before.before.before.before c.if-n-window.false) _ (c.initial.ensures ∙ ap (ok_entry (heads c.before.before.before.before.before.before.before)) (lent_here c.before.before.before.before c.if-n-window.false)) c.if-not-entry.true)
 
 overflow_add-base : tie.Need-overflow_add-base invariant-loop-i decreases-loop-i
 overflow_add-base c = record { fits = omega (arith, used_here c.before.before.before.before.before, c.requires.0.0, length_stored c.args.words.now c.args.tail.now) }
@@ -127,9 +127,9 @@ loop-i-smaller c = omega (arith, size_pos (get_or (start (head c.before.before.b
 
 loop-i-preserved : tie.Need-loop-i-preserved invariant-loop-i decreases-loop-i
 loop-i-preserved c = (
-  c.mark.auto.bits ∙ c.loop-i.inv.0,
+  c.mark.auto.bits ∙ c.loop-i.invariant.0,
   omega (arith, c.if-n-window.false, here c.before.before.before.before.before.before.before.before),
-  onward _ _ _ _ _ _ (good_entry _ _ _ _ _ (start c.before.before.before.before.before.before.before.before.before.before.before).requires.0.0 c.loop-i.inv.2 (used_here c.before.before.before.before.before.before.before.before) (sized c.before.before.before.before.before.before.before.before) (ends_here c.before.before.before.before.before.before.before.before c.if-n-window.false) _ (c.initial.ensures ∙ ap (ok_entry (heads c.before.before.before.before.before.before.before.before.before.before.before)) (lent_here c.before.before.before.before.before.before.before.before c.if-n-window.false)) c.if-not-entry.false _ c.mark.ensures),
+  onward _ _ _ _ _ _ (good_entry _ _ _ _ _ (start c.before.before.before.before.before.before.before.before.before.before.before).requires.0.0 c.loop-i.invariant.2 (used_here c.before.before.before.before.before.before.before.before) (sized c.before.before.before.before.before.before.before.before) (ends_here c.before.before.before.before.before.before.before.before c.if-n-window.false) _ (c.initial.ensures ∙ ap (ok_entry (heads c.before.before.before.before.before.before.before.before.before.before.before)) (lent_here c.before.before.before.before.before.before.before.before c.if-n-window.false)) c.if-not-entry.false _ c.mark.ensures),
 )
 
 shape_of-bits : tie.Need-shape_of-bits invariant-loop-i decreases-loop-i
