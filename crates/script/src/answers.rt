@@ -1,6 +1,8 @@
 // Answers as lines.
 ghost use Rattle.std.specs.Prelude.{◌+◌, ◌≤◌, length};
 
+use crate::slices::copy;
+
 // What a call answers, where it is short.
 #[derive(Clone, Copy)]
 pub enum Answer {
@@ -29,10 +31,10 @@ pub fn spell(answer: Answer, out: &mut [u8]) -> usize
         Answer::Number(n) => put_line(b"", n, out),
         Answer::Signed(w) => put_signed(b"=", b"=-", w, out),
         Answer::Refused(n) => put_line(b"-", wide(n), out),
-        Answer::Yes => bytes::copy(b"1\n", out),
-        Answer::No => bytes::copy(b"0\n", out),
-        Answer::Absent => bytes::copy(b"absent\n", out),
-        Answer::Accepted => bytes::copy(b"ok\n", out),
+        Answer::Yes => copy(b"1\n", out),
+        Answer::No => copy(b"0\n", out),
+        Answer::Absent => copy(b"absent\n", out),
+        Answer::Accepted => copy(b"ok\n", out),
         Answer::Constant(bits) => put_line(b"constant ", bits, out),
         Answer::Size(w) => put_signed(b"size =", b"size =-", w, out),
     }
@@ -56,7 +58,7 @@ fn put_line(before: &[u8], n: u64, out: &mut [u8]) -> usize
     requires in_bounds { 32 ≤ length out.old }
     ensures { result ≤ length out.new }
 {
-    bytes::copy(before, out);
+    copy(before, out);
     let end = put_number(n, out, before.len());
     out[end] = b'\n';
     end + 1
@@ -69,7 +71,7 @@ pub fn put_number(n: u64, out: &mut [u8], at: usize) -> usize
 {
     let mut digits = [0u8; 20];
     let k = io::decimal(n, &mut digits);
-    bytes::copy(&digits[..k], &mut out[at..]);
+    copy(&digits[..k], &mut out[at..]);
     at + k
 }
 

@@ -3,10 +3,12 @@
 
 mod answers;
 mod lines;
+mod slices;
 mod texts;
 mod values;
 
 pub use answers::{Answer, put_number, spell};
 pub use lines::{Count, cut, numbers, rest, skip, word_end};
+pub use slices::{copy, find};
 pub use texts::hex;
 pub use values::{Value, number};

@@ -2,6 +2,7 @@
 ghost use Rattle.std.specs.Prelude.{◌≤◌, length};
 ghost use Rattle.script.specs.Words.{Within};
 
+use crate::slices::find;
 use crate::texts::text;
 use crate::values::{Value, number};
 
@@ -16,7 +17,7 @@ pub enum Count {
 pub fn cut(line: &[u8]) -> usize
     ensures { result ≤ length line.now }
 {
-    let comment = bytes::scan::find(line, 0, line.len(), b';');
+    let comment = find(line, 0, line.len(), b';');
     if comment == line.len() {
         return comment;
     }
@@ -35,7 +36,7 @@ pub fn word_end(line: &[u8], from: usize) -> usize
     requires { from ≤ length line.now }
     ensures { (from ≤ result) × (result ≤ length line.now) }
 {
-    bytes::scan::find(line, from, line.len(), b' ')
+    find(line, from, line.len(), b' ')
 }
 
 // Where the k-th word after the one that ends at `end` ends, or the line's length where there are fewer.

@@ -8,22 +8,22 @@ use Rattle.script.proofs.answers.put_line.Tie as tie
 copy-requires : tie.Need-copy-requires
 copy-requires c κs = search rules
 
-put-number-requires : tie.Need-put-number-requires
-put-number-requires c κs = search rules
+put_number-end-requires : tie.Need-put_number-end-requires
+put_number-end-requires c κs = search rules
 
-slice-write-out : tie.Need-slice-write-out
-slice-write-out c = search rules
+bounds-out-end : tie.Need-bounds-out-end
+bounds-out-end c = search rules
 
-add-result : tie.Need-overflow-add-result
-add-result c = search rules
+overflow_add-result : tie.Need-overflow_add-result
+overflow_add-result c = search rules
 
-same_length : tie.Need-same-length
-same_length c = simp length-set (omega arith)
+shape_of-out : tie.Need-shape_of-out
+shape_of-out c = simp length-set (omega arith)
 
 returns : tie.Need-returns
 returns c = simp length-set (omega arith)
 
-pub put-line-spec : {M : Type 1} → statement M
-put-line-spec =
+pub put_line_spec : {M : Type 1} → statement M
+put_line_spec =
     tie.close
-    (tie.spec copy-requires put-number-requires slice-write-out add-result same_length returns)
+    (tie.spec copy-requires put_number-end-requires bounds-out-end overflow_add-result shape_of-out returns)

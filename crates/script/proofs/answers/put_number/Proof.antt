@@ -7,47 +7,47 @@ use borrow.Author.Rules.{rules}
 use Rattle.script.proofs.answers.put_number.Statement.{statement}
 use Rattle.script.proofs.answers.put_number.Tie as tie
 
-decimal-requires : tie.Need-decimal-requires
-decimal-requires c κs = search rules
+decimal-k-requires : tie.Need-decimal-k-requires
+decimal-k-requires c κs = search rules
 
-array-share-prefix-digits : tie.Need-array-share-prefix-digits
-array-share-prefix-digits c = search rules
+slice_bounds-digits-end : tie.Need-slice_bounds-digits-end
+slice_bounds-digits-end c = search rules
 
-slice-aggregate-copy : tie.Need-slice-aggregate-copy
-slice-aggregate-copy c = search rules
+slice_bounds-copy-end : tie.Need-slice_bounds-copy-end
+slice_bounds-copy-end c = search rules
 
-sub-copy : tie.Need-overflow-sub-copy
-sub-copy c = search rules
+slice_bounds-copy-count : tie.Need-slice_bounds-copy-count
+slice_bounds-copy-count c = search rules
 
-part-copy-start : tie.Need-slice-bounds-copy-start
-part-copy-start c = search rules
+slice_bounds-copy-start : tie.Need-slice_bounds-copy-start
+slice_bounds-copy-start c = search rules
 
-part-copy-end : tie.Need-slice-bounds-copy-end
-part-copy-end c = search rules
+slice_bounds-copy-end-2 : tie.Need-slice_bounds-copy-end-2
+slice_bounds-copy-end-2 c = search rules
 
 copy-requires : tie.Need-copy-requires
-copy-requires c κs = let h : c.before.before.decimal.result ≤ 20 = search few in simp (length-take, length-drop) (omega arith)
+copy-requires c κs = let h : c.decimal-k.result ≤ 20 = search few in simp (length-take, length-drop) (omega arith)
 
-add-result : tie.Need-overflow-add-result
-add-result c = let h : c.before.before.before.before.before.decimal.result ≤ 20 = search few in omega arith
+overflow_add-result : tie.Need-overflow_add-result
+overflow_add-result c = let h : c.decimal-k.result ≤ 20 = search few in omega arith
 
-same_length : tie.Need-same-length
-same_length c = search rules
+shape_of-out : tie.Need-shape_of-out
+shape_of-out c = search rules
 
 returns : tie.Need-returns
-returns c = let h : c.before.before.before.before.before.decimal.result ≤ 20 = search few in (search rules, omega arith)
+returns c = let h : c.decimal-k.result ≤ 20 = search few in (search rules, omega arith)
 
-pub put-number-spec : {M : Type 1} → statement M
-put-number-spec =
+pub put_number_spec : {M : Type 1} → statement M
+put_number_spec =
     tie.close
     (tie.spec
-    decimal-requires
-    array-share-prefix-digits
-    slice-aggregate-copy
-    sub-copy
-    part-copy-start
-    part-copy-end
+    decimal-k-requires
+    slice_bounds-digits-end
+    slice_bounds-copy-end
+    slice_bounds-copy-count
+    slice_bounds-copy-start
+    slice_bounds-copy-end-2
     copy-requires
-    add-result
-    same_length
+    overflow_add-result
+    shape_of-out
     returns)

@@ -7,99 +7,99 @@ use lib.ListN.{length, length-set}
 use Rattle.script.proofs.lines.numbers.Statement.{statement}
 use Rattle.script.proofs.lines.numbers.Tie as tie
 
-abbrev invariant-loop : tie.invariant-loop
-invariant-loop line end out₀ at₀ n₀ out at n = (at ≤ length line) × (n ≤ length out) × (length out ≡ length out₀)
+abbrev invariant-loop-at : tie.invariant-loop-at
+invariant-loop-at line end out₀ at₀ n₀ out at n = (at ≤ length line) × (n ≤ length out) × (length out ≡ length out₀)
 
-abbrev decreases-loop : tie.decreases-loop
-decreases-loop line end out₀ at₀ n₀ out at n = length line - at
+abbrev decreases-loop-at : tie.decreases-loop-at
+decreases-loop-at line end out₀ at₀ n₀ out at n = length line - at
 
-loop-holds : tie.Need-loop-init invariant-loop decreases-loop
-loop-holds c = search rules
+loop-at-init : tie.Need-loop-at-init invariant-loop-at decreases-loop-at
+loop-at-init c = search rules
 
-add-word-end : tie.Need-overflow-add-word-end invariant-loop decreases-loop
-add-word-end c = search rules
+overflow_add-at : tie.Need-overflow_add-at invariant-loop-at decreases-loop-at
+overflow_add-at c = search rules
 
-word-end-requires : tie.Need-word-end-requires invariant-loop decreases-loop
-word-end-requires c κs = search rules
+word_end-next-requires : tie.Need-word_end-next-requires invariant-loop-at decreases-loop-at
+word_end-next-requires c κs = search rules
 
-add-number : tie.Need-overflow-add-number invariant-loop decreases-loop
-add-number c = search rules
+overflow_add-at-in-loop-at : tie.Need-overflow_add-at-in-loop-at invariant-loop-at decreases-loop-at
+overflow_add-at-in-loop-at c = search rules
 
-sub_number : tie.Need-overflow-sub-number invariant-loop decreases-loop
-sub_number c = search rules
+slice_bounds-number-count : tie.Need-slice_bounds-number-count invariant-loop-at decreases-loop-at
+slice_bounds-number-count c = search rules
 
-part-number-start : tie.Need-slice-bounds-number-start invariant-loop decreases-loop
-part-number-start c = search rules
+slice_bounds-number-start : tie.Need-slice_bounds-number-start invariant-loop-at decreases-loop-at
+slice_bounds-number-start c = search rules
 
-part-number-end : tie.Need-slice-bounds-number-end invariant-loop decreases-loop
-part-number-end c = search rules
+slice_bounds-number-end : tie.Need-slice_bounds-number-end invariant-loop-at decreases-loop-at
+slice_bounds-number-end c = search rules
 
-number-requires : tie.Need-number-requires invariant-loop decreases-loop
-number-requires c κs = search rules
+number-value-requires : tie.Need-number-value-requires invariant-loop-at decreases-loop-at
+number-value-requires c κs = search rules
 
-enum-known-value : tie.Need-enum-known-value invariant-loop decreases-loop
-enum-known-value c = search rules
+enum_known-value : tie.Need-enum_known-value invariant-loop-at decreases-loop-at
+enum_known-value c = search rules
 
-same_length : tie.Need-same-length invariant-loop decreases-loop
-same_length c = search rules
+shape_of-out-then-n-out : tie.Need-shape_of-out-then-n-out invariant-loop-at decreases-loop-at
+shape_of-out-then-n-out c = search rules
 
-returns : tie.Need-returns invariant-loop decreases-loop
+returns-then-n-out : tie.Need-returns-then-n-out invariant-loop-at decreases-loop-at
+returns-then-n-out c = search rules
+
+offset_bounds-out-n : tie.Need-offset_bounds-out-n invariant-loop-at decreases-loop-at
+offset_bounds-out-n c = search rules
+
+bounds-out-n : tie.Need-bounds-out-n invariant-loop-at decreases-loop-at
+bounds-out-n c = search rules
+
+enum_told-1 : tie.Need-enum_told-1 invariant-loop-at decreases-loop-at
+enum_told-1 c = search rules
+
+shape_of-out-in-Bad : tie.Need-shape_of-out-in-Bad invariant-loop-at decreases-loop-at
+shape_of-out-in-Bad c = search rules
+
+returns-in-Bad : tie.Need-returns-in-Bad invariant-loop-at decreases-loop-at
+returns-in-Bad c = search rules
+
+overflow_add-n : tie.Need-overflow_add-n invariant-loop-at decreases-loop-at
+overflow_add-n c = search rules
+
+loop-at-smaller : tie.Need-loop-at-smaller invariant-loop-at decreases-loop-at
+loop-at-smaller c = search rules
+
+loop-at-preserved : tie.Need-loop-at-preserved invariant-loop-at decreases-loop-at
+loop-at-preserved c = (search rules, simp length-set (omega arith), simp length-set (omega arith))
+
+shape_of-out : tie.Need-shape_of-out invariant-loop-at decreases-loop-at
+shape_of-out c = search rules
+
+returns : tie.Need-returns invariant-loop-at decreases-loop-at
 returns c = search rules
 
-mul-out : tie.Need-overflow-mul-out invariant-loop decreases-loop
-mul-out c = search rules
-
-slice-write-out : tie.Need-slice-write-out invariant-loop decreases-loop
-slice-write-out c = search rules
-
-enum_told : tie.Need-enum-told invariant-loop decreases-loop
-enum_told c = search rules
-
-same-length-2 : tie.Need-same-length-2 invariant-loop decreases-loop
-same-length-2 c = search rules
-
-returns-2 : tie.Need-returns-2 invariant-loop decreases-loop
-returns-2 c = search rules
-
-add-n : tie.Need-overflow-add-n invariant-loop decreases-loop
-add-n c = search rules
-
-loop-less : tie.Need-loop-smaller invariant-loop decreases-loop
-loop-less c = search rules
-
-loop-again : tie.Need-loop-preserved invariant-loop decreases-loop
-loop-again c = (search rules, simp length-set (omega arith), simp length-set (omega arith))
-
-same-length-3 : tie.Need-same-length-3 invariant-loop decreases-loop
-same-length-3 c = search rules
-
-returns-3 : tie.Need-returns-3 invariant-loop decreases-loop
-returns-3 c = search rules
-
-pub numbers-spec : {M : Type 1} → statement M
-numbers-spec =
+pub numbers_spec : {M : Type 1} → statement M
+numbers_spec =
     tie.close
     (tie.spec
-    invariant-loop
-    decreases-loop
-    loop-holds
-    add-word-end
-    word-end-requires
-    add-number
-    sub_number
-    part-number-start
-    part-number-end
-    number-requires
-    enum-known-value
-    same_length
-    returns
-    mul-out
-    slice-write-out
-    enum_told
-    same-length-2
-    returns-2
-    add-n
-    loop-less
-    loop-again
-    same-length-3
-    returns-3)
+    invariant-loop-at
+    decreases-loop-at
+    loop-at-init
+    overflow_add-at
+    word_end-next-requires
+    overflow_add-at-in-loop-at
+    slice_bounds-number-count
+    slice_bounds-number-start
+    slice_bounds-number-end
+    number-value-requires
+    enum_known-value
+    shape_of-out-then-n-out
+    returns-then-n-out
+    offset_bounds-out-n
+    bounds-out-n
+    enum_told-1
+    shape_of-out-in-Bad
+    returns-in-Bad
+    overflow_add-n
+    loop-at-smaller
+    loop-at-preserved
+    shape_of-out
+    returns)

@@ -5,47 +5,47 @@ use lib.ListN.{length}
 use Rattle.script.proofs.lines.skip.Statement.{statement}
 use Rattle.script.proofs.lines.skip.Tie as tie
 
-abbrev invariant-loop : tie.invariant-loop
-invariant-loop line end k at₀ i₀ at i = (end ≤ at) × (at ≤ length line)
+abbrev invariant-loop-i : tie.invariant-loop-i
+invariant-loop-i line end k at₀ i₀ at i = (end ≤ at) × (at ≤ length line)
 
-abbrev decreases-loop : tie.decreases-loop
-decreases-loop line end k at₀ i₀ at i = k - i
+abbrev decreases-loop-i : tie.decreases-loop-i
+decreases-loop-i line end k at₀ i₀ at i = k - i
 
-loop-holds : tie.Need-loop-init invariant-loop decreases-loop
-loop-holds c = search rules
+loop-i-init : tie.Need-loop-i-init invariant-loop-i decreases-loop-i
+loop-i-init c = search rules
 
-returns : tie.Need-returns invariant-loop decreases-loop
+returns-then-at-line : tie.Need-returns-then-at-line invariant-loop-i decreases-loop-i
+returns-then-at-line c = search rules
+
+overflow_add-at : tie.Need-overflow_add-at invariant-loop-i decreases-loop-i
+overflow_add-at c = search rules
+
+word_end-at-requires : tie.Need-word_end-at-requires invariant-loop-i decreases-loop-i
+word_end-at-requires c κs = search rules
+
+overflow_add-i : tie.Need-overflow_add-i invariant-loop-i decreases-loop-i
+overflow_add-i c = search rules
+
+loop-i-smaller : tie.Need-loop-i-smaller invariant-loop-i decreases-loop-i
+loop-i-smaller c = search rules
+
+loop-i-preserved : tie.Need-loop-i-preserved invariant-loop-i decreases-loop-i
+loop-i-preserved c = search rules
+
+returns : tie.Need-returns invariant-loop-i decreases-loop-i
 returns c = search rules
 
-add-word-end : tie.Need-overflow-add-word-end invariant-loop decreases-loop
-add-word-end c = search rules
-
-word-end-requires : tie.Need-word-end-requires invariant-loop decreases-loop
-word-end-requires c κs = search rules
-
-add-i : tie.Need-overflow-add-i invariant-loop decreases-loop
-add-i c = search rules
-
-loop-less : tie.Need-loop-smaller invariant-loop decreases-loop
-loop-less c = search rules
-
-loop-again : tie.Need-loop-preserved invariant-loop decreases-loop
-loop-again c = search rules
-
-returns-2 : tie.Need-returns-2 invariant-loop decreases-loop
-returns-2 c = search rules
-
-pub skip-spec : {M : Type 1} → statement M
-skip-spec =
+pub skip_spec : {M : Type 1} → statement M
+skip_spec =
     tie.close
     (tie.spec
-    invariant-loop
-    decreases-loop
-    loop-holds
-    returns
-    add-word-end
-    word-end-requires
-    add-i
-    loop-less
-    loop-again
-    returns-2)
+    invariant-loop-i
+    decreases-loop-i
+    loop-i-init
+    returns-then-at-line
+    overflow_add-at
+    word_end-at-requires
+    overflow_add-i
+    loop-i-smaller
+    loop-i-preserved
+    returns)

@@ -4,20 +4,20 @@ use borrow.Author.Rules.{rules}
 use Rattle.script.proofs.texts.hex.Statement.{statement}
 use Rattle.script.proofs.texts.hex.Tie as tie
 
-add-result : tie.Need-overflow-add-result
-add-result c = search rules
+overflow_add-result : tie.Need-overflow_add-result
+overflow_add-result c = search rules
+
+returns-then-d-lt10 : tie.Need-returns-then-d-lt10
+returns-then-d-lt10 c = search low_digit
+
+overflow_sub-result : tie.Need-overflow_sub-result
+overflow_sub-result c = search rules
+
+overflow_add-result-2 : tie.Need-overflow_add-result-2
+overflow_add-result-2 c = search rules
 
 returns : tie.Need-returns
-returns c = search low_digit
+returns c = search high_digit
 
-sub-result : tie.Need-overflow-sub-result
-sub-result c = search rules
-
-add-result-2 : tie.Need-overflow-add-result-2
-add-result-2 c = search rules
-
-returns-2 : tie.Need-returns-2
-returns-2 c = search high_digit
-
-pub hex-spec : {M : Type 1} → statement M
-hex-spec = tie.close (tie.spec add-result returns sub-result add-result-2 returns-2)
+pub hex_spec : {M : Type 1} → statement M
+hex_spec = tie.close (tie.spec overflow_add-result returns-then-d-lt10 overflow_sub-result overflow_add-result-2 returns)

@@ -1,112 +1,112 @@
 -- `script::text`: each turn takes a pair of digits, and there are no more bytes than room.
 use borrow.Author.Rules.{rules}
 use mathlib.Core.Path.{◌≡◌}
-use Prim.Native.Nat.{◌-◌, ◌≤◌}
+use Prim.Native.Nat.{◌-◌}
 use lib.ListN.{length}
 use Rattle.script.proofs.texts.text.Statement.{statement}
 use Rattle.script.proofs.texts.text.Tie as tie
 
-abbrev invariant-loop : tie.invariant-loop
-invariant-loop word out₀ n i₀ out i = length out ≡ length out₀
+abbrev invariant-loop-i : tie.invariant-loop-i
+invariant-loop-i word out₀ n i₀ out i = length out ≡ length out₀
 
-abbrev decreases-loop : tie.decreases-loop
-decreases-loop word out₀ n i₀ out i = n - i
+abbrev decreases-loop-i : tie.decreases-loop-i
+decreases-loop-i word out₀ n i₀ out i = n - i
 
-returns : tie.Need-returns invariant-loop decreases-loop
+returns-then-word-ne0 : tie.Need-returns-then-word-ne0 invariant-loop-i decreases-loop-i
+returns-then-word-ne0 c = search rules
+
+returns-then-out-n : tie.Need-returns-then-out-n invariant-loop-i decreases-loop-i
+returns-then-out-n c = search rules
+
+loop-i-init : tie.Need-loop-i-init invariant-loop-i decreases-loop-i
+loop-i-init c = search rules
+
+overflow_mul-i : tie.Need-overflow_mul-i invariant-loop-i decreases-loop-i
+overflow_mul-i c = search rules
+
+bounds-word-i : tie.Need-bounds-word-i invariant-loop-i decreases-loop-i
+bounds-word-i c = search rules
+
+digit-high-requires : tie.Need-digit-high-requires invariant-loop-i decreases-loop-i
+digit-high-requires c κs = search rules
+
+shape_of-out-then-high-ge16 : tie.Need-shape_of-out-then-high-ge16 invariant-loop-i decreases-loop-i
+shape_of-out-then-high-ge16 c = search rules
+
+returns-then-high-ge16 : tie.Need-returns-then-high-ge16 invariant-loop-i decreases-loop-i
+returns-then-high-ge16 c = search rules
+
+overflow_mul-i-in-loop-i : tie.Need-overflow_mul-i-in-loop-i invariant-loop-i decreases-loop-i
+overflow_mul-i-in-loop-i c = search rules
+
+overflow_add-i : tie.Need-overflow_add-i invariant-loop-i decreases-loop-i
+overflow_add-i c = search rules
+
+bounds-word-i-in-loop-i : tie.Need-bounds-word-i-in-loop-i invariant-loop-i decreases-loop-i
+bounds-word-i-in-loop-i c = search rules
+
+digit-low-requires : tie.Need-digit-low-requires invariant-loop-i decreases-loop-i
+digit-low-requires c κs = search rules
+
+shape_of-out-then-low-ge16 : tie.Need-shape_of-out-then-low-ge16 invariant-loop-i decreases-loop-i
+shape_of-out-then-low-ge16 c = search rules
+
+returns-then-low-ge16 : tie.Need-returns-then-low-ge16 invariant-loop-i decreases-loop-i
+returns-then-low-ge16 c = search rules
+
+overflow_mul-out : tie.Need-overflow_mul-out invariant-loop-i decreases-loop-i
+overflow_mul-out c = search rules
+
+overflow_add-out : tie.Need-overflow_add-out invariant-loop-i decreases-loop-i
+overflow_add-out c = search rules
+
+overflow_cast-out : tie.Need-overflow_cast-out invariant-loop-i decreases-loop-i
+overflow_cast-out c = search rules
+
+bounds-out-i : tie.Need-bounds-out-i invariant-loop-i decreases-loop-i
+bounds-out-i c = search rules
+
+overflow_add-i-in-loop-i : tie.Need-overflow_add-i-in-loop-i invariant-loop-i decreases-loop-i
+overflow_add-i-in-loop-i c = search rules
+
+loop-i-smaller : tie.Need-loop-i-smaller invariant-loop-i decreases-loop-i
+loop-i-smaller c = search rules
+
+loop-i-preserved : tie.Need-loop-i-preserved invariant-loop-i decreases-loop-i
+loop-i-preserved c = search rules
+
+shape_of-out : tie.Need-shape_of-out invariant-loop-i decreases-loop-i
+shape_of-out c = search rules
+
+returns : tie.Need-returns invariant-loop-i decreases-loop-i
 returns c = search rules
 
-returns-2 : tie.Need-returns-2 invariant-loop decreases-loop
-returns-2 c = search rules
-
-loop-holds : tie.Need-loop-init invariant-loop decreases-loop
-loop-holds c = search rules
-
-mul-digit : tie.Need-overflow-mul-digit invariant-loop decreases-loop
-mul-digit c = search rules
-
-shared-slice-read-digit : tie.Need-shared-slice-read-digit invariant-loop decreases-loop
-shared-slice-read-digit c = search rules
-
-digit-requires : tie.Need-digit-requires invariant-loop decreases-loop
-digit-requires c κs = search rules
-
-same_length : tie.Need-same-length invariant-loop decreases-loop
-same_length c = search rules
-
-returns-3 : tie.Need-returns-3 invariant-loop decreases-loop
-returns-3 c = search rules
-
-mul-digit-2 : tie.Need-overflow-mul-digit-2 invariant-loop decreases-loop
-mul-digit-2 c = search rules
-
-add-digit : tie.Need-overflow-add-digit invariant-loop decreases-loop
-add-digit c = search rules
-
-shared-slice-read-digit-2 : tie.Need-shared-slice-read-digit-2 invariant-loop decreases-loop
-shared-slice-read-digit-2 c = search rules
-
-digit-requires-2 : tie.Need-digit-requires-2 invariant-loop decreases-loop
-digit-requires-2 c κs = search rules
-
-same-length-2 : tie.Need-same-length-2 invariant-loop decreases-loop
-same-length-2 c = search rules
-
-returns-4 : tie.Need-returns-4 invariant-loop decreases-loop
-returns-4 c = search rules
-
-mul-out : tie.Need-overflow-mul-out invariant-loop decreases-loop
-mul-out c = search rules
-
-add-out : tie.Need-overflow-add-out invariant-loop decreases-loop
-add-out c = search rules
-
-cast-out : tie.Need-overflow-cast-out invariant-loop decreases-loop
-cast-out c = search rules
-
-slice-write-out : tie.Need-slice-write-out invariant-loop decreases-loop
-slice-write-out c = search rules
-
-add-i : tie.Need-overflow-add-i invariant-loop decreases-loop
-add-i c = search rules
-
-loop-less : tie.Need-loop-smaller invariant-loop decreases-loop
-loop-less c = search rules
-
-loop-again : tie.Need-loop-preserved invariant-loop decreases-loop
-loop-again c = search rules
-
-same-length-3 : tie.Need-same-length-3 invariant-loop decreases-loop
-same-length-3 c = search rules
-
-returns-5 : tie.Need-returns-5 invariant-loop decreases-loop
-returns-5 c = search rules
-
-pub text-spec : {M : Type 1} → statement M
-text-spec =
+pub text_spec : {M : Type 1} → statement M
+text_spec =
     tie.close
     (tie.spec
-    invariant-loop
-    decreases-loop
-    returns
-    returns-2
-    loop-holds
-    mul-digit
-    shared-slice-read-digit
-    digit-requires
-    same_length
-    returns-3
-    mul-digit-2
-    add-digit
-    shared-slice-read-digit-2
-    digit-requires-2
-    same-length-2
-    returns-4
-    mul-out
-    add-out
-    cast-out
-    slice-write-out
-    add-i
-    loop-less
-    loop-again
-    same-length-3
-    returns-5)
+    invariant-loop-i
+    decreases-loop-i
+    returns-then-word-ne0
+    returns-then-out-n
+    loop-i-init
+    overflow_mul-i
+    bounds-word-i
+    digit-high-requires
+    shape_of-out-then-high-ge16
+    returns-then-high-ge16
+    overflow_mul-i-in-loop-i
+    overflow_add-i
+    bounds-word-i-in-loop-i
+    digit-low-requires
+    shape_of-out-then-low-ge16
+    returns-then-low-ge16
+    overflow_mul-out
+    overflow_add-out
+    overflow_cast-out
+    bounds-out-i
+    overflow_add-i-in-loop-i
+    loop-i-smaller
+    loop-i-preserved
+    shape_of-out
+    returns)

@@ -4,31 +4,31 @@ use borrow.Author.Rules.{rules}
 use Rattle.script.proofs.values.negative.Statement.{statement}
 use Rattle.script.proofs.values.negative.Tie as tie
 
-enum-known-magnitude : tie.Need-enum-known-magnitude
-enum-known-magnitude c = search rules
+enum_known-magnitude : tie.Need-enum_known-magnitude
+enum_known-magnitude c = search rules
 
-returns : tie.Need-returns
-returns c = search minus_zero_is
+returns-then-m-eq0 : tie.Need-returns-then-m-eq0
+returns-then-m-eq0 c = search minus_zero_is
 
-returns-2 : tie.Need-returns-2
-returns-2 c = search too_low
+returns-then-m-gt9223372036854775808 : tie.Need-returns-then-m-gt9223372036854775808
+returns-then-m-gt9223372036854775808 c = search too_low
 
-sub-t5 : tie.Need-overflow-sub-t5
-sub-t5 c = search rules
+overflow_sub-result : tie.Need-overflow_sub-result
+overflow_sub-result c = search rules
 
-sub-t6 : tie.Need-overflow-sub-t6
-sub-t6 c = search rules
+overflow_sub-result-in-Is : tie.Need-overflow_sub-result-in-Is
+overflow_sub-result-in-Is c = search rules
 
-enum_told : tie.Need-enum-told
-enum_told c = search rules
+enum_told-1 : tie.Need-enum_told-1
+enum_told-1 c = search rules
 
-returns-3 : tie.Need-returns-3
-returns-3 c = search minus
+returns-else-m-gt9223372036854775808 : tie.Need-returns-else-m-gt9223372036854775808
+returns-else-m-gt9223372036854775808 c = search minus
 
-returns-4 : tie.Need-returns-4
-returns-4 c = search none_below
+returns-in-Bad : tie.Need-returns-in-Bad
+returns-in-Bad c = search none_below
 
-pub negative-spec : {M : Type 1} → statement M
-negative-spec =
+pub negative_spec : {M : Type 1} → statement M
+negative_spec =
     tie.close
-    (tie.spec enum-known-magnitude returns returns-2 sub-t5 sub-t6 enum_told returns-3 returns-4)
+    (tie.spec enum_known-magnitude returns-then-m-eq0 returns-then-m-gt9223372036854775808 overflow_sub-result overflow_sub-result-in-Is enum_told-1 returns-else-m-gt9223372036854775808 returns-in-Bad)

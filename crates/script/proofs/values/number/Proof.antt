@@ -7,84 +7,84 @@ use Rattle.script.proofs.values.number.Tie as tie
 unsigned-requires : tie.Need-unsigned-requires
 unsigned-requires c κs = search rules
 
-returns : tie.Need-returns
-returns c = search short
+returns-then-word-lt2 : tie.Need-returns-then-word-lt2
+returns-then-word-lt2 c = search short
 
-shared-slice-read-if2 : tie.Need-shared-slice-read-if2
-shared-slice-read-if2 c = search rules
+bounds-word-0 : tie.Need-bounds-word-0
+bounds-word-0 c = search rules
 
-sub-unsigned : tie.Need-overflow-sub-unsigned
-sub-unsigned c = search rules
+slice_bounds-unsigned-count : tie.Need-slice_bounds-unsigned-count
+slice_bounds-unsigned-count c = search rules
 
-part-unsigned-start : tie.Need-slice-bounds-unsigned-start
-part-unsigned-start c = search rules
+slice_bounds-unsigned-start : tie.Need-slice_bounds-unsigned-start
+slice_bounds-unsigned-start c = search rules
 
-part-unsigned-end : tie.Need-slice-bounds-unsigned-end
-part-unsigned-end c = search rules
+slice_bounds-unsigned-end : tie.Need-slice_bounds-unsigned-end
+slice_bounds-unsigned-end c = search rules
 
-unsigned-requires-2 : tie.Need-unsigned-requires-2
-unsigned-requires-2 c κs = search rules
+unsigned-requires-then-word-eq45 : tie.Need-unsigned-requires-then-word-eq45
+unsigned-requires-then-word-eq45 c κs = search rules
 
 negative-requires : tie.Need-negative-requires
 negative-requires c κs = search rules
 
-returns-2 : tie.Need-returns-2
-returns-2 c = search with_minus
+returns-then-word-eq45 : tie.Need-returns-then-word-eq45
+returns-then-word-eq45 c = search with_minus
 
-shared-slice-read-if3 : tie.Need-shared-slice-read-if3
-shared-slice-read-if3 c = search rules
+bounds-word-0-2 : tie.Need-bounds-word-0-2
+bounds-word-0-2 c = search rules
 
-unsigned-requires-3 : tie.Need-unsigned-requires-3
-unsigned-requires-3 c κs = search rules
+unsigned-requires-then-word-ne48 : tie.Need-unsigned-requires-then-word-ne48
+unsigned-requires-then-word-ne48 c κs = search rules
 
-returns-3 : tie.Need-returns-3
-returns-3 c = search not_zero
+returns-then-word-ne48 : tie.Need-returns-then-word-ne48
+returns-then-word-ne48 c = search not_zero
 
-shared-slice-read-if4 : tie.Need-shared-slice-read-if4
-shared-slice-read-if4 c = search rules
+bounds-word-1 : tie.Need-bounds-word-1
+bounds-word-1 c = search rules
 
-unsigned-requires-4 : tie.Need-unsigned-requires-4
-unsigned-requires-4 c κs = search rules
+unsigned-requires-then-word-ne120 : tie.Need-unsigned-requires-then-word-ne120
+unsigned-requires-then-word-ne120 c κs = search rules
 
-returns-4 : tie.Need-returns-4
-returns-4 c = search not_hex
+returns-then-word-ne120 : tie.Need-returns-then-word-ne120
+returns-then-word-ne120 c = search not_hex
 
-sub-unsigned-2 : tie.Need-overflow-sub-unsigned-2
-sub-unsigned-2 c = search rules
+slice_bounds-unsigned-count-2 : tie.Need-slice_bounds-unsigned-count-2
+slice_bounds-unsigned-count-2 c = search rules
 
-part-unsigned-start-2 : tie.Need-slice-bounds-unsigned-start-2
-part-unsigned-start-2 c = search rules
+slice_bounds-unsigned-start-2 : tie.Need-slice_bounds-unsigned-start-2
+slice_bounds-unsigned-start-2 c = search rules
 
-part-unsigned-end-2 : tie.Need-slice-bounds-unsigned-end-2
-part-unsigned-end-2 c = search rules
+slice_bounds-unsigned-end-2 : tie.Need-slice_bounds-unsigned-end-2
+slice_bounds-unsigned-end-2 c = search rules
 
-unsigned-requires-5 : tie.Need-unsigned-requires-5
-unsigned-requires-5 c κs = search rules
+unsigned-requires-2 : tie.Need-unsigned-requires-2
+unsigned-requires-2 c κs = search rules
 
-returns-5 : tie.Need-returns-5
-returns-5 c = search with_hex
+returns : tie.Need-returns
+returns c = search with_hex
 
-pub number-spec : {M : Type 1} → statement M
-number-spec =
+pub number_spec : {M : Type 1} → statement M
+number_spec =
     tie.close
     (tie.spec
     unsigned-requires
-    returns
-    shared-slice-read-if2
-    sub-unsigned
-    part-unsigned-start
-    part-unsigned-end
-    unsigned-requires-2
+    returns-then-word-lt2
+    bounds-word-0
+    slice_bounds-unsigned-count
+    slice_bounds-unsigned-start
+    slice_bounds-unsigned-end
+    unsigned-requires-then-word-eq45
     negative-requires
-    returns-2
-    shared-slice-read-if3
-    unsigned-requires-3
-    returns-3
-    shared-slice-read-if4
-    unsigned-requires-4
-    returns-4
-    sub-unsigned-2
-    part-unsigned-start-2
-    part-unsigned-end-2
-    unsigned-requires-5
-    returns-5)
+    returns-then-word-eq45
+    bounds-word-0-2
+    unsigned-requires-then-word-ne48
+    returns-then-word-ne48
+    bounds-word-1
+    unsigned-requires-then-word-ne120
+    returns-then-word-ne120
+    slice_bounds-unsigned-count-2
+    slice_bounds-unsigned-start-2
+    slice_bounds-unsigned-end-2
+    unsigned-requires-2
+    returns)

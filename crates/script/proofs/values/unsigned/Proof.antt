@@ -9,76 +9,76 @@ use Rattle.script.proofs.Digits.{none, too_many, begin, no_digit, too_large, one
 use Rattle.script.proofs.values.unsigned.Statement.{statement}
 use Rattle.script.proofs.values.unsigned.Tie as tie
 
-abbrev invariant-loop : tie.invariant-loop
-invariant-loop word base most sum₀ i₀ sum i = (i ≤ length word) × (sum < 2 ^ 64) × (unsigned_of base most word ≡ summed base sum (drop i word))
+abbrev invariant-loop-i : tie.invariant-loop-i
+invariant-loop-i word base most sum₀ i₀ sum i = (i ≤ length word) × (sum < 2 ^ 64) × (unsigned_of base most word ≡ summed base sum (drop i word))
 
-abbrev decreases-loop : tie.decreases-loop
-decreases-loop word base most sum₀ i₀ sum i = length word - i
+abbrev decreases-loop-i : tie.decreases-loop-i
+decreases-loop-i word base most sum₀ i₀ sum i = length word - i
 
-returns : tie.Need-returns invariant-loop decreases-loop
-returns c = search none
+returns-then-word-eq0 : tie.Need-returns-then-word-eq0 invariant-loop-i decreases-loop-i
+returns-then-word-eq0 c = search none
 
-returns-2 : tie.Need-returns-2 invariant-loop decreases-loop
-returns-2 c = search too_many
+returns-then-most-word : tie.Need-returns-then-most-word invariant-loop-i decreases-loop-i
+returns-then-most-word c = search too_many
 
-loop-holds : tie.Need-loop-init invariant-loop decreases-loop
-loop-holds c = (search rules, search rules, search begin)
+loop-i-init : tie.Need-loop-i-init invariant-loop-i decreases-loop-i
+loop-i-init c = (search rules, search rules, search begin)
 
-shared-slice-read-digit : tie.Need-shared-slice-read-digit invariant-loop decreases-loop
-shared-slice-read-digit c = search rules
+bounds-word-i : tie.Need-bounds-word-i invariant-loop-i decreases-loop-i
+bounds-word-i c = search rules
 
-digit-requires : tie.Need-digit-requires invariant-loop decreases-loop
-digit-requires c κs = search rules
+digit-d-requires : tie.Need-digit-d-requires invariant-loop-i decreases-loop-i
+digit-d-requires c κs = search rules
 
-returns-3 : tie.Need-returns-3 invariant-loop decreases-loop
-returns-3 c = search no_digit
+returns-then-base-d : tie.Need-returns-then-base-d invariant-loop-i decreases-loop-i
+returns-then-base-d c = search no_digit
 
-sub-if4 : tie.Need-overflow-sub-if4 invariant-loop decreases-loop
-sub-if4 c = search rules
+overflow_sub-d : tie.Need-overflow_sub-d invariant-loop-i decreases-loop-i
+overflow_sub-d c = search rules
 
-div-if4 : tie.Need-nonzero-div-if4 invariant-loop decreases-loop
-div-if4 c = search rules
+nonzero_div-d : tie.Need-nonzero_div-d invariant-loop-i decreases-loop-i
+nonzero_div-d c = search rules
 
-returns-4 : tie.Need-returns-4 invariant-loop decreases-loop
-returns-4 c = search too_large
+returns-then-d-base : tie.Need-returns-then-d-base invariant-loop-i decreases-loop-i
+returns-then-d-base c = search too_large
 
-mul-sum : tie.Need-overflow-mul-sum invariant-loop decreases-loop
-mul-sum c = let d = c.before.before.digit.result in
-    record { fits = product_fits _ _ d (omega arith) (omega arith) (omega arith) c.if4.false }
+overflow_mul-sum : tie.Need-overflow_mul-sum invariant-loop-i decreases-loop-i
+overflow_mul-sum c = let d = c.digit-d.result in
+    record { fits = product_fits _ _ d (omega arith) (omega arith) (omega arith) c.if-d-base.false }
 
-add-sum : tie.Need-overflow-add-sum invariant-loop decreases-loop
-add-sum c = record { fits = search sum_fits }
+overflow_add-sum : tie.Need-overflow_add-sum invariant-loop-i decreases-loop-i
+overflow_add-sum c = record { fits = search sum_fits }
 
-add-i : tie.Need-overflow-add-i invariant-loop decreases-loop
-add-i c = search rules
+overflow_add-i : tie.Need-overflow_add-i invariant-loop-i decreases-loop-i
+overflow_add-i c = search rules
 
-loop-less : tie.Need-loop-smaller invariant-loop decreases-loop
-loop-less c = search rules
+loop-i-smaller : tie.Need-loop-i-smaller invariant-loop-i decreases-loop-i
+loop-i-smaller c = search rules
 
-loop-again : tie.Need-loop-preserved invariant-loop decreases-loop
-loop-again c = (search rules, search sum_fits, search one_digit)
+loop-i-preserved : tie.Need-loop-i-preserved invariant-loop-i decreases-loop-i
+loop-i-preserved c = (search rules, search sum_fits, search one_digit)
 
-returns-5 : tie.Need-returns-5 invariant-loop decreases-loop
-returns-5 c = search all_taken
+returns : tie.Need-returns invariant-loop-i decreases-loop-i
+returns c = search all_taken
 
-pub unsigned-spec : {M : Type 1} → statement M
-unsigned-spec =
+pub unsigned_spec : {M : Type 1} → statement M
+unsigned_spec =
     tie.close
     (tie.spec
-    invariant-loop
-    decreases-loop
-    returns
-    returns-2
-    loop-holds
-    shared-slice-read-digit
-    digit-requires
-    returns-3
-    sub-if4
-    div-if4
-    returns-4
-    mul-sum
-    add-sum
-    add-i
-    loop-less
-    loop-again
-    returns-5)
+    invariant-loop-i
+    decreases-loop-i
+    returns-then-word-eq0
+    returns-then-most-word
+    loop-i-init
+    bounds-word-i
+    digit-d-requires
+    returns-then-base-d
+    overflow_sub-d
+    nonzero_div-d
+    returns-then-d-base
+    overflow_mul-sum
+    overflow_add-sum
+    overflow_add-i
+    loop-i-smaller
+    loop-i-preserved
+    returns)
