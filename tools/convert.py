@@ -200,7 +200,7 @@ def goals(text, aliases, said, path, function):
 
 
 FIELDS = r'(?:\.[^\s(){}.;,@"«»]+)*'
-WORDS = dict(pre="requires", taken="true", left="false", inv="invariant", kept="auto", last="new", entry="initial", typed="type_inv", came="branch", good="well_formed")
+WORDS = dict(pre="requires", taken="true", left="false", inv="invariant", kept="auto", last="new", typed="type_inv", came="branch", good="well_formed")
 
 
 def renamed(fields, it, head=None):
@@ -208,10 +208,10 @@ def renamed(fields, it, head=None):
     for k, f in enumerate(fields):
         if f == "before":
             continue
-        if f in WORDS:
-            fields[k] = WORDS[f]
-        elif norm(f) in it.any and f not in GENERIC and (fields[k - 1] if k else head) != "args":
+        if norm(f) in it.any and f not in GENERIC and (fields[k - 1] if k else head) != "args":
             fields[k] = it.any[norm(f)]
+        elif f in WORDS:
+            fields[k] = WORDS[f]
         break
     return fields
 
@@ -296,10 +296,9 @@ def block(text, it, labels, own, function, path, said, helpers):
                     said.append(f"{path}: no place {w}")
                 new = ".".join([word] + fields)
             elif word in above and k < len(fields):
-                if fields[k] in WORDS:
+                changed, _ = it.path(place, fields[k:])
+                if changed == fields[k:] and fields[k] in WORDS:
                     changed = [WORDS[fields[k]]] + fields[k + 1 :]
-                else:
-                    changed, _ = it.path(place, fields[k:])
                 new = ".".join([root] + changed)
                 if bound:
                     bare[bound.group(1)] = changed[0] if len(changed) == 1 else ""
