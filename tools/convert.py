@@ -158,9 +158,19 @@ def convert(path, d, crate, function, said):
         out.append(block(text[a:b], it, labels, own, function, path, said, helpers))
     result = "".join(out)
     result = goals(result, aliases, said, path, function)
+    result = negated(result)
     result = re.sub(r"(?m)^(use \S+ as )(\S+)$", lambda m: m.group(1) + (m.group(2).replace("-", "_") if m.group(2) in aliases else m.group(2)), result)
     with open(path, "w", encoding="utf-8") as f:
         f.write(result)
+
+
+def negated(text):
+    """A test `!x` tells of x itself now, and no longer of `not x`."""
+    text = re.sub(r"\(not-true (?:_|\([^()]*\)) \(?([^\s()]+-not-[^\s()]+\.true)\)?\)", r"\1", text)
+    text = re.sub(r"\(not-false (?:_|\([^()]*\)) \(?([^\s()]+-not-[^\s()]+\.false)\)?\)", r"\1", text)
+    text = re.sub(r"not-true (?:_|\([^()]*\)) \(?([^\s()]+-not-[^\s()]+\.true)\)?", r"\1", text)
+    text = re.sub(r"not-false (?:_|\([^()]*\)) \(?([^\s()]+-not-[^\s()]+\.false)\)?", r"\1", text)
+    return text
 
 
 def goals(text, aliases, said, path, function):

@@ -1,7 +1,7 @@
 -- `wellformed::run` meets its contract.
 use borrow.Author.Rules.{rules}
 use mathlib.Core.Path.{◌≡◌, refl, ap, ◌∙◌}
-use mathlib.Core.Bool.{Bool}
+use mathlib.Core.Bool.{Bool, not}
 use mathlib.Core.List.{List}
 use Prim.Native.Nat.{ℕ, ◌+◌, ◌*◌, ◌≤◌, ◌<◌, ◌-◌}
 use native.Mathlib.Omega.{arith}
@@ -111,7 +111,7 @@ shape_of-bits-then-not-entry c = search rules
 
 returns-then-not-entry : tie.Need-returns-then-not-entry invariant-loop-i decreases-loop-i
 returns-then-not-entry c =
-    goes_bad _ _ _ _ _ (bad_entry _ _ _ _ _ (start c.before.before.before.before.before.before.before).requires.0.0 c.loop-i.invariant.2 (used_here c.before.before.before.before) (sized c.before.before.before.before) (ends_here c.before.before.before.before c.if-n-window.false) _ (c.entry.ensures ∙ ap (ok_entry (heads c.before.before.before.before.before.before.before)) (lent_here c.before.before.before.before c.if-n-window.false)) c.if-not-entry.true)
+    goes_bad _ _ _ _ _ (bad_entry _ _ _ _ _ (start c.before.before.before.before.before.before.before).requires.0.0 c.loop-i.invariant.2 (used_here c.before.before.before.before) (sized c.before.before.before.before) (ends_here c.before.before.before.before c.if-n-window.false) _ (c.entry.ensures ∙ ap (ok_entry (heads c.before.before.before.before.before.before.before)) (lent_here c.before.before.before.before c.if-n-window.false)) (ap not c.if-not-entry.true))
 
 overflow_add-base : tie.Need-overflow_add-base invariant-loop-i decreases-loop-i
 overflow_add-base c = record { fits = omega (arith, used_here c.before.before.before.before.before, c.requires.0.0, length_stored c.args.words.now c.args.tail.now) }
@@ -129,7 +129,7 @@ loop-i-preserved : tie.Need-loop-i-preserved invariant-loop-i decreases-loop-i
 loop-i-preserved c = (
   c.mark.auto.bits ∙ c.loop-i.invariant.0,
   omega (arith, c.if-n-window.false, here c.before.before.before.before.before.before.before.before),
-  onward _ _ _ _ _ _ (good_entry _ _ _ _ _ (start c.before.before.before.before.before.before.before.before.before.before.before).requires.0.0 c.loop-i.invariant.2 (used_here c.before.before.before.before.before.before.before.before) (sized c.before.before.before.before.before.before.before.before) (ends_here c.before.before.before.before.before.before.before.before c.if-n-window.false) _ (c.entry.ensures ∙ ap (ok_entry (heads c.before.before.before.before.before.before.before.before.before.before.before)) (lent_here c.before.before.before.before.before.before.before.before c.if-n-window.false)) c.if-not-entry.false _ c.mark.ensures),
+  onward _ _ _ _ _ _ (good_entry _ _ _ _ _ (start c.before.before.before.before.before.before.before.before.before.before.before).requires.0.0 c.loop-i.invariant.2 (used_here c.before.before.before.before.before.before.before.before) (sized c.before.before.before.before.before.before.before.before) (ends_here c.before.before.before.before.before.before.before.before c.if-n-window.false) _ (c.entry.ensures ∙ ap (ok_entry (heads c.before.before.before.before.before.before.before.before.before.before.before)) (lent_here c.before.before.before.before.before.before.before.before c.if-n-window.false)) (ap not c.if-not-entry.false) _ c.mark.ensures),
 )
 
 shape_of-bits : tie.Need-shape_of-bits invariant-loop-i decreases-loop-i
