@@ -4,43 +4,43 @@ use borrow.Author.Rules.{rules}
 use Rattle.entry_search.proofs.find_entry.Statement.{statement}
 use Rattle.entry_search.proofs.find_entry.Tie as tie
 
-well-formed-requires : tie.Need-well-formed-requires
-well-formed-requires c κs = search rules
+well_formed-requires : tie.Need-well_formed-requires
+well_formed-requires c κs = search rules
 
-returns : tie.Need-returns
-returns c = search turned_back
+returns-then-not-well_formed : tie.Need-returns-then-not-well_formed
+returns-then-not-well_formed c = search turned_back
 
-shared-slice-read-used : tie.Need-shared-slice-read-used
-shared-slice-read-used c = search first_word
+bounds-words-0 : tie.Need-bounds-words-0
+bounds-words-0 c = search first_word
 
-slice-aggregate-find : tie.Need-slice-aggregate-find
-slice-aggregate-find c = search rules
+slice_bounds-find-end : tie.Need-slice_bounds-find-end
+slice_bounds-find-end c = search rules
 
-find-requires : tie.Need-find-requires
-find-requires c κs = to_find _ c.before.before.before.before.before.before.args.entry.now _ c.before.before.before.well-formed-2.ensures c.before.before.if1.false
+find-s-requires : tie.Need-find-s-requires
+find-s-requires c κs = to_find _ c.args.entry.now _ c.well-formed-2.ensures c.if-not-well_formed.false
 
-enum-known-f : tie.Need-enum-known-f
-enum-known-f c = search rules
+enum_known-f : tie.Need-enum_known-f
+enum_known-f c = search rules
 
-enum_told : tie.Need-enum-told
-enum_told c = search rules
+enum_told-1 : tie.Need-enum_told-1
+enum_told-1 c = search rules
 
-returns-2 : tie.Need-returns-2
-returns-2 c = search found_there
+returns-in-At : tie.Need-returns-in-At
+returns-in-At c = search found_there
 
-returns-3 : tie.Need-returns-3
-returns-3 c = search found_nowhere
+returns-in-Nothing : tie.Need-returns-in-Nothing
+returns-in-Nothing c = search found_nowhere
 
-pub find-entry-spec : {M : Type 1} → statement M
-find-entry-spec =
+pub find_entry_spec : {M : Type 1} → statement M
+find_entry_spec =
     tie.close
     (tie.spec
-    well-formed-requires
-    returns
-    shared-slice-read-used
-    slice-aggregate-find
-    find-requires
-    enum-known-f
-    enum_told
-    returns-2
-    returns-3)
+    well_formed-requires
+    returns-then-not-well_formed
+    bounds-words-0
+    slice_bounds-find-end
+    find-s-requires
+    enum_known-f
+    enum_told-1
+    returns-in-At
+    returns-in-Nothing)

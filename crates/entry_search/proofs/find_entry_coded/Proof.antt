@@ -4,8 +4,8 @@ use borrow.Author.Rules.{rules}
 use Rattle.entry_search.proofs.find_entry_coded.Statement.{statement}
 use Rattle.entry_search.proofs.find_entry_coded.Tie as tie
 
-find-entry-requires : tie.Need-find-entry-requires
-find-entry-requires c κs = search rules
+find_entry-requires : tie.Need-find_entry-requires
+find_entry-requires c κs = search rules
 
 tell-requires : tie.Need-tell-requires
 tell-requires c κs = search rules
@@ -13,5 +13,5 @@ tell-requires c κs = search rules
 returns : tie.Need-returns
 returns c = search told_same
 
-pub find-entry-coded-spec : {M : Type 1} → statement M
-find-entry-coded-spec = tie.close (tie.spec find-entry-requires tell-requires returns)
+pub find_entry_coded_spec : {M : Type 1} → statement M
+find_entry_coded_spec = tie.close (tie.spec find_entry-requires tell-requires returns)
