@@ -19,7 +19,7 @@ def norm(name):
     name = re.sub(r"^overflow-(?=(add|sub|mul|div|rem|shl|shr|cast|neg)-)", "", name)
     name = re.sub(r"^slice-bounds-", "part-", name)
     name = re.sub(r"^nonzero-(?=div|rem)", "", name)
-    return name.replace("-", "_")
+    return re.sub(r"_(\d+)$", r"\1", name.replace("-", "_"))
 
 
 GENERIC = set("args requires ensures before result new old now invariant true false lifetimes ranges given 0 1 2 3 4 5 is value".split())
@@ -166,11 +166,34 @@ def convert(path, d, crate, function, said):
 
 def negated(text):
     """A test `!x` tells of x itself now, and no longer of `not x`."""
-    text = re.sub(r"\(not-true (?:_|\([^()]*\)) \(?([^\s()]+-not-[^\s()]+\.true)\)?\)", r"\1", text)
-    text = re.sub(r"\(not-false (?:_|\([^()]*\)) \(?([^\s()]+-not-[^\s()]+\.false)\)?\)", r"\1", text)
-    text = re.sub(r"not-true (?:_|\([^()]*\)) \(?([^\s()]+-not-[^\s()]+\.true)\)?", r"\1", text)
-    text = re.sub(r"not-false (?:_|\([^()]*\)) \(?([^\s()]+-not-[^\s()]+\.false)\)?", r"\1", text)
+    test = r"[^\s(){};,]+-not-[^\s(){};,.]+\.%s"
+    for name, side in (("not-true", "true"), ("not-false", "false")):
+        arg = rf"{name} (?:_|[^\s()]+|\([^()]*\)) \(?({test % side})\)?"
+        text = re.sub(rf"\({arg}\)", lambda m: "\0" + m.group(1), text)
+        text = re.sub(arg, lambda m: "\0" + m.group(1), text)
+    lines = []
+    used = False
+    for line in text.split("\n"):
+        if re.search(r"\b(use|--)\s", line) is None:
+            new = re.sub(r"(?<![\0\w.])(c\.if-not-[^\s(){};,.]+\.(?:true|false))(?![^\s(){};,])", lambda m: f"(ap not {m.group(1)})", line)
+            used = used or new != line
+            line = new
+        lines.append(line)
+    text = "\n".join(lines).replace("\0", "")
+    if used:
+        text = bring(bring(text, "mathlib.Core.Path", "ap"), "mathlib.Core.Bool", "not")
     return text
+
+
+def bring(text, module, name):
+    """Imports a name, where it is not imported."""
+    if re.search(rf"(?m)^use [^\n]*[{{ ]{re.escape(name)}[,}}]", text):
+        return text
+    m = re.search(rf"(?m)^use {re.escape(module)}\.\{{", text)
+    if m:
+        return text[: m.end()] + name + ", " + text[m.end() :]
+    m = re.search(r"(?m)^use ", text)
+    return text[: m.start()] + f"use {module}.{{{name}}}\n" + text[m.start() :]
 
 
 def goals(text, aliases, said, path, function):

@@ -1,4 +1,6 @@
 -- `entry_search::find_entry` meets its contract.
+use mathlib.Core.Bool.{not}
+use mathlib.Core.Path.{ap}
 use Rattle.entry_search.proofs.Shown.{turned_back, first_word, to_find, found_there, found_nowhere}
 use borrow.Author.Rules.{rules}
 use Rattle.entry_search.proofs.find_entry.Statement.{statement}
@@ -17,7 +19,7 @@ slice_bounds-find-end : tie.Need-slice_bounds-find-end
 slice_bounds-find-end c = search rules
 
 find-s-requires : tie.Need-find-s-requires
-find-s-requires c κs = to_find _ c.args.entry.now _ c.well-formed-2.ensures c.if-not-well_formed.false
+find-s-requires c κs = to_find _ c.args.entry.now _ c.well_formed-2.ensures (ap not c.if-not-well_formed.false)
 
 enum_known-f : tie.Need-enum_known-f
 enum_known-f c = search rules
