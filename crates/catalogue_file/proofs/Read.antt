@@ -1,14 +1,14 @@
 -- What is written is read back, and what is read is what is written. Assumes nothing.
 use mathlib.Core.Path.{◌≡◌, refl, sym, ap, ◌∙◌}
-use mathlib.Core.Bool.{Bool, true, false, ◌&&◌}
+use mathlib.Core.Bool.{true}
 use mathlib.Core.List.{List, [], ◌∷◌, ◌++◌, append_assoc, append-nil}
-use Prim.Native.Nat.{ℕ, zero, suc, ◌+◌, ◌-◌, ◌*◌, ◌/◌, ◌%◌, ◌^◌, ◌≤◌, ◌<◌}
+use Prim.Native.Nat.{ℕ, ◌+◌, ◌-◌, ◌*◌, ◌^◌, ◌≤◌, ◌<◌}
 use native.Mathlib.Omega.{arith}
 use borrow.Author.Tests.{le-leb, eq-eqb, leb-true, eqb-true}
 use lib.Dec.{eqb, leb}
-use lib.ListN.{length, take, drop, get_or, length-append, length-take, length-drop, take-append-drop}
+use lib.ListN.{length, take, drop, get_or, length-append, length-drop, take-append-drop}
 use lib.Seq.{take_at, drop_at, drop-drop, get_or-drop, length-take-le, take_all}
-use Rattle.source.specs.Packed.{of_bytes, packed}
+use Rattle.source.specs.Packed.{of_bytes}
 use Rattle.source.proofs.Packing.{length_packed}
 use Rattle.wellformed.proofs.Bools.{and_left, and_right}
 use Rattle.catalogue_file.specs.File.{bytes_of, spelled, later_words, trailer, file_of, start_in, count_in, trailed, words_in, label_in}

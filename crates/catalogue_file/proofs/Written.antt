@@ -5,7 +5,7 @@ use Prim.Native.Nat.{ℕ, zero, suc, ◌+◌, ◌-◌, ◌*◌, ◌/◌, ◌%◌
 use native.Mathlib.Omega.{arith}
 use native.Mathlib.Numerals.{add-one}
 use lib.ListN.{length, take, drop, get_or, set, length-append, length-take, length-drop}
-use lib.Seq.{drop-cons, set_at, take_at, drop_at, drop-drop, take-suc, append_snoc, length-take-le, drop-append-add, take_all, get_or-drop, get_or-take, take-append-le, drop-append-le}
+use lib.Seq.{drop-cons, set_at, take_at, drop_at, drop-drop, take-suc, length-take-le, drop-append-add, drop-append-le}
 use Rattle.catalogue_file.specs.File.{bytes_of, spelled, file_of}
 use Rattle.catalogue_file.proofs.Spelled.{length_bytes, length_spelled, spelled_append}
 

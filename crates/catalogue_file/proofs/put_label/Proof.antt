@@ -7,47 +7,47 @@ use Rattle.words.proofs.Copy.{front, front_none, front_more, front_all}
 use Rattle.catalogue_file.proofs.put_label.Statement.{statement}
 use Rattle.catalogue_file.proofs.put_label.Tie as tie
 
-abbrev invariant-loop : tie.invariant-loop
-invariant-loop out₀ label i₀ out i = (i ≤ length label) × (length out ≡ length out₀) × (out ≡ front label i out₀)
+abbrev invariant-loop-i : tie.invariant-loop-i
+invariant-loop-i out₀ label i₀ out i = (i ≤ length label) × (length out ≡ length out₀) × (out ≡ front label i out₀)
 
-abbrev decreases-loop : tie.decreases-loop
-decreases-loop out₀ label i₀ out i = length label - i
+abbrev decreases-loop-i : tie.decreases-loop-i
+decreases-loop-i out₀ label i₀ out i = length label - i
 
-loop-holds : tie.Need-loop-init invariant-loop decreases-loop
-loop-holds c = (search rules, refl, front_none _ _)
+loop-i-init : tie.Need-loop-i-init invariant-loop-i decreases-loop-i
+loop-i-init c = (search rules, refl, front_none _ _)
 
-shared-slice-read-out : tie.Need-shared-slice-read-out invariant-loop decreases-loop
-shared-slice-read-out c = search rules
+bounds-label-i : tie.Need-bounds-label-i invariant-loop-i decreases-loop-i
+bounds-label-i c = search rules
 
-slice-write-out : tie.Need-slice-write-out invariant-loop decreases-loop
-slice-write-out c = search rules
+bounds-out-i : tie.Need-bounds-out-i invariant-loop-i decreases-loop-i
+bounds-out-i c = search rules
 
-add-i : tie.Need-overflow-add-i invariant-loop decreases-loop
-add-i c = search rules
+overflow_add-i : tie.Need-overflow_add-i invariant-loop-i decreases-loop-i
+overflow_add-i c = search rules
 
-loop-less : tie.Need-loop-smaller invariant-loop decreases-loop
-loop-less c = search rules
+loop-i-smaller : tie.Need-loop-i-smaller invariant-loop-i decreases-loop-i
+loop-i-smaller c = search rules
 
-loop-again : tie.Need-loop-preserved invariant-loop decreases-loop
-loop-again c = (search rules, simp length-set (search rules), search front_more)
+loop-i-preserved : tie.Need-loop-i-preserved invariant-loop-i decreases-loop-i
+loop-i-preserved c = (search rules, simp length-set (search rules), search front_more)
 
-same_length : tie.Need-same-length invariant-loop decreases-loop
-same_length c = search rules
+shape_of-out : tie.Need-shape_of-out invariant-loop-i decreases-loop-i
+shape_of-out c = search rules
 
-returns : tie.Need-returns invariant-loop decreases-loop
+returns : tie.Need-returns invariant-loop-i decreases-loop-i
 returns c = search front_all
 
-pub put-label-spec : {M : Type 1} → statement M
-put-label-spec =
+pub put_label_spec : {M : Type 1} → statement M
+put_label_spec =
     tie.close
     (tie.spec
-    invariant-loop
-    decreases-loop
-    loop-holds
-    shared-slice-read-out
-    slice-write-out
-    add-i
-    loop-less
-    loop-again
-    same_length
+    invariant-loop-i
+    decreases-loop-i
+    loop-i-init
+    bounds-label-i
+    bounds-out-i
+    overflow_add-i
+    loop-i-smaller
+    loop-i-preserved
+    shape_of-out
     returns)

@@ -1,59 +1,58 @@
 -- `catalogue_file::put_word` meets its contract.
 use borrow.Author.Rules.{rules}
 use mathlib.Core.Path.{◌≡◌, refl}
-use Prim.Native.Nat.{◌+◌, ◌-◌, ◌≤◌}
-use native.Mathlib.Omega.{arith}
+use Prim.Native.Nat.{◌-◌, ◌≤◌}
 use lib.ListN.{length, length-set}
 use Rattle.catalogue_file.proofs.Written.{shifted, placed, placed_none, placed_more, shifted_more, placed_all}
 use Rattle.catalogue_file.proofs.put_word.Statement.{statement}
 use Rattle.catalogue_file.proofs.put_word.Tie as tie
 
-abbrev invariant-loop : tie.invariant-loop
-invariant-loop out₀ at w x₀ j₀ out x j = (j ≤ 8) × (length out ≡ length out₀) × (out ≡ placed out₀ at w j) × (x ≡ shifted j w)
+abbrev invariant-loop-j : tie.invariant-loop-j
+invariant-loop-j out₀ at w x₀ j₀ out x j = (j ≤ 8) × (length out ≡ length out₀) × (out ≡ placed out₀ at w j) × (x ≡ shifted j w)
 
-abbrev decreases-loop : tie.decreases-loop
-decreases-loop out₀ at w x₀ j₀ out x j = 8 - j
+abbrev decreases-loop-j : tie.decreases-loop-j
+decreases-loop-j out₀ at w x₀ j₀ out x j = 8 - j
 
-loop-holds : tie.Need-loop-init invariant-loop decreases-loop
+loop-j-init : tie.Need-loop-j-init invariant-loop-j decreases-loop-j
 unfolding shifted
-loop-holds c = (search rules, refl, search placed_none, refl)
+loop-j-init c = (search rules, refl, search placed_none, refl)
 
-cast-out : tie.Need-overflow-cast-out invariant-loop decreases-loop
-cast-out c = search rules
+overflow_cast-out : tie.Need-overflow_cast-out invariant-loop-j decreases-loop-j
+overflow_cast-out c = search rules
 
-add-out : tie.Need-overflow-add-out invariant-loop decreases-loop
-add-out c = search rules
+overflow_add-out : tie.Need-overflow_add-out invariant-loop-j decreases-loop-j
+overflow_add-out c = search rules
 
-slice-write-out : tie.Need-slice-write-out invariant-loop decreases-loop
-slice-write-out c = search rules
+bounds-out-at : tie.Need-bounds-out-at invariant-loop-j decreases-loop-j
+bounds-out-at c = search rules
 
-add-j : tie.Need-overflow-add-j invariant-loop decreases-loop
-add-j c = search rules
+overflow_add-j : tie.Need-overflow_add-j invariant-loop-j decreases-loop-j
+overflow_add-j c = search rules
 
-loop-less : tie.Need-loop-smaller invariant-loop decreases-loop
-loop-less c = search rules
+loop-j-smaller : tie.Need-loop-j-smaller invariant-loop-j decreases-loop-j
+loop-j-smaller c = search rules
 
-loop-again : tie.Need-loop-preserved invariant-loop decreases-loop
-loop-again c = (search rules, simp length-set (search rules), search placed_more, search shifted_more)
+loop-j-preserved : tie.Need-loop-j-preserved invariant-loop-j decreases-loop-j
+loop-j-preserved c = (search rules, simp length-set (search rules), search placed_more, search shifted_more)
 
-same_length : tie.Need-same-length invariant-loop decreases-loop
-same_length c = search rules
+shape_of-out : tie.Need-shape_of-out invariant-loop-j decreases-loop-j
+shape_of-out c = search rules
 
-returns : tie.Need-returns invariant-loop decreases-loop
+returns : tie.Need-returns invariant-loop-j decreases-loop-j
 returns c = search placed_all
 
-pub put-word-spec : {M : Type 1} → statement M
-put-word-spec =
+pub put_word_spec : {M : Type 1} → statement M
+put_word_spec =
     tie.close
     (tie.spec
-    invariant-loop
-    decreases-loop
-    loop-holds
-    cast-out
-    add-out
-    slice-write-out
-    add-j
-    loop-less
-    loop-again
-    same_length
+    invariant-loop-j
+    decreases-loop-j
+    loop-j-init
+    overflow_cast-out
+    overflow_add-out
+    bounds-out-at
+    overflow_add-j
+    loop-j-smaller
+    loop-j-preserved
+    shape_of-out
     returns)
