@@ -19,7 +19,7 @@ use Rattle.index.proofs.Keep.{covers_none}
 use Rattle.wellformed.specs.Form.{well_formed, used_words}
 use Rattle.wellformed.specs.Scan.{Verified}
 use Rattle.wellformed.proofs.Before.{tests, well_segments}
-use Rattle.call.specs.Call.{Reply, handle, refused, Outcome, left, made, ◌when◌, settle, call, ask}
+use Rattle.call.specs.Call.{Reply, refused, Outcome, left, made, ◌when◌, settle, call, ask}
 use Rattle.call.specs.Steps.{used_of, Beginning, finish_in}
 use Rattle.call.specs.declared.Made.TheVariants.{Handle, Refused}
 use Rattle.call.proofs.Zeros.{all_zero_is}

@@ -10,55 +10,55 @@ use borrow.Author.Rules.{rules}
 use Rattle.call.proofs.all_kinds.Statement.{statement}
 use Rattle.call.proofs.all_kinds.Tie as tie
 
-abbrev invariant-loop : tie.invariant-loop
-invariant-loop old new used hs low high i₀ i = (i ≤ length hs) × (all (kind_at (word (take used (old ++ new))) (kind_in low high)) hs ≡ all (kind_at (word (take used (old ++ new))) (kind_in low high)) (drop i hs))
+abbrev invariant-loop-i : tie.invariant-loop-i
+invariant-loop-i old new used hs low high i₀ i = (i ≤ length hs) × (all (kind_at (word (take used (old ++ new))) (kind_in low high)) hs ≡ all (kind_at (word (take used (old ++ new))) (kind_in low high)) (drop i hs))
 
-abbrev decreases-loop : tie.decreases-loop
-decreases-loop old new used hs low high i₀ i = length hs - i
+abbrev decreases-loop-i : tie.decreases-loop-i
+decreases-loop-i old new used hs low high i₀ i = length hs - i
 
-loop-holds : tie.Need-loop-init invariant-loop decreases-loop
-loop-holds c = (search rules, refl)
+loop-i-init : tie.Need-loop-i-init invariant-loop-i decreases-loop-i
+loop-i-init c = (search rules, refl)
 
-mul-kind-on : tie.Need-overflow-mul-kind-on invariant-loop decreases-loop
-mul-kind-on c = search rules
+offset_bounds-hs-i : tie.Need-offset_bounds-hs-i invariant-loop-i decreases-loop-i
+offset_bounds-hs-i c = search rules
 
-shared-slice-read-kind-on : tie.Need-shared-slice-read-kind-on invariant-loop decreases-loop
-shared-slice-read-kind-on c = search rules
+bounds-hs-i : tie.Need-bounds-hs-i invariant-loop-i decreases-loop-i
+bounds-hs-i c = search rules
 
-kind-on-requires : tie.Need-kind-on-requires invariant-loop decreases-loop
-kind-on-requires c κs = search rules
+kind_on-k-requires : tie.Need-kind_on-k-requires invariant-loop-i decreases-loop-i
+kind_on-k-requires c κs = search rules
 
-returns : tie.Need-returns invariant-loop decreases-loop
-returns c = search kind_low
+returns-then-k-low : tie.Need-returns-then-k-low invariant-loop-i decreases-loop-i
+returns-then-k-low c = search kind_low
 
-returns-2 : tie.Need-returns-2 invariant-loop decreases-loop
-returns-2 c = search kind_high
+returns-then-k-high : tie.Need-returns-then-k-high invariant-loop-i decreases-loop-i
+returns-then-k-high c = search kind_high
 
-add-i : tie.Need-overflow-add-i invariant-loop decreases-loop
-add-i c = search rules
+overflow_add-i : tie.Need-overflow_add-i invariant-loop-i decreases-loop-i
+overflow_add-i c = search rules
 
-loop-less : tie.Need-loop-smaller invariant-loop decreases-loop
-loop-less c = search rules
+loop-i-smaller : tie.Need-loop-i-smaller invariant-loop-i decreases-loop-i
+loop-i-smaller c = search rules
 
-loop-again : tie.Need-loop-preserved invariant-loop decreases-loop
-loop-again c = let s = c.before.before.before.before.before.before.before.before.before in (search rules, kind_right (take s.args.used (s.args.old.now ++ s.args.new.now)) s.args.hs.now _ _ _ c.before.before.before.before.before.loop.invariant.1 c.before.before.before.before.loop-test.true _ c.before.before.kind-on.ensures c.before.if1.false c.if2.false)
+loop-i-preserved : tie.Need-loop-i-preserved invariant-loop-i decreases-loop-i
+loop-i-preserved c = (search rules, kind_right (take c.args.used (c.args.old.now ++ c.args.new.now)) c.args.hs.now _ _ _ c.loop-i.invariant.1 c.loop-i-test.true _ c.kind_on-k.ensures c.if-k-low.false c.if-k-high.false)
 
-returns-3 : tie.Need-returns-3 invariant-loop decreases-loop
-returns-3 c = search all_end
+returns : tie.Need-returns invariant-loop-i decreases-loop-i
+returns c = search all_end
 
-pub all-kinds-spec : {M : Type 1} → statement M
-all-kinds-spec =
+pub all_kinds_spec : {M : Type 1} → statement M
+all_kinds_spec =
     tie.close
     (tie.spec
-    invariant-loop
-    decreases-loop
-    loop-holds
-    mul-kind-on
-    shared-slice-read-kind-on
-    kind-on-requires
-    returns
-    returns-2
-    add-i
-    loop-less
-    loop-again
-    returns-3)
+    invariant-loop-i
+    decreases-loop-i
+    loop-i-init
+    offset_bounds-hs-i
+    bounds-hs-i
+    kind_on-k-requires
+    returns-then-k-low
+    returns-then-k-high
+    overflow_add-i
+    loop-i-smaller
+    loop-i-preserved
+    returns)

@@ -9,51 +9,51 @@ use borrow.Author.Rules.{rules}
 use Rattle.call.proofs.all_start.Statement.{statement}
 use Rattle.call.proofs.all_start.Tie as tie
 
-abbrev invariant-loop : tie.invariant-loop
-invariant-loop bits hs i₀ i = (i ≤ length hs) × (all (bit_at bits) hs ≡ all (bit_at bits) (drop i hs))
+abbrev invariant-loop-i : tie.invariant-loop-i
+invariant-loop-i bits hs i₀ i = (i ≤ length hs) × (all (bit_at bits) hs ≡ all (bit_at bits) (drop i hs))
 
-abbrev decreases-loop : tie.decreases-loop
-decreases-loop bits hs i₀ i = length hs - i
+abbrev decreases-loop-i : tie.decreases-loop-i
+decreases-loop-i bits hs i₀ i = length hs - i
 
-loop-holds : tie.Need-loop-init invariant-loop decreases-loop
-loop-holds c = (search rules, refl)
+loop-i-init : tie.Need-loop-i-init invariant-loop-i decreases-loop-i
+loop-i-init c = (search rules, refl)
 
-mul-contains : tie.Need-overflow-mul-contains invariant-loop decreases-loop
-mul-contains c = search rules
+offset_bounds-hs-i : tie.Need-offset_bounds-hs-i invariant-loop-i decreases-loop-i
+offset_bounds-hs-i c = search rules
 
-shared-slice-read-contains : tie.Need-shared-slice-read-contains invariant-loop decreases-loop
-shared-slice-read-contains c = search rules
+bounds-hs-i : tie.Need-bounds-hs-i invariant-loop-i decreases-loop-i
+bounds-hs-i c = search rules
 
-contains-requires : tie.Need-contains-requires invariant-loop decreases-loop
+contains-requires : tie.Need-contains-requires invariant-loop-i decreases-loop-i
 contains-requires c κs = search rules
 
-returns : tie.Need-returns invariant-loop decreases-loop
-returns c = search stop_at
+returns-then-not-contains : tie.Need-returns-then-not-contains invariant-loop-i decreases-loop-i
+returns-then-not-contains c = search stop_at
 
-add-i : tie.Need-overflow-add-i invariant-loop decreases-loop
-add-i c = search rules
+overflow_add-i : tie.Need-overflow_add-i invariant-loop-i decreases-loop-i
+overflow_add-i c = search rules
 
-loop-less : tie.Need-loop-smaller invariant-loop decreases-loop
-loop-less c = search rules
+loop-i-smaller : tie.Need-loop-i-smaller invariant-loop-i decreases-loop-i
+loop-i-smaller c = search rules
 
-loop-again : tie.Need-loop-preserved invariant-loop decreases-loop
-loop-again c = (search rules, search go_on)
+loop-i-preserved : tie.Need-loop-i-preserved invariant-loop-i decreases-loop-i
+loop-i-preserved c = (search rules, search go_on)
 
-returns-2 : tie.Need-returns-2 invariant-loop decreases-loop
-returns-2 c = search all_end
+returns : tie.Need-returns invariant-loop-i decreases-loop-i
+returns c = search all_end
 
-pub all-start-spec : {M : Type 1} → statement M
-all-start-spec =
+pub all_start_spec : {M : Type 1} → statement M
+all_start_spec =
     tie.close
     (tie.spec
-    invariant-loop
-    decreases-loop
-    loop-holds
-    mul-contains
-    shared-slice-read-contains
+    invariant-loop-i
+    decreases-loop-i
+    loop-i-init
+    offset_bounds-hs-i
+    bounds-hs-i
     contains-requires
-    returns
-    add-i
-    loop-less
-    loop-again
-    returns-2)
+    returns-then-not-contains
+    overflow_add-i
+    loop-i-smaller
+    loop-i-preserved
+    returns)

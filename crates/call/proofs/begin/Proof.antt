@@ -7,22 +7,22 @@ use Rattle.call.proofs.begin.Tie as tie
 verify-requires : tie.Need-verify-requires
 verify-requires c κs = search rules
 
-same_length : tie.Need-same-length
-same_length c = search rules
+shape_of-bits-then-not-verify : tie.Need-shape_of-bits-then-not-verify
+shape_of-bits-then-not-verify c = search rules
+
+returns-then-not-verify : tie.Need-returns-then-not-verify
+returns-then-not-verify c = search no_opening
+
+bounds-words-0 : tie.Need-bounds-words-0
+bounds-words-0 c = search first_word
+
+shape_of-bits : tie.Need-shape_of-bits
+shape_of-bits c = search rules
 
 returns : tie.Need-returns
-returns c = search no_opening
+returns c = search an_opening
 
-shared-slice-read-w : tie.Need-shared-slice-read-w
-shared-slice-read-w c = search first_word
-
-same-length-2 : tie.Need-same-length-2
-same-length-2 c = search rules
-
-returns-2 : tie.Need-returns-2
-returns-2 c = search an_opening
-
-pub begin-spec : {M : Type 1} → statement M
-begin-spec =
+pub begin_spec : {M : Type 1} → statement M
+begin_spec =
     tie.close
-    (tie.spec verify-requires same_length returns shared-slice-read-w same-length-2 returns-2)
+    (tie.spec verify-requires shape_of-bits-then-not-verify returns-then-not-verify bounds-words-0 shape_of-bits returns)

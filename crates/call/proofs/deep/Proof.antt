@@ -11,51 +11,51 @@ use borrow.Author.Rules.{rules}
 use Rattle.call.proofs.deep.Statement.{statement}
 use Rattle.call.proofs.deep.Tie as tie
 
-abbrev invariant-loop : tie.invariant-loop
-invariant-loop old new used hs d₀ i₀ d i = (i ≤ length hs) × (d < 256) × (deepest (word (take used (old ++ new))) hs ≡ max d (deepest (word (take used (old ++ new))) (drop i hs)))
+abbrev invariant-loop-i : tie.invariant-loop-i
+invariant-loop-i old new used hs d₀ i₀ d i = (i ≤ length hs) × (d < 256) × (deepest (word (take used (old ++ new))) hs ≡ max d (deepest (word (take used (old ++ new))) (drop i hs)))
 
-abbrev decreases-loop : tie.decreases-loop
-decreases-loop old new used hs d₀ i₀ d i = length hs - i
+abbrev decreases-loop-i : tie.decreases-loop-i
+decreases-loop-i old new used hs d₀ i₀ d i = length hs - i
 
-loop-holds : tie.Need-loop-init invariant-loop decreases-loop
-loop-holds c = (search rules, search rules, omega arith)
+loop-i-init : tie.Need-loop-i-init invariant-loop-i decreases-loop-i
+loop-i-init c = (search rules, search rules, omega arith)
 
-mul-depth-on : tie.Need-overflow-mul-depth-on invariant-loop decreases-loop
-mul-depth-on c = search rules
+offset_bounds-hs-i : tie.Need-offset_bounds-hs-i invariant-loop-i decreases-loop-i
+offset_bounds-hs-i c = search rules
 
-shared-slice-read-depth-on : tie.Need-shared-slice-read-depth-on invariant-loop decreases-loop
-shared-slice-read-depth-on c = search rules
+bounds-hs-i : tie.Need-bounds-hs-i invariant-loop-i decreases-loop-i
+bounds-hs-i c = search rules
 
-depth-on-requires : tie.Need-depth-on-requires invariant-loop decreases-loop
-depth-on-requires c κs = search rules
+depth_on-requires : tie.Need-depth_on-requires invariant-loop-i decreases-loop-i
+depth_on-requires c κs = search rules
 
-larger-requires : tie.Need-larger-requires invariant-loop decreases-loop
-larger-requires c κs = search rules
+larger-d-requires : tie.Need-larger-d-requires invariant-loop-i decreases-loop-i
+larger-d-requires c κs = search rules
 
-add-i : tie.Need-overflow-add-i invariant-loop decreases-loop
-add-i c = search rules
+overflow_add-i : tie.Need-overflow_add-i invariant-loop-i decreases-loop-i
+overflow_add-i c = search rules
 
-loop-less : tie.Need-loop-smaller invariant-loop decreases-loop
-loop-less c = search rules
+loop-i-smaller : tie.Need-loop-i-smaller invariant-loop-i decreases-loop-i
+loop-i-smaller c = search rules
 
-loop-again : tie.Need-loop-preserved invariant-loop decreases-loop
-loop-again c = (search rules, search rules, search deep_on)
+loop-i-preserved : tie.Need-loop-i-preserved invariant-loop-i decreases-loop-i
+loop-i-preserved c = (search rules, search rules, search deep_on)
 
-returns : tie.Need-returns invariant-loop decreases-loop
+returns : tie.Need-returns invariant-loop-i decreases-loop-i
 returns c = (search deep_end, search rules)
 
-pub deep-spec : {M : Type 1} → statement M
-deep-spec =
+pub deep_spec : {M : Type 1} → statement M
+deep_spec =
     tie.close
     (tie.spec
-    invariant-loop
-    decreases-loop
-    loop-holds
-    mul-depth-on
-    shared-slice-read-depth-on
-    depth-on-requires
-    larger-requires
-    add-i
-    loop-less
-    loop-again
+    invariant-loop-i
+    decreases-loop-i
+    loop-i-init
+    offset_bounds-hs-i
+    bounds-hs-i
+    depth_on-requires
+    larger-d-requires
+    overflow_add-i
+    loop-i-smaller
+    loop-i-preserved
     returns)
