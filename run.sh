@@ -5,7 +5,8 @@ top=$(cd "$(dirname "$0")" && pwd) || exit 2
 program=$top/target/bin/calls
 if [ ! -x "$program" ]; then
     echo "building calls: the proofs are checked first .." >&2
-    (cd "$top" && rt check calls >&2) || { echo "run.sh: the program was not built" >&2; exit 1; }
+    (cd "$top/crates/calls" && rt run </dev/null >&2) || { echo "run.sh: the program was not built" >&2; exit 1; }
+    mkdir -p "$top/target/bin" && cp "$top/crates/calls/out/calls" "$program" || exit 1
 fi
 if [ $# -eq 0 ]; then exec "$program"; fi
 for script in "$@"; do

@@ -26,7 +26,7 @@ apart() {
 
 if [ -z "$NEW" ]; then
     echo "building the library .." >&2
-    rt staticlib lattice_c >&2 || exit 1
+    sh archive.sh lattice_c >&2 || exit 1
     NEW=target/staticlib/liblattice_c.a
 fi
 cp "$NEW" "$libs/libnew.a" || exit 1
@@ -82,7 +82,7 @@ fi
 
 if ! asked search "$@" && ! asked heads "$@"; then
     :
-elif echo "building the search .." >&2 && rt staticlib search_c >&2 && cp target/staticlib/libsearch_c.a "$libs" && apart "$libs/libsearch_c.a" "$libs/libnew.a"; then
+elif echo "building the search .." >&2 && sh archive.sh search_c >&2 && cp target/staticlib/libsearch_c.a "$libs" && apart "$libs/libsearch_c.a" "$libs/libnew.a"; then
     flags="$flags -l static=search_c --cfg search"
 else
     echo "run.sh: the search was not built, its tables are left out" >&2

@@ -1,7 +1,7 @@
 /*
  * ferigulan.h: the type lattice of a compiler for amusement-ride control cabinets, for C99 and C++.
  *
- * The functions are those of liblattice_c.a, which `rt staticlib lattice_c` proves and builds. Link it, x86-64 alone:
+ * The functions are those of liblattice_c.a, which `sh archive.sh lattice_c` proves and builds. Link it, x86-64 alone:
  *
  *     cc -std=c99 -I include program.c target/staticlib/liblattice_c.a
  *

@@ -18,7 +18,7 @@ planted* | damage*) ;;
 *' ' | *' '*[!0-9]*) sed -n '2,7s/^# //p' "$0" >&2 && exit 2 ;;
 esac
 [ -r "$FERIGULAN_LIB/liblattice_c.a" ] || {
-    echo "oracle/linked.sh: $FERIGULAN_LIB/liblattice_c.a: no archive there. 'rt staticlib lattice_c' makes it; FERIGULAN_LIB names another folder" >&2
+    echo "oracle/linked.sh: $FERIGULAN_LIB/liblattice_c.a: no archive there. 'sh archive.sh lattice_c' makes it; FERIGULAN_LIB names another folder" >&2
     exit 2
 }
 FERIGULAN_LIB=$(cd "$FERIGULAN_LIB" && pwd)

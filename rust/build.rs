@@ -22,7 +22,7 @@ fn main() {
     let archive = folder.join(ARCHIVE);
     println!("cargo::rerun-if-changed={}", archive.display());
     if !archive.is_file() {
-        let how = format!("run 'rt staticlib lattice_c' in the repository, or set FERIGULAN_LIB to a folder that has {ARCHIVE}");
+        let how = format!("run 'sh archive.sh lattice_c' in the repository, or set FERIGULAN_LIB to a folder that has {ARCHIVE}");
         println!("cargo::error=there is no {}: {how}", archive.display());
         return;
     }

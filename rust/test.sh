@@ -54,8 +54,8 @@ else
     needs rt "the Rattle kit"
     FERIGULAN_LIB=$top/target/staticlib
     # this takes some minutes where it is not built yet, so its lines are shown as they come
-    echo " 1. the archive, with its proofs: rt staticlib lattice_c"
-    { rt staticlib lattice_c 2>&1; echo $? >"$logs/status"; } | tee "$log" | sed 's/^/    /'
+    echo " 1. the archive, with its proofs: sh archive.sh lattice_c"
+    { sh archive.sh lattice_c 2>&1; echo $? >"$logs/status"; } | tee "$log" | sed 's/^/    /'
     [ "$(cat "$logs/status")" = 0 ] || { echo "rust/test.sh: step 1 failed: the archive was not built" >&2; exit 1; }
     steps=1
 fi

@@ -1,6 +1,6 @@
 //! The type lattice of a compiler for amusement-ride control cabinets, over words that the caller lends.
 //!
-//! The work is done by an archive of proved functions, `liblattice_c.a`, which `rt staticlib lattice_c` builds and proves in the
+//! The work is done by an archive of proved functions, `liblattice_c.a`, which `sh archive.sh lattice_c` builds and proves in the
 //! repository; this crate links it and gives its functions Rust's types. It allocates nothing and needs no `std`. "Document 01" is the
 //! contract that the archive is proved against, and document 02 has the requests that came after it.
 //!
@@ -51,7 +51,7 @@
 //! ferigulan = { path = "../ferigulan/rust" }
 //! ```
 //!
-//! The archive is looked for in the repository's `target/staticlib`, where `rt staticlib lattice_c` writes it, or in the folder that the
+//! The archive is looked for in the repository's `target/staticlib`, where `sh archive.sh lattice_c` writes it, or in the folder that the
 //! environment variable `FERIGULAN_LIB` names, by an absolute path: a relative one is taken from this crate's folder.
 //!
 //! # Threads
