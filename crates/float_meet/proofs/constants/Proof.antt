@@ -4,21 +4,21 @@ use borrow.Author.Rules.{rules}
 use Rattle.float_meet.proofs.constants.Statement.{statement}
 use Rattle.float_meet.proofs.constants.Tie as tie
 
-is-single-requires : tie.Need-is-single-requires
-is-single-requires c κs = search rules
+is_single-requires : tie.Need-is_single-requires
+is_single-requires c κs = search rules
+
+returns-then-not-is_single : tie.Need-returns-then-not-is_single
+returns-then-not-is_single c = search first_not_single
+
+is_single-requires-2 : tie.Need-is_single-requires-2
+is_single-requires-2 c κs = search rules
+
+returns-then-not-is_single-2 : tie.Need-returns-then-not-is_single-2
+returns-then-not-is_single-2 c = search second_not_single
 
 returns : tie.Need-returns
-returns c = search first_not_single
+returns c = search both_single
 
-is-single-requires-2 : tie.Need-is-single-requires-2
-is-single-requires-2 c κs = search rules
-
-returns-2 : tie.Need-returns-2
-returns-2 c = search second_not_single
-
-returns-3 : tie.Need-returns-3
-returns-3 c = search both_single
-
-pub constants-spec : {M : Type 1} → statement M
-constants-spec =
-    tie.close (tie.spec is-single-requires returns is-single-requires-2 returns-2 returns-3)
+pub constants_spec : {M : Type 1} → statement M
+constants_spec =
+    tie.close (tie.spec is_single-requires returns-then-not-is_single is_single-requires-2 returns-then-not-is_single-2 returns)

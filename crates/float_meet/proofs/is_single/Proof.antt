@@ -5,17 +5,17 @@ use borrow.Author.Rules.{rules}
 use Rattle.float_meet.proofs.is_single.Statement.{statement}
 use Rattle.float_meet.proofs.is_single.Tie as tie
 
+returns-then-x : tie.Need-returns-then-x
+returns-then-x c = search nan_not
+
+float_to_bits-x : tie.Need-float_to_bits-x
+float_to_bits-x c = search differs_not
+
+is_f32-requires : tie.Need-is_f32-requires
+is_f32-requires c κs = search rules
+
 returns : tie.Need-returns
-returns c = search nan_not
+returns c = search by_bits
 
-float-to-bits-is-f32 : tie.Need-float-to-bits-is-f32
-float-to-bits-is-f32 c = search differs_not
-
-is-f32-requires : tie.Need-is-f32-requires
-is-f32-requires c κs = search rules
-
-returns-2 : tie.Need-returns-2
-returns-2 c = search by_bits
-
-pub is-single-spec : {M : Type 1} → statement M
-is-single-spec = tie.close (tie.spec returns float-to-bits-is-f32 is-f32-requires returns-2)
+pub is_single_spec : {M : Type 1} → statement M
+is_single_spec = tie.close (tie.spec returns-then-x float_to_bits-x is_f32-requires returns)

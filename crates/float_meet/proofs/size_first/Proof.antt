@@ -4,28 +4,28 @@ use borrow.Author.Rules.{rules}
 use Rattle.float_meet.proofs.size_first.Statement.{statement}
 use Rattle.float_meet.proofs.size_first.Tie as tie
 
+returns-then-z-eq64 : tie.Need-returns-then-z-eq64
+returns-then-z-eq64 c = search (sized_64, of_size_first)
+
+returns-then-z-eqminus64 : tie.Need-returns-then-z-eqminus64
+returns-then-z-eqminus64 c = search (sized_minus_64, of_size_first)
+
+is_single-requires : tie.Need-is_single-requires
+is_single-requires c κs = search rules
+
+returns-then-not-is_single : tie.Need-returns-then-not-is_single
+returns-then-not-is_single c = search (not_single, of_size_first)
+
+returns-then-z-eq32 : tie.Need-returns-then-z-eq32
+returns-then-z-eq32 c = search (sized_32, of_size_first)
+
+returns-then-z-eqminus32 : tie.Need-returns-then-z-eqminus32
+returns-then-z-eqminus32 c = search (sized_minus_32, of_size_first)
+
 returns : tie.Need-returns
-returns c = search (sized_64, of_size_first)
+returns c = search (no_size, of_size_first)
 
-returns-2 : tie.Need-returns-2
-returns-2 c = search (sized_minus_64, of_size_first)
-
-is-single-requires : tie.Need-is-single-requires
-is-single-requires c κs = search rules
-
-returns-3 : tie.Need-returns-3
-returns-3 c = search (not_single, of_size_first)
-
-returns-4 : tie.Need-returns-4
-returns-4 c = search (sized_32, of_size_first)
-
-returns-5 : tie.Need-returns-5
-returns-5 c = search (sized_minus_32, of_size_first)
-
-returns-6 : tie.Need-returns-6
-returns-6 c = search (no_size, of_size_first)
-
-pub size-first-spec : {M : Type 1} → statement M
-size-first-spec =
+pub size_first_spec : {M : Type 1} → statement M
+size_first_spec =
     tie.close
-    (tie.spec returns returns-2 is-single-requires returns-3 returns-4 returns-5 returns-6)
+    (tie.spec returns-then-z-eq64 returns-then-z-eqminus64 is_single-requires returns-then-not-is_single returns-then-z-eq32 returns-then-z-eqminus32 returns)
