@@ -1,34 +1,36 @@
 -- `search_c::bench_open` meets its contract.
+use mathlib.Core.Bool.{not}
+use mathlib.Core.Path.{ap}
 use Rattle.search_c.proofs.Told.{not_ready, first_word, to_open, ready}
 use borrow.Author.Rules.{rules}
 use Rattle.search_c.proofs.bench_open.Statement.{statement}
 use Rattle.search_c.proofs.bench_open.Tie as tie
 
-well-formed-requires : tie.Need-well-formed-requires
-well-formed-requires c κs = search rules
+well_formed-requires : tie.Need-well_formed-requires
+well_formed-requires c κs = search rules
 
-returns : tie.Need-returns
-returns c = search not_ready
+returns-then-not-well_formed : tie.Need-returns-then-not-well_formed
+returns-then-not-well_formed c = search not_ready
 
-shared-slice-read-used : tie.Need-shared-slice-read-used
-shared-slice-read-used c = search first_word
+bounds-words-0 : tie.Need-bounds-words-0
+bounds-words-0 c = search first_word
 
 open-requires : tie.Need-open-requires
-open-requires c κs = to_open _ _ c.before.before.before.well-formed-2.ensures c.before.before.if1.false
+open-requires c κs = to_open _ _ c.well_formed-2.ensures (ap not c.if-not-well_formed.false)
 
-same_length : tie.Need-same-length
-same_length c = search rules
+shape_of-index : tie.Need-shape_of-index
+shape_of-index c = search rules
 
-returns-2 : tie.Need-returns-2
-returns-2 c = search ready
+returns : tie.Need-returns
+returns c = search ready
 
-pub bench-open-spec : {M : Type 1} → statement M
-bench-open-spec =
+pub bench_open_spec : {M : Type 1} → statement M
+bench_open_spec =
     tie.close
     (tie.spec
-    well-formed-requires
-    returns
-    shared-slice-read-used
+    well_formed-requires
+    returns-then-not-well_formed
+    bounds-words-0
     open-requires
-    same_length
-    returns-2)
+    shape_of-index
+    returns)

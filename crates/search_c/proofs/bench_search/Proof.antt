@@ -5,8 +5,8 @@ use Rattle.words.proofs.Two.{from_one}
 use Rattle.search_c.proofs.bench_search.Statement.{statement}
 use Rattle.search_c.proofs.bench_search.Tie as tie
 
-slice-aggregate-find : tie.Need-slice-aggregate-find
-slice-aggregate-find c = search rules
+slice_bounds-find-end : tie.Need-slice_bounds-find-end
+slice_bounds-find-end c = search rules
 
 find-requires : tie.Need-find-requires
 find-requires c κs = (search rules, search from_one)
@@ -17,5 +17,5 @@ tell-requires c κs = search rules
 returns : tie.Need-returns
 returns c = search told
 
-pub bench-search-spec : {M : Type 1} → statement M
-bench-search-spec = tie.close (tie.spec slice-aggregate-find find-requires tell-requires returns)
+pub bench_search_spec : {M : Type 1} → statement M
+bench_search_spec = tie.close (tie.spec slice_bounds-find-end find-requires tell-requires returns)

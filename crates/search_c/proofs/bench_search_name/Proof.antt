@@ -5,11 +5,11 @@ use Rattle.words.proofs.Two.{from_one}
 use Rattle.search_c.proofs.bench_search_name.Statement.{statement}
 use Rattle.search_c.proofs.bench_search_name.Tie as tie
 
-slice-aggregate-find-bytes : tie.Need-slice-aggregate-find-bytes
-slice-aggregate-find-bytes c = search rules
+slice_bounds-find_bytes-end : tie.Need-slice_bounds-find_bytes-end
+slice_bounds-find_bytes-end c = search rules
 
-find-bytes-requires : tie.Need-find-bytes-requires
-find-bytes-requires c κs = ((search rules, search from_one), search rules)
+find_bytes-requires : tie.Need-find_bytes-requires
+find_bytes-requires c κs = ((search rules, search from_one), search rules)
 
 tell-requires : tie.Need-tell-requires
 tell-requires c κs = search rules
@@ -17,6 +17,6 @@ tell-requires c κs = search rules
 returns : tie.Need-returns
 returns c = search told_name
 
-pub bench-search-name-spec : {M : Type 1} → statement M
-bench-search-name-spec =
-    tie.close (tie.spec slice-aggregate-find-bytes find-bytes-requires tell-requires returns)
+pub bench_search_name_spec : {M : Type 1} → statement M
+bench_search_name_spec =
+    tie.close (tie.spec slice_bounds-find_bytes-end find_bytes-requires tell-requires returns)

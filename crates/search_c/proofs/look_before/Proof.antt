@@ -13,86 +13,82 @@ use Rattle.words.specs.Table.{rows, first_of}
 use Rattle.search_c.proofs.look_before.Statement.{statement}
 use Rattle.search_c.proofs.look_before.Tie as tie
 
-abbrev invariant-loop : tie.invariant-loop
-invariant-loop words from to entry at₀ at = (fills 0 (slice at to words) ≡ true) × (first_of (rows from 0 (slice from to words)) entry ≡ first_of (rows at 0 (slice at to words)) entry)
+abbrev invariant-loop-at : tie.invariant-loop-at
+invariant-loop-at words from to entry at₀ at = (fills 0 (slice at to words) ≡ true) × (first_of (rows from 0 (slice from to words)) entry ≡ first_of (rows at 0 (slice at to words)) entry)
 
-abbrev decreases-loop : tie.decreases-loop
-decreases-loop words from to entry at₀ at = to - at
+abbrev decreases-loop-at : tie.decreases-loop-at
+decreases-loop-at words from to entry at₀ at = to - at
 
-loop-holds : tie.Need-loop-init invariant-loop decreases-loop
-loop-holds c = (c.before.before.requires.1, refl)
+loop-at-init : tie.Need-loop-at-init invariant-loop-at decreases-loop-at
+loop-at-init c = (c.requires.1, refl)
 
-mul-size-before : tie.Need-overflow-mul-size-before invariant-loop decreases-loop
-mul-size-before c = search rules
+offset_bounds-words-at : tie.Need-offset_bounds-words-at invariant-loop-at decreases-loop-at
+offset_bounds-words-at c = search rules
 
-shared-slice-read-size-before : tie.Need-shared-slice-read-size-before invariant-loop decreases-loop
-shared-slice-read-size-before c = search rules
+bounds-words-at : tie.Need-bounds-words-at invariant-loop-at decreases-loop-at
+bounds-words-at c = search rules
 
-size-before-requires : tie.Need-size-before-requires invariant-loop decreases-loop
-size-before-requires c κs = search rules
+size_before-n-requires : tie.Need-size_before-n-requires invariant-loop-at decreases-loop-at
+size_before-n-requires c κs = search rules
 
 -- the entry that a turn looks at ends within the words looked through
-here : (c : tie.After-size-before invariant-loop decreases-loop) → c.before.before.before.loop.at + c.size-before.result ≤ c.before.before.before.before.before.before.args.to
+here : (c : tie.After-size_before-n invariant-loop-at decreases-loop-at) → c.loop-at.at + c.size_before-n.result ≤ c.args.to
 here c =
-    omega (arith, inside _ _ _ c.before.before.before.before.before.before.requires.0 c.before.before.loop-test.true c.before.before.before.loop.invariant.0)
+    omega (arith, inside _ _ _ c.requires.0 c.loop-at-test.true c.loop-at.invariant.0)
 
-add_same : tie.Need-overflow-add-same invariant-loop decreases-loop
-add_same c = omega (arith, here c)
+overflow_add-at : tie.Need-overflow_add-at invariant-loop-at decreases-loop-at
+overflow_add-at c = omega (arith, here c)
 
-mul-same : tie.Need-overflow-mul-same invariant-loop decreases-loop
-mul-same c = omega (arith, here c)
+offset_bounds-words-at-in-loop-at : tie.Need-offset_bounds-words-at-in-loop-at invariant-loop-at decreases-loop-at
+offset_bounds-words-at-in-loop-at c = omega (arith, here c)
 
-sub_same : tie.Need-overflow-sub-same invariant-loop decreases-loop
-sub_same c = omega (arith, here c)
+slice_bounds-same-count : tie.Need-slice_bounds-same-count invariant-loop-at decreases-loop-at
+slice_bounds-same-count c = omega (arith, here c)
 
-part-same-start : tie.Need-slice-bounds-same-start invariant-loop decreases-loop
-part-same-start c = omega (arith, here c)
+slice_bounds-same-start : tie.Need-slice_bounds-same-start invariant-loop-at decreases-loop-at
+slice_bounds-same-start c = omega (arith, here c)
 
-part-same-end : tie.Need-slice-bounds-same-end invariant-loop decreases-loop
-part-same-end c = omega (arith, here c)
+slice_bounds-same-end : tie.Need-slice_bounds-same-end invariant-loop-at decreases-loop-at
+slice_bounds-same-end c = omega (arith, here c)
 
-same-requires : tie.Need-same-requires invariant-loop decreases-loop
+same-requires : tie.Need-same-requires invariant-loop-at decreases-loop-at
 same-requires c κs = search rules
 
-returns : tie.Need-returns invariant-loop decreases-loop
-returns c =
-    let s = c.before.before.before in
-    let l = s.before.before.before in
-    hit _ _ _ _ _ l.loop.invariant.1 _ _ l.before.before.before.requires.0 s.before.before.loop-test.true l.loop.invariant.0 s.size-before.ensures c.before.same.ensures c.if1.true
+returns-then-same : tie.Need-returns-then-same invariant-loop-at decreases-loop-at
+returns-then-same c =
+    hit _ _ _ _ _ c.loop-at.invariant.1 _ _ c.requires.0 c.loop-at-test.true c.loop-at.invariant.0 c.size_before-n.ensures c.same.ensures c.if-same.true
 
-add_at : tie.Need-overflow-add-at invariant-loop decreases-loop
-add_at c = omega (arith, here c.before.before.before)
+overflow_add-at-in-loop-at : tie.Need-overflow_add-at-in-loop-at invariant-loop-at decreases-loop-at
+overflow_add-at-in-loop-at c = omega (arith, here c.before.before.before)
 
-loop-less : tie.Need-loop-smaller invariant-loop decreases-loop
-loop-less c = omega (arith, here c.before.before.before, size_pos (get_or c.before.before.before.before.before.before.before.before.before.args.words.now c.before.before.before.before.before.before.loop.at 0))
+loop-at-smaller : tie.Need-loop-at-smaller invariant-loop-at decreases-loop-at
+loop-at-smaller c = omega (arith, here c.before.before.before, size_pos (get_or c.args.words.now c.loop-at.at 0))
 
-loop-again : tie.Need-loop-preserved invariant-loop decreases-loop
-loop-again c =
-    let s = c.before.before.before in
-    let l = s.before.before.before in
-    missed _ _ _ _ _ l.loop.invariant.1 _ _ l.before.before.before.requires.0 s.before.before.loop-test.true l.loop.invariant.0 s.size-before.ensures c.before.same.ensures c.if1.false
+loop-at-preserved : tie.Need-loop-at-preserved invariant-loop-at decreases-loop-at
+loop-at-preserved c =
+    missed _ _ _ _ _ c.loop-at.invariant.1 _ _ c.requires.0 c.loop-at-test.true c.loop-at.invariant.0 c.size_before-n.ensures c.same.ensures c.if-same.false
 
-returns-2 : tie.Need-returns-2 invariant-loop decreases-loop
-returns-2 c = none_left _ _ _ _ _ c.before.loop.invariant.1 c.loop-test.false
+returns : tie.Need-returns invariant-loop-at decreases-loop-at
+returns c = none_left _ _ _ _ _ c.loop-at.invariant.1 c.loop-at-test.false
 
-pub look-before-spec : {M : Type 1} → statement M
-look-before-spec =
+pub look_before_spec : {M : Type 1} → statement M
+look_before_spec =
     tie.close
     (tie.spec
-    invariant-loop
-    decreases-loop
-    loop-holds
-    mul-size-before
-    shared-slice-read-size-before
-    size-before-requires
-    add_same
-    mul-same
-    sub_same
-    part-same-start
-    part-same-end
+    invariant-loop-at
+    decreases-loop-at
+    loop-at-init
+    offset_bounds-words-at
+    bounds-words-at
+    size_before-n-requires
+    overflow_add-at
+    offset_bounds-words-at-in-loop-at
+    slice_bounds-same-count
+    slice_bounds-same-start
+    slice_bounds-same-end
     same-requires
-    returns
-    add_at
-    loop-less
-    loop-again
-    returns-2)
+    returns-then-same
+    overflow_add-at-in-loop-at
+    loop-at-smaller
+    loop-at-preserved
+    returns)

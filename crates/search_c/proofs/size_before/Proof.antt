@@ -6,60 +6,60 @@ use native.Mathlib.Omega.{arith}
 use Rattle.search_c.proofs.size_before.Statement.{statement}
 use Rattle.search_c.proofs.size_before.Tie as tie
 
-add-result : tie.Need-overflow-add-result
-add-result c = search rules
+overflow_add-result : tie.Need-overflow_add-result
+overflow_add-result c = search rules
 
-add-result-2 : tie.Need-overflow-add-result-2
-add-result-2 c = search rules
+overflow_add-result-in-0 : tie.Need-overflow_add-result-in-0
+overflow_add-result-in-0 c = search rules
 
-add-result-3 : tie.Need-overflow-add-result-3
-add-result-3 c = search rules
+overflow_add-result-in-7 : tie.Need-overflow_add-result-in-7
+overflow_add-result-in-7 c = search rules
 
-mul-result : tie.Need-overflow-mul-result
-mul-result c = search rules
+overflow_mul-result : tie.Need-overflow_mul-result
+overflow_mul-result c = search rules
 
-add-result-4 : tie.Need-overflow-add-result-4
-add-result-4 c = search rules
+overflow_add-result-in-8 : tie.Need-overflow_add-result-in-8
+overflow_add-result-in-8 c = search rules
 
-returns : tie.Need-returns
-returns c = sym (name_size _ c.match.keys1)
+returns-in-0 : tie.Need-returns-in-0
+returns-in-0 c = sym (name_size _ c.in-0.is)
 
-returns-2 : tie.Need-returns-2
-returns-2 c = sym (tuple_size _ c.match.keys2)
+returns-in-7 : tie.Need-returns-in-7
+returns-in-7 c = sym (tuple_size _ c.in-7.is)
 
-returns-3 : tie.Need-returns-3
-returns-3 c = sym (struct_size_is _ c.match.keys3)
+returns-in-8 : tie.Need-returns-in-8
+returns-in-8 c = sym (struct_size_is _ c.in-8.is)
 
-returns-4 : tie.Need-returns-4
-returns-4 c = sym (fref_size _ c.match.keys4)
+returns-in-9 : tie.Need-returns-in-9
+returns-in-9 c = sym (fref_size _ c.in-9.is)
 
-returns-5 : tie.Need-returns-5
-returns-5 c =
-    let no = c.before.before.match.rest in
-    sym (pair_size _ no.0.0.0.1 no.0.0.1 no.0.1 no.1 c.before.if1.false (omega arith))
+returns-in-5 : tie.Need-returns-in-5
+returns-in-5 c =
+    let no = c.in-5.in_default-own.rest in
+    sym (pair_size _ no.0.0.0.1 no.0.0.1 no.0.1 no.1 c.in-5.if-kind-lt5-own.false (omega arith))
 
-returns-6 : tie.Need-returns-6
-returns-6 c = sym (plain_size _ c.before.match.rest.0.0.0.1 c.if1.true)
+returns-in_default : tie.Need-returns-in_default
+returns-in_default c = sym (plain_size _ c.in_default.in_default-own.rest.0.0.0.1 c.in_default.if-kind-lt5-own.true)
 
-returns-7 : tie.Need-returns-7
-returns-7 c =
-    let no = c.before.before.match.rest in
-    let g = c.if2.false in
+returns-in_default-2 : tie.Need-returns-in_default-2
+returns-in_default-2 c =
+    let no = c.in_default.in_default-own.rest in
+    let g = c.in_default.if-kind-lt12-own.false in
     uncounted _ _ no.0.0.0.1 no.0.0.1 no.0.1 (least_none _ (omega arith) (omega arith) (omega arith) (omega arith) (omega arith))
 
-pub size-before-spec : {M : Type 1} → statement M
-size-before-spec =
+pub size_before_spec : {M : Type 1} → statement M
+size_before_spec =
     tie.close
     (tie.spec
-    add-result
-    add-result-2
-    add-result-3
-    mul-result
-    add-result-4
-    returns
-    returns-2
-    returns-3
-    returns-4
-    returns-5
-    returns-6
-    returns-7)
+    overflow_add-result
+    overflow_add-result-in-0
+    overflow_add-result-in-7
+    overflow_mul-result
+    overflow_add-result-in-8
+    returns-in-0
+    returns-in-7
+    returns-in-8
+    returns-in-9
+    returns-in-5
+    returns-in_default
+    returns-in_default-2)
