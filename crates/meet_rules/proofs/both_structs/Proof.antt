@@ -4,17 +4,17 @@ use borrow.Author.Rules.{rules}
 use Rattle.meet_rules.proofs.both_structs.Statement.{statement}
 use Rattle.meet_rules.proofs.both_structs.Tie as tie
 
-is-struct-requires : tie.Need-is-struct-requires
-is-struct-requires c κs = search rules
+is_struct-requires : tie.Need-is_struct-requires
+is_struct-requires c κs = search rules
 
-is-struct-requires-2 : tie.Need-is-struct-requires-2
-is-struct-requires-2 c κs = search rules
+is_struct-requires-then-is_struct : tie.Need-is_struct-requires-then-is_struct
+is_struct-requires-then-is_struct c κs = search rules
+
+returns-then-is_struct : tie.Need-returns-then-is_struct
+returns-then-is_struct c = search first_struct
 
 returns : tie.Need-returns
-returns c = search first_struct
+returns c = search no_struct
 
-returns-2 : tie.Need-returns-2
-returns-2 c = search no_struct
-
-pub both-structs-spec : {M : Type 1} → statement M
-both-structs-spec = tie.close (tie.spec is-struct-requires is-struct-requires-2 returns returns-2)
+pub both_structs_spec : {M : Type 1} → statement M
+both_structs_spec = tie.close (tie.spec is_struct-requires is_struct-requires-then-is_struct returns-then-is_struct returns)

@@ -3,20 +3,20 @@ use Rattle.meet_rules.proofs.Chosen.{mem_bot_is, other_mem_bot, mem_top_is, othe
 use Rattle.meet_rules.proofs.mem_rule.Statement.{statement}
 use Rattle.meet_rules.proofs.mem_rule.Tie as tie
 
+returns-then-a-eq-MEM_BOT : tie.Need-returns-then-a-eq-MEM_BOT
+returns-then-a-eq-MEM_BOT c = search mem_bot_is
+
+returns-then-b-eq-MEM_BOT : tie.Need-returns-then-b-eq-MEM_BOT
+returns-then-b-eq-MEM_BOT c = search other_mem_bot
+
+returns-then-a-eq-MEM_TOP : tie.Need-returns-then-a-eq-MEM_TOP
+returns-then-a-eq-MEM_TOP c = search mem_top_is
+
+returns-then-b-eq-MEM_TOP : tie.Need-returns-then-b-eq-MEM_TOP
+returns-then-b-eq-MEM_TOP c = search other_mem_top
+
 returns : tie.Need-returns
-returns c = search mem_bot_is
+returns c = search two_memories
 
-returns-2 : tie.Need-returns-2
-returns-2 c = search other_mem_bot
-
-returns-3 : tie.Need-returns-3
-returns-3 c = search mem_top_is
-
-returns-4 : tie.Need-returns-4
-returns-4 c = search other_mem_top
-
-returns-5 : tie.Need-returns-5
-returns-5 c = search two_memories
-
-pub mem-rule-spec : {M : Type 1} → statement M
-mem-rule-spec = tie.close (tie.spec returns returns-2 returns-3 returns-4 returns-5)
+pub mem_rule_spec : {M : Type 1} → statement M
+mem_rule_spec = tie.close (tie.spec returns-then-a-eq-MEM_BOT returns-then-b-eq-MEM_BOT returns-then-a-eq-MEM_TOP returns-then-b-eq-MEM_TOP returns)

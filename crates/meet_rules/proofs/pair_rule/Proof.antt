@@ -7,64 +7,64 @@ use Rattle.meet_rules.proofs.pair_rule.Tie as tie
 both-requires : tie.Need-both-requires
 both-requires c κs = search rules
 
-returns : tie.Need-returns
-returns c = search two_ints
+returns-then-both : tie.Need-returns-then-both
+returns-then-both c = search two_ints
 
 both-requires-2 : tie.Need-both-requires-2
 both-requires-2 c κs = search rules
 
-returns-2 : tie.Need-returns-2
-returns-2 c = search two_floats
+returns-then-both-2 : tie.Need-returns-then-both-2
+returns-then-both-2 c = search two_floats
 
 both-requires-3 : tie.Need-both-requires-3
 both-requires-3 c κs = search rules
 
-returns-3 : tie.Need-returns-3
-returns-3 c = search two_tuples
+returns-then-m-n : tie.Need-returns-then-m-n
+returns-then-m-n c = search two_tuples
 
-returns-4 : tie.Need-returns-4
-returns-4 c = search other_length
+returns-then-both-3 : tie.Need-returns-then-both-3
+returns-then-both-3 c = search other_length
 
-both-structs-requires : tie.Need-both-structs-requires
-both-structs-requires c κs = search rules
+both_structs-requires : tie.Need-both_structs-requires
+both_structs-requires c κs = search rules
 
-returns-5 : tie.Need-returns-5
-returns-5 c = search two_structs
+returns-then-both_structs : tie.Need-returns-then-both_structs
+returns-then-both_structs c = search two_structs
 
 both-requires-4 : tie.Need-both-requires-4
 both-requires-4 c κs = search rules
 
-returns-6 : tie.Need-returns-6
-returns-6 c = search two_pointers
+returns-then-both-4 : tie.Need-returns-then-both-4
+returns-then-both-4 c = search two_pointers
 
 both-requires-5 : tie.Need-both-requires-5
 both-requires-5 c κs = search rules
 
-mem-rule-requires : tie.Need-mem-rule-requires
-mem-rule-requires c κs = search rules
+mem_rule-requires : tie.Need-mem_rule-requires
+mem_rule-requires c κs = search rules
 
-returns-7 : tie.Need-returns-7
-returns-7 c = search by_memories
+returns-then-both-5 : tie.Need-returns-then-both-5
+returns-then-both-5 c = search by_memories
 
-returns-8 : tie.Need-returns-8
-returns-8 c = search other_pair
+returns : tie.Need-returns
+returns c = search other_pair
 
-pub pair-rule-spec : {M : Type 1} → statement M
-pair-rule-spec =
+pub pair_rule_spec : {M : Type 1} → statement M
+pair_rule_spec =
     tie.close
     (tie.spec
     both-requires
-    returns
+    returns-then-both
     both-requires-2
-    returns-2
+    returns-then-both-2
     both-requires-3
-    returns-3
-    returns-4
-    both-structs-requires
-    returns-5
+    returns-then-m-n
+    returns-then-both-3
+    both_structs-requires
+    returns-then-both_structs
     both-requires-4
-    returns-6
+    returns-then-both-4
     both-requires-5
-    mem-rule-requires
-    returns-7
-    returns-8)
+    mem_rule-requires
+    returns-then-both-5
+    returns)

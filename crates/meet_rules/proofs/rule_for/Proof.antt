@@ -4,51 +4,51 @@ use borrow.Author.Rules.{rules}
 use Rattle.meet_rules.proofs.rule_for.Statement.{statement}
 use Rattle.meet_rules.proofs.rule_for.Tie as tie
 
-returns : tie.Need-returns
-returns c = search same_handle
+returns-then-a-b : tie.Need-returns-then-a-b
+returns-then-a-b c = search same_handle
 
-returns-2 : tie.Need-returns-2
-returns-2 c = search first_bot
+returns-then-j-eq-BOT : tie.Need-returns-then-j-eq-BOT
+returns-then-j-eq-BOT c = search first_bot
 
-returns-3 : tie.Need-returns-3
-returns-3 c = search second_bot
+returns-then-k-eq-BOT : tie.Need-returns-then-k-eq-BOT
+returns-then-k-eq-BOT c = search second_bot
 
-returns-4 : tie.Need-returns-4
-returns-4 c = search second_top
+returns-then-k-eq-TOP : tie.Need-returns-then-k-eq-TOP
+returns-then-k-eq-TOP c = search second_top
 
-returns-5 : tie.Need-returns-5
-returns-5 c = search first_top
+returns-then-j-eq-TOP : tie.Need-returns-then-j-eq-TOP
+returns-then-j-eq-TOP c = search first_top
 
 both-requires : tie.Need-both-requires
 both-requires c κs = search rules
 
-returns-6 : tie.Need-returns-6
-returns-6 c = search ctrl_xctrl
+returns-then-both : tie.Need-returns-then-both
+returns-then-both c = search ctrl_xctrl
 
 both-requires-2 : tie.Need-both-requires-2
 both-requires-2 c κs = search rules
 
-returns-7 : tie.Need-returns-7
-returns-7 c = search xctrl_ctrl
+returns-then-both-2 : tie.Need-returns-then-both-2
+returns-then-both-2 c = search xctrl_ctrl
 
-pair-rule-requires : tie.Need-pair-rule-requires
-pair-rule-requires c κs = search rules
+pair_rule-requires : tie.Need-pair_rule-requires
+pair_rule-requires c κs = search rules
 
-returns-8 : tie.Need-returns-8
-returns-8 c = search by_pair
+returns : tie.Need-returns
+returns c = search by_pair
 
-pub rule-for-spec : {M : Type 1} → statement M
-rule-for-spec =
+pub rule_for_spec : {M : Type 1} → statement M
+rule_for_spec =
     tie.close
     (tie.spec
-    returns
-    returns-2
-    returns-3
-    returns-4
-    returns-5
+    returns-then-a-b
+    returns-then-j-eq-BOT
+    returns-then-k-eq-BOT
+    returns-then-k-eq-TOP
+    returns-then-j-eq-TOP
     both-requires
-    returns-6
+    returns-then-both
     both-requires-2
-    returns-7
-    pair-rule-requires
-    returns-8)
+    returns-then-both-2
+    pair_rule-requires
+    returns)

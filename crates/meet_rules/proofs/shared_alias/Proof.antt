@@ -3,11 +3,11 @@ use Rattle.meet_rules.proofs.Heads.{shared, not_shared}
 use Rattle.meet_rules.proofs.shared_alias.Statement.{statement}
 use Rattle.meet_rules.proofs.shared_alias.Tie as tie
 
+returns-then-x-y : tie.Need-returns-then-x-y
+returns-then-x-y c = search shared
+
 returns : tie.Need-returns
-returns c = search shared
+returns c = search not_shared
 
-returns-2 : tie.Need-returns-2
-returns-2 c = search not_shared
-
-pub shared-alias-spec : {M : Type 1} → statement M
-shared-alias-spec = tie.close (tie.spec returns returns-2)
+pub shared_alias_spec : {M : Type 1} → statement M
+shared_alias_spec = tie.close (tie.spec returns-then-x-y returns)
