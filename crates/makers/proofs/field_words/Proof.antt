@@ -2,7 +2,7 @@
 -- what was there.
 use mathlib.Core.Path.{◌≡◌, refl}
 use mathlib.Core.List.{◌++◌}
-use Prim.Native.Nat.{◌+◌, ◌*◌, ◌≤◌, ◌-◌}
+use Prim.Native.Nat.{◌*◌, ◌≤◌, ◌-◌}
 use native.Mathlib.Omega.{arith}
 use lib.ListN.{length, take, drop}
 use Rattle.makers.specs.Entries.{field_words}
@@ -11,132 +11,129 @@ use borrow.Author.Rules.{rules}
 use Rattle.makers.proofs.field_words.Statement.{statement}
 use Rattle.makers.proofs.field_words.Tie as tie
 
-abbrev invariant-loop : tie.invariant-loop
-invariant-loop dst₀ fields n i₀ dst i = (i ≤ n) × (length dst ≡ length dst₀) × (take (3 * i) dst ++ fields_left n fields i ≡ field_words n 0 fields) × (drop (3 * i) dst ≡ drop (3 * i) dst₀)
+abbrev invariant-loop-i : tie.invariant-loop-i
+invariant-loop-i dst₀ fields n i₀ dst i = (i ≤ n) × (length dst ≡ length dst₀) × (take (3 * i) dst ++ fields_left n fields i ≡ field_words n 0 fields) × (drop (3 * i) dst ≡ drop (3 * i) dst₀)
 
-abbrev decreases-loop : tie.decreases-loop
-decreases-loop dst₀ fields n i₀ dst i = n - i
+abbrev decreases-loop-i : tie.decreases-loop-i
+decreases-loop-i dst₀ fields n i₀ dst i = n - i
 
-loop-holds : tie.Need-loop-init invariant-loop decreases-loop
-loop-holds c = (search rules, refl, fields_begin _ _, refl)
+loop-i-init : tie.Need-loop-i-init invariant-loop-i decreases-loop-i
+loop-i-init c = (search rules, refl, fields_begin _ _, refl)
 
-mul_at : tie.Need-overflow-mul-at invariant-loop decreases-loop
-mul_at c = search rules
+overflow_mul-at : tie.Need-overflow_mul-at invariant-loop-i decreases-loop-i
+overflow_mul-at c = search rules
 
-add-flags : tie.Need-overflow-add-flags invariant-loop decreases-loop
-add-flags c = search rules
+overflow_add-flags : tie.Need-overflow_add-flags invariant-loop-i decreases-loop-i
+overflow_add-flags c = search rules
 
-mul-flags : tie.Need-overflow-mul-flags invariant-loop decreases-loop
-mul-flags c = search rules
+offset_bounds-fields-at : tie.Need-offset_bounds-fields-at invariant-loop-i decreases-loop-i
+offset_bounds-fields-at c = search rules
 
-shared-slice-read-flags : tie.Need-shared-slice-read-flags invariant-loop decreases-loop
-shared-slice-read-flags c = search rules
+bounds-fields-at : tie.Need-bounds-fields-at invariant-loop-i decreases-loop-i
+bounds-fields-at c = search rules
 
-mul-flags-2 : tie.Need-overflow-mul-flags-2 invariant-loop decreases-loop
-mul-flags-2 c =
-    let s = c.before.before.before.before.before in
-    omega (arith, alias_fits s.args.fields.now s.requires.1 c.before.before.loop.i c.before.loop-test.true)
+overflow_mul-flags : tie.Need-overflow_mul-flags invariant-loop-i decreases-loop-i
+overflow_mul-flags c =
+    omega (arith, alias_fits c.args.fields.now c.requires.1 c.loop-i.i c.loop-i-test.true)
 
-add-flags-2 : tie.Need-overflow-add-flags-2 invariant-loop decreases-loop
-add-flags-2 c = search rules
+overflow_add-flags-in-loop-i : tie.Need-overflow_add-flags-in-loop-i invariant-loop-i decreases-loop-i
+overflow_add-flags-in-loop-i c = search rules
 
-mul-flags-3 : tie.Need-overflow-mul-flags-3 invariant-loop decreases-loop
-mul-flags-3 c = search rules
+offset_bounds-fields-at-in-loop-i : tie.Need-offset_bounds-fields-at-in-loop-i invariant-loop-i decreases-loop-i
+offset_bounds-fields-at-in-loop-i c = search rules
 
-shared-slice-read-flags-2 : tie.Need-shared-slice-read-flags-2 invariant-loop decreases-loop
-shared-slice-read-flags-2 c = search rules
+bounds-fields-at-in-loop-i : tie.Need-bounds-fields-at-in-loop-i invariant-loop-i decreases-loop-i
+bounds-fields-at-in-loop-i c = search rules
 
-add-flags-3 : tie.Need-overflow-add-flags-3 invariant-loop decreases-loop
-add-flags-3 c =
-    let l = c.before.before.before in
-    let s = l.before.before.before in
-    let t = c.before.before.loop-test.true in
-    omega (arith, alias_fits s.args.fields.now s.requires.1 l.loop.i t, final_fits s.args.fields.now s.requires.1 l.loop.i t)
+overflow_add-flags-in-loop-i-2 : tie.Need-overflow_add-flags-in-loop-i-2 invariant-loop-i decreases-loop-i
+overflow_add-flags-in-loop-i-2 c =
+    let t = c.loop-i-test.true in
+    omega (arith, alias_fits c.args.fields.now c.requires.1 c.loop-i.i t, final_fits c.args.fields.now c.requires.1 c.loop-i.i t)
 
-mul-write : tie.Need-overflow-mul-write invariant-loop decreases-loop
-mul-write c = search rules
+overflow_mul-i : tie.Need-overflow_mul-i invariant-loop-i decreases-loop-i
+overflow_mul-i c = search rules
 
-mul-write-2 : tie.Need-overflow-mul-write-2 invariant-loop decreases-loop
-mul-write-2 c = search rules
+offset_bounds-dst-i : tie.Need-offset_bounds-dst-i invariant-loop-i decreases-loop-i
+offset_bounds-dst-i c = search rules
 
-sub-write : tie.Need-overflow-sub-write invariant-loop decreases-loop
-sub-write c = search rules
+slice_bounds-write-count : tie.Need-slice_bounds-write-count invariant-loop-i decreases-loop-i
+slice_bounds-write-count c = search rules
 
-part-write-start : tie.Need-slice-bounds-write-start invariant-loop decreases-loop
-part-write-start c = search rules
+slice_bounds-write-start : tie.Need-slice_bounds-write-start invariant-loop-i decreases-loop-i
+slice_bounds-write-start c = search rules
 
-part-write-end : tie.Need-slice-bounds-write-end invariant-loop decreases-loop
-part-write-end c = search rules
+slice_bounds-write-end : tie.Need-slice_bounds-write-end invariant-loop-i decreases-loop-i
+slice_bounds-write-end c = search rules
 
-mul-t14 : tie.Need-overflow-mul-t14 invariant-loop decreases-loop
-mul-t14 c = search rules
+offset_bounds-fields-at-in-loop-i-2 : tie.Need-offset_bounds-fields-at-in-loop-i-2 invariant-loop-i decreases-loop-i
+offset_bounds-fields-at-in-loop-i-2 c = search rules
 
-shared-slice-read-t17 : tie.Need-shared-slice-read-t17 invariant-loop decreases-loop
-shared-slice-read-t17 c = search rules
+bounds-fields-at-in-loop-i-2 : tie.Need-bounds-fields-at-in-loop-i-2 invariant-loop-i decreases-loop-i
+bounds-fields-at-in-loop-i-2 c = search rules
 
-add-t24 : tie.Need-overflow-add-t24 invariant-loop decreases-loop
-add-t24 c = search rules
+overflow_add-at : tie.Need-overflow_add-at invariant-loop-i decreases-loop-i
+overflow_add-at c = search rules
 
-mul-t25 : tie.Need-overflow-mul-t25 invariant-loop decreases-loop
-mul-t25 c = search rules
+offset_bounds-fields-at-in-loop-i-3 : tie.Need-offset_bounds-fields-at-in-loop-i-3 invariant-loop-i decreases-loop-i
+offset_bounds-fields-at-in-loop-i-3 c = search rules
 
-shared-slice-read-t12 : tie.Need-shared-slice-read-t12 invariant-loop decreases-loop
-shared-slice-read-t12 c = search rules
+bounds-fields-at-in-loop-i-3 : tie.Need-bounds-fields-at-in-loop-i-3 invariant-loop-i decreases-loop-i
+bounds-fields-at-in-loop-i-3 c = search rules
 
-slice-aggregate-write : tie.Need-slice-aggregate-write invariant-loop decreases-loop
-slice-aggregate-write c = search rules
+slice_bounds-write-end-in-loop-i : tie.Need-slice_bounds-write-end-in-loop-i invariant-loop-i decreases-loop-i
+slice_bounds-write-end-in-loop-i c = search rules
 
-write-requires : tie.Need-write-requires invariant-loop decreases-loop
+write-requires : tie.Need-write-requires invariant-loop-i decreases-loop-i
 write-requires c κs = search rules
 
-add-i : tie.Need-overflow-add-i invariant-loop decreases-loop
-add-i c = search rules
+overflow_add-i : tie.Need-overflow_add-i invariant-loop-i decreases-loop-i
+overflow_add-i c = search rules
 
-loop-less : tie.Need-loop-smaller invariant-loop decreases-loop
-loop-less c = search rules
+loop-i-smaller : tie.Need-loop-i-smaller invariant-loop-i decreases-loop-i
+loop-i-smaller c = search rules
 
-loop-again : tie.Need-loop-preserved invariant-loop decreases-loop
-loop-again c =
-    let l = c.before.before.before.before.before.before.before.before.before.before.loop.invariant in
-    let next = fields_on _ _ _ _ _ l.2 l.3 c.before.before.before.before.before.before.before.before.before.loop-test.true (omega arith) l.1 _ c.before.before.write.ensures in
+loop-i-preserved : tie.Need-loop-i-preserved invariant-loop-i decreases-loop-i
+loop-i-preserved c =
+    let l = c.loop-i.invariant in
+    let next = fields_on _ _ _ _ _ l.2 l.3 c.loop-i-test.true (omega arith) l.1 _ c.write.ensures in
     (search rules, search rules, next.0, next.1)
 
-same_length : tie.Need-same-length invariant-loop decreases-loop
-same_length c = search rules
+shape_of-dst : tie.Need-shape_of-dst invariant-loop-i decreases-loop-i
+shape_of-dst c = search rules
 
-returns : tie.Need-returns invariant-loop decreases-loop
+returns : tie.Need-returns invariant-loop-i decreases-loop-i
 returns c = search fields_all
 
-pub field-words-spec : {M : Type 1} → statement M
-field-words-spec =
+pub field_words_spec : {M : Type 1} → statement M
+field_words_spec =
     tie.close
     (tie.spec
-    invariant-loop
-    decreases-loop
-    loop-holds
-    mul_at
-    add-flags
-    mul-flags
-    shared-slice-read-flags
-    mul-flags-2
-    add-flags-2
-    mul-flags-3
-    shared-slice-read-flags-2
-    add-flags-3
-    mul-write
-    mul-write-2
-    sub-write
-    part-write-start
-    part-write-end
-    mul-t14
-    shared-slice-read-t17
-    add-t24
-    mul-t25
-    shared-slice-read-t12
-    slice-aggregate-write
+    invariant-loop-i
+    decreases-loop-i
+    loop-i-init
+    overflow_mul-at
+    overflow_add-flags
+    offset_bounds-fields-at
+    bounds-fields-at
+    overflow_mul-flags
+    overflow_add-flags-in-loop-i
+    offset_bounds-fields-at-in-loop-i
+    bounds-fields-at-in-loop-i
+    overflow_add-flags-in-loop-i-2
+    overflow_mul-i
+    offset_bounds-dst-i
+    slice_bounds-write-count
+    slice_bounds-write-start
+    slice_bounds-write-end
+    offset_bounds-fields-at-in-loop-i-2
+    bounds-fields-at-in-loop-i-2
+    overflow_add-at
+    offset_bounds-fields-at-in-loop-i-3
+    bounds-fields-at-in-loop-i-3
+    slice_bounds-write-end-in-loop-i
     write-requires
-    add-i
-    loop-less
-    loop-again
-    same_length
+    overflow_add-i
+    loop-i-smaller
+    loop-i-preserved
+    shape_of-dst
     returns)

@@ -4,36 +4,32 @@ use borrow.Author.Rules.{rules}
 use Rattle.makers.proofs.float.Statement.{statement}
 use Rattle.makers.proofs.float.Tie as tie
 
-size-word-requires : tie.Need-size-word-requires
-size-word-requires c κs = search rules
+size_word-size-requires : tie.Need-size_word-size-requires
+size_word-size-requires c κs = search rules
 
-bits-of-requires : tie.Need-bits-of-requires
-bits-of-requires c κs = search rules
+bits_of-con-requires : tie.Need-bits_of-con-requires
+bits_of-con-requires c κs = search rules
 
-slice-aggregate-intern : tie.Need-slice-aggregate-intern
-slice-aggregate-intern c = search rules
+slice_bounds-intern-end : tie.Need-slice_bounds-intern-end
+slice_bounds-intern-end c = search rules
 
 intern-requires : tie.Need-intern-requires
 intern-requires c κs = search rules
 
-same_length : tie.Need-same-length
-same_length c = search rules
+shape_of-new : tie.Need-shape_of-new
+shape_of-new c = search rules
 
 returns : tie.Need-returns
 returns c =
-    let i = c.before.before in
-    let b = i.before.before.before in
-    let s = b.before in
-    let t = s.before in
-    float_made _ _ _ _ _ _ _ _ _ (passed_on t.before.before.before.before.args.f.sz record { sfits = t.struct_told.given.0.1 } _ s.size_word.ensures) b.bits_of.ensures i.intern.ensures
+    float_made _ _ _ _ _ _ _ _ _ (passed_on c.args.f.sz record { sfits = c.struct_told-1.given.0.1 } _ c.size_word-size.ensures) c.bits_of-con.ensures c.intern.ensures
 
-pub float-spec : {M : Type 1} → statement M
-float-spec =
+pub float_spec : {M : Type 1} → statement M
+float_spec =
     tie.close
     (tie.spec
-    size-word-requires
-    bits-of-requires
-    slice-aggregate-intern
+    size_word-size-requires
+    bits_of-con-requires
+    slice_bounds-intern-end
     intern-requires
-    same_length
+    shape_of-new
     returns)

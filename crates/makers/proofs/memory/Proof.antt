@@ -4,39 +4,39 @@ use borrow.Author.Rules.{rules}
 use Rattle.makers.proofs.memory.Statement.{statement}
 use Rattle.makers.proofs.memory.Tie as tie
 
-depth-on-requires : tie.Need-depth-on-requires
-depth-on-requires c κs = search rules
+depth_on-d-requires : tie.Need-depth_on-d-requires
+depth_on-d-requires c κs = search rules
 
-add-t17 : tie.Need-overflow-add-t17
-add-t17 c = search rules
+overflow_add-d : tie.Need-overflow_add-d
+overflow_add-d c = search rules
 
-mul-t18 : tie.Need-overflow-mul-t18
-mul-t18 c = search rules
+overflow_mul-d : tie.Need-overflow_mul-d
+overflow_mul-d c = search rules
 
-add-t19 : tie.Need-overflow-add-t19
-add-t19 c = search rules
+overflow_add-d-2 : tie.Need-overflow_add-d-2
+overflow_add-d-2 c = search rules
 
-slice-aggregate-intern : tie.Need-slice-aggregate-intern
-slice-aggregate-intern c = search rules
+slice_bounds-intern-end : tie.Need-slice_bounds-intern-end
+slice_bounds-intern-end c = search rules
 
 intern-requires : tie.Need-intern-requires
 intern-requires c κs = search rules
 
-same_length : tie.Need-same-length
-same_length c = search rules
+shape_of-new : tie.Need-shape_of-new
+shape_of-new c = search rules
 
 returns : tie.Need-returns
 returns c = search memory_made
 
-pub memory-spec : {M : Type 1} → statement M
-memory-spec =
+pub memory_spec : {M : Type 1} → statement M
+memory_spec =
     tie.close
     (tie.spec
-    depth-on-requires
-    add-t17
-    mul-t18
-    add-t19
-    slice-aggregate-intern
+    depth_on-d-requires
+    overflow_add-d
+    overflow_mul-d
+    overflow_add-d-2
+    slice_bounds-intern-end
     intern-requires
-    same_length
+    shape_of-new
     returns)

@@ -5,39 +5,39 @@ use borrow.Author.Rules.{rules}
 use Rattle.makers.proofs.struct_words.Statement.{statement}
 use Rattle.makers.proofs.struct_words.Tie as tie
 
-sub-field-words : tie.Need-overflow-sub-field-words
-sub-field-words c = search rules
+slice_bounds-field_words-count : tie.Need-slice_bounds-field_words-count
+slice_bounds-field_words-count c = search rules
 
-part-field-words-start : tie.Need-slice-bounds-field-words-start
-part-field-words-start c = search rules
+slice_bounds-field_words-start : tie.Need-slice_bounds-field_words-start
+slice_bounds-field_words-start c = search rules
 
-part-field-words-end : tie.Need-slice-bounds-field-words-end
-part-field-words-end c = search rules
+slice_bounds-field_words-end : tie.Need-slice_bounds-field_words-end
+slice_bounds-field_words-end c = search rules
 
-field-words-requires : tie.Need-field-words-requires
-field-words-requires c κs = search rules
+field_words-requires : tie.Need-field_words-requires
+field_words-requires c κs = search rules
 
-slice-write-e : tie.Need-slice-write-e
-slice-write-e c = search rules
+bounds-e-1 : tie.Need-bounds-e-1
+bounds-e-1 c = search rules
 
-slice-write-e-2 : tie.Need-slice-write-e-2
-slice-write-e-2 c = simp length-set (search rules)
+bounds-e-0 : tie.Need-bounds-e-0
+bounds-e-0 c = simp length-set (search rules)
 
-same_length : tie.Need-same-length
-same_length c = simp length-set (search rules)
+shape_of-e : tie.Need-shape_of-e
+shape_of-e c = simp length-set (search rules)
 
 returns : tie.Need-returns
 returns c = search struct_built
 
-pub struct-words-spec : {M : Type 1} → statement M
-struct-words-spec =
+pub struct_words_spec : {M : Type 1} → statement M
+struct_words_spec =
     tie.close
     (tie.spec
-    sub-field-words
-    part-field-words-start
-    part-field-words-end
-    field-words-requires
-    slice-write-e
-    slice-write-e-2
-    same_length
+    slice_bounds-field_words-count
+    slice_bounds-field_words-start
+    slice_bounds-field_words-end
+    field_words-requires
+    bounds-e-1
+    bounds-e-0
+    shape_of-e
     returns)

@@ -7,74 +7,69 @@ use borrow.Author.Rules.{rules}
 use Rattle.makers.proofs.structure_in.Statement.{statement}
 use Rattle.makers.proofs.structure_in.Tie as tie
 
-fields-deep-requires : tie.Need-fields-deep-requires
-fields-deep-requires c κs = search rules
+fields_deep-d-requires : tie.Need-fields_deep-d-requires
+fields_deep-d-requires c κs = search rules
 
-add-struct-words : tie.Need-overflow-add-struct-words
-add-struct-words c = search rules
+overflow_add-d : tie.Need-overflow_add-d
+overflow_add-d c = search rules
 
-mul-struct-words : tie.Need-overflow-mul-struct-words
-mul-struct-words c = search rules
+overflow_mul-d : tie.Need-overflow_mul-d
+overflow_mul-d c = search rules
 
-add-struct-words-2 : tie.Need-overflow-add-struct-words-2
-add-struct-words-2 c = search rules
+overflow_add-d-2 : tie.Need-overflow_add-d-2
+overflow_add-d-2 c = search rules
 
-mul-struct-words-2 : tie.Need-overflow-mul-struct-words-2
-mul-struct-words-2 c = search rules
+overflow_mul-n : tie.Need-overflow_mul-n
+overflow_mul-n c = search rules
 
-add-struct-words-3 : tie.Need-overflow-add-struct-words-3
-add-struct-words-3 c = search rules
+overflow_add-d-3 : tie.Need-overflow_add-d-3
+overflow_add-d-3 c = search rules
 
-struct-words-requires : tie.Need-struct-words-requires
-struct-words-requires c κs = search rules
+struct_words-requires : tie.Need-struct_words-requires
+struct_words-requires c κs = search rules
 
-mul-intern : tie.Need-overflow-mul-intern
-mul-intern c = search rules
+overflow_mul-n-2 : tie.Need-overflow_mul-n-2
+overflow_mul-n-2 c = search rules
 
-add-intern : tie.Need-overflow-add-intern
-add-intern c = search rules
+overflow_add-n : tie.Need-overflow_add-n
+overflow_add-n c = search rules
 
-slice-reshare-prefix-intern : tie.Need-slice-reshare-prefix-intern
-slice-reshare-prefix-intern c = search rules
+slice_bounds-intern-end : tie.Need-slice_bounds-intern-end
+slice_bounds-intern-end c = search rules
 
-slice-aggregate-intern : tie.Need-slice-aggregate-intern
-slice-aggregate-intern c =
-    let h = c.before.before.before.before in
-    sym (length-take-le _ h.struct-words.new.0 (omega (arith, h.struct-words.auto.0)))
+slice_bounds-intern-end-2 : tie.Need-slice_bounds-intern-end-2
+slice_bounds-intern-end-2 c =
+    sym (length-take-le _ c.struct_words.new.e (omega (arith, c.struct_words.auto.e)))
 
 intern-requires : tie.Need-intern-requires
 intern-requires c κs = search rules
 
-same_length : tie.Need-same-length
-same_length c = search rules
+shape_of-new : tie.Need-shape_of-new
+shape_of-new c = search rules
 
-same-length-2 : tie.Need-same-length-2
-same-length-2 c = search rules
+shape_of-e : tie.Need-shape_of-e
+shape_of-e c = search rules
 
 returns : tie.Need-returns
 returns c =
-    let i = c.before.before in
-    let h = i.before.before.before.before.before in
-    let d = h.before.before in
-    let s = d.before.before.before.before.before.before.before in
-    struct_made _ _ _ _ _ s.args.name s.args.fields.now _ _ _ d.fields-deep.ensures.0 h.struct-words.ensures i.intern.ensures
+    struct_made _ _ _ _ _ c.args.name c.args.fields.now _ _ _ c.fields_deep-d.ensures.0 c.struct_words.ensures c.intern.ensures
 
-pub structure-in-spec : {M : Type 1} → statement M
-structure-in-spec =
+pub structure_in_spec : {M : Type 1} → statement M
+structure_in_spec =
     tie.close
     (tie.spec
-    fields-deep-requires
-    add-struct-words
-    mul-struct-words
-    add-struct-words-2
-    mul-struct-words-2
-    add-struct-words-3
-    struct-words-requires
-    mul-intern
-    add-intern
-    slice-reshare-prefix-intern
-    slice-aggregate-intern
+    fields_deep-d-requires
+    overflow_add-d
+    overflow_mul-d
+    overflow_add-d-2
+    overflow_mul-n
+    overflow_add-d-3
+    struct_words-requires
+    overflow_mul-n-2
+    overflow_add-n
+    slice_bounds-intern-end
+    slice_bounds-intern-end-2
     intern-requires
-    same_length
-    same-length-2
+    shape_of-new
+    shape_of-e
     returns)

@@ -7,68 +7,65 @@ use borrow.Author.Rules.{rules}
 use Rattle.makers.proofs.tuple_in.Statement.{statement}
 use Rattle.makers.proofs.tuple_in.Tie as tie
 
-deep-requires : tie.Need-deep-requires
-deep-requires c κs = search rules
+deep-d-requires : tie.Need-deep-d-requires
+deep-d-requires c κs = search rules
 
-add-headed : tie.Need-overflow-add-headed
-add-headed c = search rules
+overflow_add-d : tie.Need-overflow_add-d
+overflow_add-d c = search rules
 
-mul-headed : tie.Need-overflow-mul-headed
-mul-headed c = search rules
+overflow_mul-d : tie.Need-overflow_mul-d
+overflow_mul-d c = search rules
 
-add-headed-2 : tie.Need-overflow-add-headed-2
-add-headed-2 c = search rules
+overflow_add-d-2 : tie.Need-overflow_add-d-2
+overflow_add-d-2 c = search rules
 
-mul-headed-2 : tie.Need-overflow-mul-headed-2
-mul-headed-2 c = search rules
+overflow_mul-n : tie.Need-overflow_mul-n
+overflow_mul-n c = search rules
 
-add-headed-3 : tie.Need-overflow-add-headed-3
-add-headed-3 c = search rules
+overflow_add-d-3 : tie.Need-overflow_add-d-3
+overflow_add-d-3 c = search rules
 
 headed-requires : tie.Need-headed-requires
 headed-requires c κs = search rules
 
-add-intern : tie.Need-overflow-add-intern
-add-intern c = search rules
+overflow_add-n : tie.Need-overflow_add-n
+overflow_add-n c = search rules
 
-slice-reshare-prefix-intern : tie.Need-slice-reshare-prefix-intern
-slice-reshare-prefix-intern c = search rules
+slice_bounds-intern-end : tie.Need-slice_bounds-intern-end
+slice_bounds-intern-end c = search rules
 
-slice-aggregate-intern : tie.Need-slice-aggregate-intern
-slice-aggregate-intern c =
-    let h = c.before.before.before.before in
-    sym (length-take-le _ h.headed.new.0 (omega (arith, h.headed.auto.0)))
+slice_bounds-intern-end-2 : tie.Need-slice_bounds-intern-end-2
+slice_bounds-intern-end-2 c =
+    sym (length-take-le _ c.headed.new.dst (omega (arith, c.headed.auto.dst)))
 
 intern-requires : tie.Need-intern-requires
 intern-requires c κs = search rules
 
-same_length : tie.Need-same-length
-same_length c = search rules
+shape_of-new : tie.Need-shape_of-new
+shape_of-new c = search rules
 
-same-length-2 : tie.Need-same-length-2
-same-length-2 c = search rules
+shape_of-e : tie.Need-shape_of-e
+shape_of-e c = search rules
 
 returns : tie.Need-returns
 returns c =
-    let i = c.before.before in
-    let h = i.before.before.before.before.before in
-    tuple_made _ _ _ _ _ _ _ _ _ h.before.before.deep.ensures.0 h.headed.ensures i.intern.ensures
+    tuple_made _ _ _ _ _ _ _ _ _ c.deep-d.ensures.0 c.headed.ensures c.intern.ensures
 
-pub tuple-in-spec : {M : Type 1} → statement M
-tuple-in-spec =
+pub tuple_in_spec : {M : Type 1} → statement M
+tuple_in_spec =
     tie.close
     (tie.spec
-    deep-requires
-    add-headed
-    mul-headed
-    add-headed-2
-    mul-headed-2
-    add-headed-3
+    deep-d-requires
+    overflow_add-d
+    overflow_mul-d
+    overflow_add-d-2
+    overflow_mul-n
+    overflow_add-d-3
     headed-requires
-    add-intern
-    slice-reshare-prefix-intern
-    slice-aggregate-intern
+    overflow_add-n
+    slice_bounds-intern-end
+    slice_bounds-intern-end-2
     intern-requires
-    same_length
-    same-length-2
+    shape_of-new
+    shape_of-e
     returns)
