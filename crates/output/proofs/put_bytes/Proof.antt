@@ -6,51 +6,51 @@ use lib.ListN.{length}
 use Rattle.output.proofs.put_bytes.Statement.{statement}
 use Rattle.output.proofs.put_bytes.Tie as tie
 
-abbrev invariant-loop : tie.invariant-loop
-invariant-loop out₀ used bytes end₀ i₀ out end i = (end ≤ length out) × (length out ≡ length out₀)
+abbrev invariant-loop-i : tie.invariant-loop-i
+invariant-loop-i stdout out₀ used bytes end₀ i₀ out end i = (end ≤ length out) × (length out ≡ length out₀)
 
-abbrev decreases-loop : tie.decreases-loop
-decreases-loop out₀ used bytes end₀ i₀ out end i = length bytes - i
+abbrev decreases-loop-i : tie.decreases-loop-i
+decreases-loop-i stdout out₀ used bytes end₀ i₀ out end i = length bytes - i
 
-loop-holds : tie.Need-loop-init invariant-loop decreases-loop
-loop-holds c = search rules
+loop-i-init : tie.Need-loop-i-init invariant-loop-i decreases-loop-i
+loop-i-init c = search rules
 
-shared-slice-read-put-byte : tie.Need-shared-slice-read-put-byte invariant-loop decreases-loop
-shared-slice-read-put-byte c = search rules
+bounds-bytes-i : tie.Need-bounds-bytes-i invariant-loop-i decreases-loop-i
+bounds-bytes-i c = search rules
 
-put-byte-requires : tie.Need-put-byte-requires invariant-loop decreases-loop
-put-byte-requires c κs = search rules
+put_byte-end-requires : tie.Need-put_byte-end-requires invariant-loop-i decreases-loop-i
+put_byte-end-requires c κs = search rules
 
-add-i : tie.Need-overflow-add-i invariant-loop decreases-loop
-add-i c = search rules
+overflow_add-i : tie.Need-overflow_add-i invariant-loop-i decreases-loop-i
+overflow_add-i c = search rules
 
-loop-less : tie.Need-loop-smaller invariant-loop decreases-loop
-loop-less c = search rules
+loop-i-smaller : tie.Need-loop-i-smaller invariant-loop-i decreases-loop-i
+loop-i-smaller c = search rules
 
-loop-again : tie.Need-loop-preserved invariant-loop decreases-loop
-loop-again c = search rules
+loop-i-preserved : tie.Need-loop-i-preserved invariant-loop-i decreases-loop-i
+loop-i-preserved c = search rules
 
-end-line-requires : tie.Need-end-line-requires invariant-loop decreases-loop
-end-line-requires c κs = search rules
+end_line-requires : tie.Need-end_line-requires invariant-loop-i decreases-loop-i
+end_line-requires c κs = search rules
 
-same_length : tie.Need-same-length invariant-loop decreases-loop
-same_length c = search rules
+shape_of-out : tie.Need-shape_of-out invariant-loop-i decreases-loop-i
+shape_of-out c = search rules
 
-returns : tie.Need-returns invariant-loop decreases-loop
+returns : tie.Need-returns invariant-loop-i decreases-loop-i
 returns c = search rules
 
-pub put-bytes-spec : {M : Type 1} → statement M
-put-bytes-spec =
+pub put_bytes_spec : {M : Type 1} → statement M
+put_bytes_spec =
     tie.close
     (tie.spec
-    invariant-loop
-    decreases-loop
-    loop-holds
-    shared-slice-read-put-byte
-    put-byte-requires
-    add-i
-    loop-less
-    loop-again
-    end-line-requires
-    same_length
+    invariant-loop-i
+    decreases-loop-i
+    loop-i-init
+    bounds-bytes-i
+    put_byte-end-requires
+    overflow_add-i
+    loop-i-smaller
+    loop-i-preserved
+    end_line-requires
+    shape_of-out
     returns)
