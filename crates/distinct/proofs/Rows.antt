@@ -1,5 +1,5 @@
 -- `Own` as a test, and from "none is like one before it". Assumes nothing.
-use Rattle.std.proofs.Common.{◌≡◌, ℕ, zero, suc, pred, ◌<◌, Bool, true, false, ◌⊎◌, List, [], ◌∷◌, take, sym, refl, ap, ◌∙◌, ⊎_elim, arith, eq-eqb, eqb-true}
+use Rattle.std.proofs.Common.{◌≡◌, ℕ, zero, suc, pred, ◌<◌, Bool, true, false, List, [], ◌∷◌, take, sym, refl, ap, ◌∙◌, ⊎_elim, arith, eq-eqb, eqb-true}
 use mathlib.Core.List.Memᴰ
 use Rattle.words.specs.Words.{size_of, eqs}
 use Rattle.words.specs.Table.{Row, rows, first_of, RowIn, Own}

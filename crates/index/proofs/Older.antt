@@ -12,7 +12,7 @@ use Rattle.words.specs.Table.{Row, rows, entries, first_of, RowIn}
 use Rattle.words.specs.declared.Found.{Found}
 use Rattle.words.specs.declared.Found.TheVariants.{At, Nothing}
 use Rattle.words.proofs.Grow.{or_else}
-use Rattle.index.specs.Chains.{newest_first, newest}
+use Rattle.index.specs.Chains.{newest_first}
 
 -- ---- handles that fall, all below k
 

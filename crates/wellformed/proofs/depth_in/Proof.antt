@@ -1,6 +1,5 @@
 -- `wellformed::depth_in` meets its contract.
 use Rattle.wellformed.proofs.Parts.{too_low, too_high, right_kind}
-use borrow.Author.Rules.{rules}
 use Rattle.wellformed.proofs.depth_in.Statement.{statement}
 use Rattle.wellformed.proofs.depth_in.Tie as tie
 

@@ -1,6 +1,6 @@
 -- `wellformed::far_fields` meets its contract. The invariant: the answer is the answer on the j fields from i on, from the depth so far.
 use mathlib.Core.Path.{◌≡◌, refl}
-use Prim.Native.Nat.{◌+◌, ◌*◌, ◌-◌}
+use Prim.Native.Nat.{◌+◌, ◌*◌}
 use lib.ListN.{length}
 use Rattle.source.specs.Source.{stored}
 use Rattle.bitset.specs.Bitset.{bit_at}

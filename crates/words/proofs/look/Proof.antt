@@ -9,7 +9,6 @@ use Rattle.words.proofs.Walk.{inside, size_pos}
 use Rattle.words.proofs.Looking.{Looking, looking_first, looking_on, looking_last, looking_hit, looking_miss}
 use Rattle.words.proofs.look.Statement.{statement}
 use Rattle.words.proofs.look.Tie as tie
-use Rattle.words.proofs.look.Lts as lts
 
 abbrev invariant-loop-at : tie.invariant-loop-at
 invariant-loop-at words base from to entry head n at₀ count₀ at count = Looking words base from to entry at count

@@ -13,7 +13,6 @@ use Rattle.words.proofs.Walk.{inside, size_pos}
 use Rattle.words.proofs.Passing.{stops, passes, none_more}
 use Rattle.words.proofs.pass_over.Statement.{statement}
 use Rattle.words.proofs.pass_over.Tie as tie
-use Rattle.words.proofs.pass_over.Lts as lts
 
 abbrev invariant-loop-at : tie.invariant-loop-at
 invariant-loop-at words from to head size at₀ last₀ n₀ at last n =
