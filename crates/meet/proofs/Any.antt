@@ -92,6 +92,6 @@ meet_any {u} g {a} {b} {d = d} pa pb (suc m) (suc n) la lb ra rb =
     follow_same (meet_within m) (meet_within n) k
     (λ v x y e h p q. (
       (meet_nice m v x y e h (part_below m (omega (arith, p.earlier)) p) (part_below m (omega (arith, q.earlier)) q)).adds,
-      meet_any h p q m n (omega (arith, p.earlier)) (omega (arith, q.earlier)) (omega (arith, p.earlier)) (omega (arith, q.earlier)),
+      meet_any {u = v} h {a = x} {b = y} p q m n (omega (arith, p.earlier)) (omega (arith, q.earlier)) (omega (arith, p.earlier)) (omega (arith, q.earlier)),
     ))
     u g a b d (part_below (suc k) (omega arith) pa) (part_below (suc k) (omega arith) pb) (type_rule u a b) refl
