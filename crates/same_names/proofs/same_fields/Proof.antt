@@ -1,5 +1,6 @@
 -- `same_names::same_fields` meets its contract: what is left to compare says what the whole says.
-use mathlib.Core.Path.{◌≡◌}
+use mathlib.Core.Bool.{not}
+use mathlib.Core.Path.{ap, ◌≡◌}
 use mathlib.Core.List.{◌++◌}
 use Prim.Native.Nat.{◌+◌, ◌-◌, ◌*◌, ◌≤◌}
 use borrow.Author.Rules.{rules}
@@ -10,112 +11,112 @@ use Rattle.same_names.proofs.Alike.{Low, low_begin, low_this, low_more, fields_b
 use Rattle.same_names.proofs.same_fields.Statement.{statement}
 use Rattle.same_names.proofs.same_fields.Tie as tie
 
-abbrev invariant-loop : tie.invariant-loop
-invariant-loop old new used n p q i₀ i =
+abbrev invariant-loop-i : tie.invariant-loop-i
+invariant-loop-i old new used n p q i₀ i =
     (i ≤ n)
     × Low (every 3 (n - i) (p + 3 * i) (take used (old ++ new)))
     × Low (every 3 (n - i) (q + 3 * i) (take used (old ++ new)))
     × (same_fields (take used (old ++ new)) n p q ≡ same_fields (take used (old ++ new)) (n - i) (p + 3 * i) (q + 3 * i))
 
-abbrev decreases-loop : tie.decreases-loop
-decreases-loop old new used n p q i₀ i = n - i
+abbrev decreases-loop-i : tie.decreases-loop-i
+decreases-loop-i old new used n p q i₀ i = n - i
 
-loop-holds : tie.Need-loop-init invariant-loop decreases-loop
-loop-holds c = (search rules, search low_begin, search low_begin, search fields_begin)
+loop-i-init : tie.Need-loop-i-init invariant-loop-i decreases-loop-i
+loop-i-init c = (search rules, search low_begin, search low_begin, search fields_begin)
 
-mul-word : tie.Need-overflow-mul-word invariant-loop decreases-loop
-mul-word c = search rules
+overflow_mul-i : tie.Need-overflow_mul-i invariant-loop-i decreases-loop-i
+overflow_mul-i c = search rules
 
-add-word : tie.Need-overflow-add-word invariant-loop decreases-loop
-add-word c = search rules
+overflow_add-p : tie.Need-overflow_add-p invariant-loop-i decreases-loop-i
+overflow_add-p c = search rules
 
-word-requires : tie.Need-word-requires invariant-loop decreases-loop
-word-requires c κs = search rules
+word-x-requires : tie.Need-word-x-requires invariant-loop-i decreases-loop-i
+word-x-requires c κs = search rules
 
-mul-word-2 : tie.Need-overflow-mul-word-2 invariant-loop decreases-loop
-mul-word-2 c = search rules
+overflow_mul-i-in-loop-i : tie.Need-overflow_mul-i-in-loop-i invariant-loop-i decreases-loop-i
+overflow_mul-i-in-loop-i c = search rules
 
-add-word-2 : tie.Need-overflow-add-word-2 invariant-loop decreases-loop
-add-word-2 c = search rules
+overflow_add-q : tie.Need-overflow_add-q invariant-loop-i decreases-loop-i
+overflow_add-q c = search rules
 
-word-requires-2 : tie.Need-word-requires-2 invariant-loop decreases-loop
-word-requires-2 c κs = search rules
+word-y-requires : tie.Need-word-y-requires invariant-loop-i decreases-loop-i
+word-y-requires c κs = search rules
 
-same-name-requires : tie.Need-same-name-requires invariant-loop decreases-loop
-same-name-requires c κs = (search rules, (search low_this, search low_this))
+same_name-requires : tie.Need-same_name-requires invariant-loop-i decreases-loop-i
+same_name-requires c κs = (search rules, (search low_this, search low_this))
 
-returns : tie.Need-returns invariant-loop decreases-loop
-returns c = search fields_name
+returns-then-not-same_name : tie.Need-returns-then-not-same_name invariant-loop-i decreases-loop-i
+returns-then-not-same_name c = search fields_name
 
-mul-word-3 : tie.Need-overflow-mul-word-3 invariant-loop decreases-loop
-mul-word-3 c = search rules
+overflow_mul-i-in-loop-i-2 : tie.Need-overflow_mul-i-in-loop-i-2 invariant-loop-i decreases-loop-i
+overflow_mul-i-in-loop-i-2 c = search rules
 
-add-word-3 : tie.Need-overflow-add-word-3 invariant-loop decreases-loop
-add-word-3 c = search rules
+overflow_add-p-in-loop-i : tie.Need-overflow_add-p-in-loop-i invariant-loop-i decreases-loop-i
+overflow_add-p-in-loop-i c = search rules
 
-add-word-4 : tie.Need-overflow-add-word-4 invariant-loop decreases-loop
-add-word-4 c = search rules
+overflow_add-p-in-loop-i-2 : tie.Need-overflow_add-p-in-loop-i-2 invariant-loop-i decreases-loop-i
+overflow_add-p-in-loop-i-2 c = search rules
 
-word-requires-3 : tie.Need-word-requires-3 invariant-loop decreases-loop
-word-requires-3 c κs = search rules
+word-f-requires : tie.Need-word-f-requires invariant-loop-i decreases-loop-i
+word-f-requires c κs = search rules
 
-mul-word-4 : tie.Need-overflow-mul-word-4 invariant-loop decreases-loop
-mul-word-4 c = search rules
+overflow_mul-i-in-loop-i-3 : tie.Need-overflow_mul-i-in-loop-i-3 invariant-loop-i decreases-loop-i
+overflow_mul-i-in-loop-i-3 c = search rules
 
-add-word-5 : tie.Need-overflow-add-word-5 invariant-loop decreases-loop
-add-word-5 c = search rules
+overflow_add-q-in-loop-i : tie.Need-overflow_add-q-in-loop-i invariant-loop-i decreases-loop-i
+overflow_add-q-in-loop-i c = search rules
 
-add-word-6 : tie.Need-overflow-add-word-6 invariant-loop decreases-loop
-add-word-6 c = search rules
+overflow_add-q-in-loop-i-2 : tie.Need-overflow_add-q-in-loop-i-2 invariant-loop-i decreases-loop-i
+overflow_add-q-in-loop-i-2 c = search rules
 
-word-requires-4 : tie.Need-word-requires-4 invariant-loop decreases-loop
-word-requires-4 c κs = search rules
+word-g-requires : tie.Need-word-g-requires invariant-loop-i decreases-loop-i
+word-g-requires c κs = search rules
 
-returns-2 : tie.Need-returns-2 invariant-loop decreases-loop
-returns-2 c = search fields_alias
+returns-then-f-g : tie.Need-returns-then-f-g invariant-loop-i decreases-loop-i
+returns-then-f-g c = search fields_alias
 
-add-i : tie.Need-overflow-add-i invariant-loop decreases-loop
-add-i c = search rules
+overflow_add-i : tie.Need-overflow_add-i invariant-loop-i decreases-loop-i
+overflow_add-i c = search rules
 
-loop-less : tie.Need-loop-smaller invariant-loop decreases-loop
-loop-less c = search rules
+loop-i-smaller : tie.Need-loop-i-smaller invariant-loop-i decreases-loop-i
+loop-i-smaller c = search rules
 
-loop-again : tie.Need-loop-preserved invariant-loop decreases-loop
-loop-again c = (
+loop-i-preserved : tie.Need-loop-i-preserved invariant-loop-i decreases-loop-i
+loop-i-preserved c = (
   search rules,
   search low_more,
   search low_more,
-  fields_more _ _ _ _ _ c.before.before.before.before.before.before.before.before.loop.invariant.3 c.before.before.before.before.before.before.before.loop-test.true _ _ c.before.before.before.before.before.before.word.ensures c.before.before.before.before.before.word2.ensures _ c.before.before.before.before.same_name.ensures c.before.before.before.if1.false _ _ c.before.before.word3.ensures c.before.word4.ensures c.if2.false,
+  fields_more _ _ _ _ _ c.loop-i.invariant.3 c.loop-i-test.true _ _ c.word-x.ensures c.word-y.ensures _ c.same_name.ensures (ap not c.if-not-same_name.false) _ _ c.word-f.ensures c.word-g.ensures c.if-f-g.false,
 )
 
-returns-3 : tie.Need-returns-3 invariant-loop decreases-loop
-returns-3 c = search fields_end
+returns : tie.Need-returns invariant-loop-i decreases-loop-i
+returns c = search fields_end
 
-pub same-fields-spec : {M : Type 1} → statement M
-same-fields-spec =
+pub same_fields_spec : {M : Type 1} → statement M
+same_fields_spec =
     tie.close
     (tie.spec
-    invariant-loop
-    decreases-loop
-    loop-holds
-    mul-word
-    add-word
-    word-requires
-    mul-word-2
-    add-word-2
-    word-requires-2
-    same-name-requires
-    returns
-    mul-word-3
-    add-word-3
-    add-word-4
-    word-requires-3
-    mul-word-4
-    add-word-5
-    add-word-6
-    word-requires-4
-    returns-2
-    add-i
-    loop-less
-    loop-again
-    returns-3)
+    invariant-loop-i
+    decreases-loop-i
+    loop-i-init
+    overflow_mul-i
+    overflow_add-p
+    word-x-requires
+    overflow_mul-i-in-loop-i
+    overflow_add-q
+    word-y-requires
+    same_name-requires
+    returns-then-not-same_name
+    overflow_mul-i-in-loop-i-2
+    overflow_add-p-in-loop-i
+    overflow_add-p-in-loop-i-2
+    word-f-requires
+    overflow_mul-i-in-loop-i-3
+    overflow_add-q-in-loop-i
+    overflow_add-q-in-loop-i-2
+    word-g-requires
+    returns-then-f-g
+    overflow_add-i
+    loop-i-smaller
+    loop-i-preserved
+    returns)

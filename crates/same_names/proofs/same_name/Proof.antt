@@ -5,21 +5,21 @@ use borrow.Author.Rules.{rules}
 use Rattle.same_names.proofs.same_name.Statement.{statement}
 use Rattle.same_names.proofs.same_name.Tie as tie
 
-returns : tie.Need-returns
-returns c = search name_itself
+returns-then-p-q : tie.Need-returns-then-p-q
+returns-then-p-q c = search name_itself
 
 word-requires : tie.Need-word-requires
 word-requires c κs = search rules
 
-size-requires : tie.Need-size-requires
-size-requires c κs = search rules
+size-n-requires : tie.Need-size-n-requires
+size-n-requires c κs = search rules
 
-same-words-requires : tie.Need-same-words-requires
-same-words-requires c κs = (search rules, (omega (arith, size_small c.before.word.result (omega (arith, c.before.word.type-inv)), c.size.ensures), search rules, search rules))
+same_words-requires : tie.Need-same_words-requires
+same_words-requires c κs = (search rules, (omega (arith, size_small c.word.result (omega (arith, c.word.type-inv)), c.size-n.ensures), search rules, search rules))
 
-returns-2 : tie.Need-returns-2
-returns-2 c = search name_words_is
+returns : tie.Need-returns
+returns c = search name_words_is
 
-pub same-name-spec : {M : Type 1} → statement M
-same-name-spec =
-    tie.close (tie.spec returns word-requires size-requires same-words-requires returns-2)
+pub same_name_spec : {M : Type 1} → statement M
+same_name_spec =
+    tie.close (tie.spec returns-then-p-q word-requires size-n-requires same_words-requires returns)

@@ -9,55 +9,55 @@ use Rattle.same_names.proofs.Alike.{words_begin, words_other, words_more, words_
 use Rattle.same_names.proofs.same_words.Statement.{statement}
 use Rattle.same_names.proofs.same_words.Tie as tie
 
-abbrev invariant-loop : tie.invariant-loop
-invariant-loop old new used n p q i₀ i = (i ≤ n) × (same_words (take used (old ++ new)) n p q ≡ same_words (take used (old ++ new)) (n - i) (p + i) (q + i))
+abbrev invariant-loop-i : tie.invariant-loop-i
+invariant-loop-i old new used n p q i₀ i = (i ≤ n) × (same_words (take used (old ++ new)) n p q ≡ same_words (take used (old ++ new)) (n - i) (p + i) (q + i))
 
-abbrev decreases-loop : tie.decreases-loop
-decreases-loop old new used n p q i₀ i = n - i
+abbrev decreases-loop-i : tie.decreases-loop-i
+decreases-loop-i old new used n p q i₀ i = n - i
 
-loop-holds : tie.Need-loop-init invariant-loop decreases-loop
-loop-holds c = (search rules, search words_begin)
+loop-i-init : tie.Need-loop-i-init invariant-loop-i decreases-loop-i
+loop-i-init c = (search rules, search words_begin)
 
-add-word : tie.Need-overflow-add-word invariant-loop decreases-loop
-add-word c = search rules
+overflow_add-p : tie.Need-overflow_add-p invariant-loop-i decreases-loop-i
+overflow_add-p c = search rules
 
-word-requires : tie.Need-word-requires invariant-loop decreases-loop
+word-requires : tie.Need-word-requires invariant-loop-i decreases-loop-i
 word-requires c κs = search rules
 
-add-word-2 : tie.Need-overflow-add-word-2 invariant-loop decreases-loop
-add-word-2 c = search rules
+overflow_add-q : tie.Need-overflow_add-q invariant-loop-i decreases-loop-i
+overflow_add-q c = search rules
 
-word-requires-2 : tie.Need-word-requires-2 invariant-loop decreases-loop
-word-requires-2 c κs = search rules
+word-requires-in-loop-i : tie.Need-word-requires-in-loop-i invariant-loop-i decreases-loop-i
+word-requires-in-loop-i c κs = search rules
 
-returns : tie.Need-returns invariant-loop decreases-loop
-returns c = search words_other
+returns-then-word : tie.Need-returns-then-word invariant-loop-i decreases-loop-i
+returns-then-word c = search words_other
 
-add-i : tie.Need-overflow-add-i invariant-loop decreases-loop
-add-i c = search rules
+overflow_add-i : tie.Need-overflow_add-i invariant-loop-i decreases-loop-i
+overflow_add-i c = search rules
 
-loop-less : tie.Need-loop-smaller invariant-loop decreases-loop
-loop-less c = search rules
+loop-i-smaller : tie.Need-loop-i-smaller invariant-loop-i decreases-loop-i
+loop-i-smaller c = search rules
 
-loop-again : tie.Need-loop-preserved invariant-loop decreases-loop
-loop-again c = (search rules, words_more _ _ _ _ _ c.before.before.before.before.loop.invariant.1 c.before.before.before.loop-test.true _ _ c.before.before.word.ensures c.before.word2.ensures c.if1.false)
+loop-i-preserved : tie.Need-loop-i-preserved invariant-loop-i decreases-loop-i
+loop-i-preserved c = (search rules, words_more _ _ _ _ _ c.loop-i.invariant.1 c.loop-i-test.true _ _ c.word.ensures c.word-in-loop-i.ensures c.if-word.false)
 
-returns-2 : tie.Need-returns-2 invariant-loop decreases-loop
-returns-2 c = search words_end
+returns : tie.Need-returns invariant-loop-i decreases-loop-i
+returns c = search words_end
 
-pub same-words-spec : {M : Type 1} → statement M
-same-words-spec =
+pub same_words_spec : {M : Type 1} → statement M
+same_words_spec =
     tie.close
     (tie.spec
-    invariant-loop
-    decreases-loop
-    loop-holds
-    add-word
+    invariant-loop-i
+    decreases-loop-i
+    loop-i-init
+    overflow_add-p
     word-requires
-    add-word-2
-    word-requires-2
-    returns
-    add-i
-    loop-less
-    loop-again
-    returns-2)
+    overflow_add-q
+    word-requires-in-loop-i
+    returns-then-word
+    overflow_add-i
+    loop-i-smaller
+    loop-i-preserved
+    returns)
