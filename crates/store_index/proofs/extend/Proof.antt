@@ -5,86 +5,85 @@ use borrow.Author.Rules.{rules}
 use Rattle.store_index.proofs.extend.Statement.{statement}
 use Rattle.store_index.proofs.extend.Tie as tie
 
-shared-slice-read-used : tie.Need-shared-slice-read-used
-shared-slice-read-used c = first_word _ c.before.before.before.requires.0
+bounds-words-0 : tie.Need-bounds-words-0
+bounds-words-0 c = first_word _ c.requires.0
 
-marks-size-requires : tie.Need-marks-size-requires
-marks-size-requires c κs = few_words _ c.before.before.before.requires.0
+marks_size-k-requires : tie.Need-marks_size-k-requires
+marks_size-k-requires c κs = few_words _ c.requires.0
 
-mul-covered : tie.Need-overflow-mul-covered
-mul-covered c = search rules
+offset_bounds-index-k : tie.Need-offset_bounds-index-k
+offset_bounds-index-k c = search rules
 
-sub-covered : tie.Need-overflow-sub-covered
-sub-covered c = search rules
+slice_bounds-covered-count : tie.Need-slice_bounds-covered-count
+slice_bounds-covered-count c = search rules
 
-part-covered-start : tie.Need-slice-bounds-covered-start
-part-covered-start c = search rules
+slice_bounds-covered-start : tie.Need-slice_bounds-covered-start
+slice_bounds-covered-start c = search rules
 
-part-covered-end : tie.Need-slice-bounds-covered-end
-part-covered-end c = search rules
+slice_bounds-covered-end : tie.Need-slice_bounds-covered-end
+slice_bounds-covered-end c = search rules
 
-covered-requires : tie.Need-covered-requires
-covered-requires c κs = search rules
+covered-from-requires : tie.Need-covered-from-requires
+covered-from-requires c κs = search rules
 
-same_length : tie.Need-same-length
-same_length c = search rules
+shape_of-index-then-from-used : tie.Need-shape_of-index-then-from-used
+shape_of-index-then-from-used c = search rules
 
-returns : tie.Need-returns
-returns c = let s = c.before.before.before.before.before.before.before.before in none_new _ _ s.requires.0 s.requires.1 _ c.before.before.before.before.marks-size.ensures.0 _ c.before.covered.ensures c.if1.true
+returns-then-from-used : tie.Need-returns-then-from-used
+returns-then-from-used c = none_new _ _ c.requires.0 c.requires.1 _ c.marks_size-k.ensures.0 _ c.covered-from.ensures c.if-from-used.true
 
-slice-relend-prefix-mark-from : tie.Need-slice-relend-prefix-mark-from
-slice-relend-prefix-mark-from c = search rules
+slice_bounds-mark_from-end : tie.Need-slice_bounds-mark_from-end
+slice_bounds-mark_from-end c = search rules
 
-slice-aggregate-mark-from : tie.Need-slice-aggregate-mark-from
-slice-aggregate-mark-from c = let s = c.before.before.before.before.before.before.before.before.before in marks_long s.args.words.now _ _ c.before.before.before.before.before.marks-size.ensures.0 s.requires.1.room
+slice_bounds-mark_from-end-2 : tie.Need-slice_bounds-mark_from-end-2
+slice_bounds-mark_from-end-2 c = marks_long c.args.words.now _ _ c.marks_size-k.ensures.0 c.requires.1.room
 
-mark-from-requires : tie.Need-mark-from-requires
-mark-from-requires c κs = let s = c.before.before.before.before.before.before.before.before.before in mark_ready _ s.requires.0 _ s.requires.1 _ c.before.before.before.before.before.marks-size.ensures.0 _ c.before.before.covered.ensures
+mark_from-requires : tie.Need-mark_from-requires
+mark_from-requires c κs = mark_ready _ c.requires.0 _ c.requires.1 _ c.marks_size-k.ensures.0 _ c.covered-from.ensures
 
-mul-extend : tie.Need-overflow-mul-extend
-mul-extend c = search rules
+offset_bounds-index-k-2 : tie.Need-offset_bounds-index-k-2
+offset_bounds-index-k-2 c = search rules
 
-sub-extend : tie.Need-overflow-sub-extend
-sub-extend c = search rules
+slice_bounds-extend-count : tie.Need-slice_bounds-extend-count
+slice_bounds-extend-count c = search rules
 
-part-extend-start : tie.Need-slice-bounds-extend-start
-part-extend-start c = search rules
+slice_bounds-extend-start : tie.Need-slice_bounds-extend-start
+slice_bounds-extend-start c = search rules
 
-part-extend-end : tie.Need-slice-bounds-extend-end
-part-extend-end c = search rules
+slice_bounds-extend-end : tie.Need-slice_bounds-extend-end
+slice_bounds-extend-end c = search rules
 
 extend-requires : tie.Need-extend-requires
-extend-requires c κs = let s = c.before.before.before.before.before.before.before.before.before.before.before.before.before in (used_within _ s.requires.0, used_fills _ s.requires.0, extend_covers _ s.requires.0 _ s.requires.1 _ c.before.before.before.before.before.before.before.before.before.marks-size.ensures.0 c.before.before.before.mark-from.new.1.1.1.0 c.before.before.before.mark-from.auto.1.1.1.0)
+extend-requires c κs = (used_within _ c.requires.0, used_fills _ c.requires.0, extend_covers _ c.requires.0 _ c.requires.1 _ c.marks_size-k.ensures.0 c.mark_from.new.bits c.mark_from.auto.bits)
 
-same-length-2 : tie.Need-same-length-2
-same-length-2 c = search rules
+shape_of-index : tie.Need-shape_of-index
+shape_of-index c = search rules
 
-returns-2 : tie.Need-returns-2
-returns-2 c =
-    let s = c.before.before.before.before.before.before.before.before.before.before.before.before.before.before.before.before in
-    let m = c.before.before.before.before.before.before.mark-from in
-    three_index _ _ _ c.before.before.before.before.before.before.before.before.before.before.before.before.marks-size.ensures.0 s.requires.1.room _ m.auto.1.1.1.0 _ c.before.before.extend.auto.1.1.0 m.ensures c.before.before.extend.ensures
+returns : tie.Need-returns
+returns c =
+    let m = c.mark_from in
+    three_index _ _ _ c.marks_size-k.ensures.0 c.requires.1.room _ m.auto.bits _ c.extend.auto.index m.ensures c.extend.ensures
 
-pub extend-spec : {M : Type 1} → statement M
-extend-spec =
+pub extend_spec : {M : Type 1} → statement M
+extend_spec =
     tie.close
     (tie.spec
-    shared-slice-read-used
-    marks-size-requires
-    mul-covered
-    sub-covered
-    part-covered-start
-    part-covered-end
-    covered-requires
-    same_length
-    returns
-    slice-relend-prefix-mark-from
-    slice-aggregate-mark-from
-    mark-from-requires
-    mul-extend
-    sub-extend
-    part-extend-start
-    part-extend-end
+    bounds-words-0
+    marks_size-k-requires
+    offset_bounds-index-k
+    slice_bounds-covered-count
+    slice_bounds-covered-start
+    slice_bounds-covered-end
+    covered-from-requires
+    shape_of-index-then-from-used
+    returns-then-from-used
+    slice_bounds-mark_from-end
+    slice_bounds-mark_from-end-2
+    mark_from-requires
+    offset_bounds-index-k-2
+    slice_bounds-extend-count
+    slice_bounds-extend-start
+    slice_bounds-extend-end
     extend-requires
-    same-length-2
-    returns-2)
+    shape_of-index
+    returns)

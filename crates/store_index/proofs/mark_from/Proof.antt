@@ -9,64 +9,61 @@ use borrow.Author.Rules.{rules}
 use Rattle.store_index.proofs.mark_from.Statement.{statement}
 use Rattle.store_index.proofs.mark_from.Tie as tie
 
-abbrev invariant-loop : tie.invariant-loop
-invariant-loop words from used bits₀ at₀ bits at = (length bits ≡ length bits₀) × Marked words used bits at
+abbrev invariant-loop-at : tie.invariant-loop-at
+invariant-loop-at words from used bits₀ at₀ bits at = (length bits ≡ length bits₀) × Marked words used bits at
 
-abbrev decreases-loop : tie.decreases-loop
-decreases-loop words from used bits₀ at₀ bits at = used - at
+abbrev decreases-loop-at : tie.decreases-loop-at
+decreases-loop-at words from used bits₀ at₀ bits at = used - at
 
-loop-holds : tie.Need-loop-init invariant-loop decreases-loop
-loop-holds c = let s = c.before.before in (refl, mark_first _ _ _ _ s.requires.0.1 s.requires.1.1 s.requires.0.0 s.requires.1.0 s.requires.1.2 s.requires.1.3)
+loop-at-init : tie.Need-loop-at-init invariant-loop-at decreases-loop-at
+loop-at-init c = (refl, mark_first _ _ _ _ c.requires.0.1 c.requires.1.1 c.requires.0.0 c.requires.1.0 c.requires.1.2 c.requires.1.3)
 
-mark-requires : tie.Need-mark-requires invariant-loop decreases-loop
-mark-requires c κs = let s = c.before.before.before.before.before in let l = c.before.before.loop.invariant in omega (arith, c.before.loop-test.true, s.requires.0.2, l.0)
+mark-requires : tie.Need-mark-requires invariant-loop-at decreases-loop-at
+mark-requires c κs = let l = c.loop-at.invariant in omega (arith, c.loop-at-test.true, c.requires.0.2, l.0)
 
-mul-size : tie.Need-overflow-mul-size invariant-loop decreases-loop
-mul-size c = search rules
+offset_bounds-words-at : tie.Need-offset_bounds-words-at invariant-loop-at decreases-loop-at
+offset_bounds-words-at c = search rules
 
-shared-slice-read-size : tie.Need-shared-slice-read-size invariant-loop decreases-loop
-shared-slice-read-size c = omega (arith, c.before.before.before.before.before.loop-test.true, c.before.before.before.before.before.before.before.before.before.requires.0.1)
+bounds-words-at : tie.Need-bounds-words-at invariant-loop-at decreases-loop-at
+bounds-words-at c = omega (arith, c.loop-at-test.true, c.requires.0.1)
 
-size-requires : tie.Need-size-requires invariant-loop decreases-loop
-size-requires c κs = search rules
+size-at-requires : tie.Need-size-at-requires invariant-loop-at decreases-loop-at
+size-at-requires c κs = search rules
 
-add_at : tie.Need-overflow-add-at invariant-loop decreases-loop
-add_at c =
-    let s = c.before.before.before.before.before.before.before.before.before.before in
-    let l = c.before.before.before.before.before.before.before.loop.invariant.1 in
-    omega (arith, mark_inside _ _ _ _ s.requires.0.1 l c.before.before.before.before.before.before.loop-test.true)
+overflow_add-at : tie.Need-overflow_add-at invariant-loop-at decreases-loop-at
+overflow_add-at c =
+    let l = c.loop-at.invariant.1 in
+    omega (arith, mark_inside _ _ _ _ c.requires.0.1 l c.loop-at-test.true)
 
-loop-less : tie.Need-loop-smaller invariant-loop decreases-loop
-loop-less c =
-    let s = c.before.before.before.before.before.before.before.before.before.before in
-    let l = c.before.before.before.before.before.before.before.loop.invariant.1 in
-    omega (arith, mark_inside _ _ _ _ s.requires.0.1 l c.before.before.before.before.before.before.loop-test.true, size_pos (get_or s.args.words.now c.before.before.before.before.before.before.before.loop.at 0))
+loop-at-smaller : tie.Need-loop-at-smaller invariant-loop-at decreases-loop-at
+loop-at-smaller c =
+    let l = c.loop-at.invariant.1 in
+    omega (arith, mark_inside _ _ _ _ c.requires.0.1 l c.loop-at-test.true, size_pos (get_or c.args.words.now c.loop-at.at 0))
 
-loop-again : tie.Need-loop-preserved invariant-loop decreases-loop
-loop-again c =
-    let s = c.before.before.before.before.before.before.before.before.before.before in
-    let l = c.before.before.before.before.before.before.before.loop.invariant.1 in
-    (search rules, mark_more _ _ _ _ s.requires.0.1 l c.before.before.before.before.before.before.loop-test.true _ _ c.size.ensures c.before.before.before.before.mark.ensures)
+loop-at-preserved : tie.Need-loop-at-preserved invariant-loop-at decreases-loop-at
+loop-at-preserved c =
+    let l = c.loop-at.invariant.1 in
+    (search rules, mark_more _ _ _ _ c.requires.0.1 l c.loop-at-test.true _ _ c.size-at.ensures c.mark.ensures)
 
-same_length : tie.Need-same-length invariant-loop decreases-loop
-same_length c = search rules
+shape_of-bits : tie.Need-shape_of-bits invariant-loop-at decreases-loop-at
+shape_of-bits c = search rules
 
-returns : tie.Need-returns invariant-loop decreases-loop
-returns c = mark_all _ _ _ _ c.before.before.before.before.requires.0.1 c.before.loop.invariant.1 c.loop-test.false
+returns : tie.Need-returns invariant-loop-at decreases-loop-at
+returns c = mark_all _ _ _ _ c.requires.0.1 c.loop-at.invariant.1 c.loop-at-test.false
 
-pub mark-from-spec : {M : Type 1} → statement M
-mark-from-spec =
+pub mark_from_spec : {M : Type 1} → statement M
+mark_from_spec =
     tie.close
     (tie.spec
-    invariant-loop
-    decreases-loop
-    loop-holds
+    invariant-loop-at
+    decreases-loop-at
+    loop-at-init
     mark-requires
-    mul-size
-    shared-slice-read-size
-    size-requires
-    add_at
-    loop-less
-    loop-again
-    same_length
+    offset_bounds-words-at
+    bounds-words-at
+    size-at-requires
+    overflow_add-at
+    loop-at-smaller
+    loop-at-preserved
+    shape_of-bits
     returns)
