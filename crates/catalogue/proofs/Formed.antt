@@ -1,11 +1,11 @@
 -- The loader's test of the words. Assumes nothing.
-use mathlib.Core.Path.{◌≡◌, refl, sym, ap, ◌∙◌}
-use mathlib.Core.Bool.{Bool, true, false, not, ◌&&◌}
+use mathlib.Core.Path.{◌≡◌, sym, ap, ◌∙◌}
+use mathlib.Core.Bool.{Bool, true, false, not}
 use mathlib.Core.List.{List, ◌∷◌, ◌++◌}
-use Prim.Native.Nat.{ℕ, ◌+◌, ◌/◌, ◌≤◌, ◌<◌}
+use Prim.Native.Nat.{ℕ, ◌+◌, ◌/◌, ◌≤◌}
 use native.Mathlib.Omega.{arith}
 use borrow.Author.Tests.{not-true, not-false}
-use lib.ListN.{length, take, drop, get_or}
+use lib.ListN.{length, take, get_or}
 use lib.Seq.{take_all}
 use Rattle.words.specs.Table.{entries}
 use Rattle.source.specs.Source.{unpacked, stored}
@@ -13,7 +13,7 @@ use Rattle.source.proofs.Packing.{length_packed}
 use Rattle.wellformed.specs.Fresh.{fresh_words}
 use Rattle.wellformed.specs.Form.{well_formed, behind_fresh}
 use Rattle.wellformed.specs.Scan.{Verified}
-use Rattle.wellformed.proofs.Before.{Tests, tests}
+use Rattle.wellformed.proofs.Before.{tests}
 use Rattle.wellformed.proofs.Tail.{tail_length, behind_used, first_stored}
 use Rattle.distinct.specs.Distinct.{own, Store}
 use Rattle.catalogue.specs.Catalogue.{forms_store}

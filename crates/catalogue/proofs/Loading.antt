@@ -1,26 +1,25 @@
 -- Each way through `load` gives what `load_call` says. Assumes nothing.
-use mathlib.Core.Path.{◌≡◌, refl, sym, ap, ◌∙◌}
+use mathlib.Core.Path.{◌≡◌, sym, ◌∙◌}
 use mathlib.Core.Bool.{Bool, true, false, not}
-use mathlib.Core.List.{List, [], ◌∷◌, ◌++◌, append_assoc, append-nil}
-use Prim.Native.Nat.{ℕ, zero, suc, ◌+◌, ◌-◌, ◌*◌, ◌/◌, ◌≤◌, ◌<◌}
+use mathlib.Core.List.{List, [], ◌∷◌, ◌++◌, append-nil}
+use Prim.Native.Nat.{ℕ, suc, ◌+◌, ◌-◌, ◌*◌, ◌/◌, ◌≤◌, ◌<◌}
 use native.Mathlib.Omega.{arith}
 use native.Mathlib.Decide.{ℕ_discrete}
 use borrow.Author.Tests.{le-leb, lt-leb, eq-eqb, ne_eqb, lt-ltb, le-ltb, eqb-true, not-true, not-false}
 use borrow.Rule.Slice.PartMut.{put_mid}
 use lib.Dec.{eqb}
-use lib.ListN.{length, take, drop, get_or, replicate, length-take, length-drop, length-append, drop_of_length-le}
-use lib.Seq.{take_at, take_all, drop-drop}
+use lib.ListN.{length, take, drop, replicate, length-take, length-drop, drop_of_length-le}
+use lib.Seq.{take_at, take_all}
 use Rattle.source.specs.Source.{unpacked, stored}
-use Rattle.source.specs.Packed.{of_bytes, packed}
-use Rattle.source.proofs.Packing.{length_packed, packed_first}
+use Rattle.source.proofs.Packing.{packed_first}
 use Rattle.wellformed.specs.Fresh.{fresh_words}
 use Rattle.wellformed.specs.Form.{behind_fresh}
-use Rattle.wellformed.proofs.Tail.{behind_length, tail_length, first_stored}
-use Rattle.call.specs.Call.{Outcome, left, number, refused, told}
+use Rattle.wellformed.proofs.Tail.{tail_length, first_stored}
+use Rattle.call.specs.Call.{left, told}
 use Rattle.call.specs.declared.Answer.{Answer}
 use Rattle.call.specs.declared.Answer.TheVariants.{Number, Refused}
 use Rattle.catalogue_file.specs.File.{start_in, count_in, trailed, words_in}
-use Rattle.catalogue.specs.Catalogue.{forms_store, load_rows, loaded_store, load_after, load_call}
+use Rattle.catalogue.specs.Catalogue.{forms_store, load_rows, loaded_store, load_call}
 
 -- ---- trailer_fits
 

@@ -16,67 +16,59 @@ room s = omega (arith, s.requires.0, tail_length s.args.tail.now)
 few : (s : tie.Start) → length s.args.tail.now / 8 ≤ 1048482
 few s = omega (arith, room s, s.requires.1)
 
-add-used : tie.Need-overflow-add-used
-add-used c = search rules
+overflow_add-used : tie.Need-overflow_add-used
+overflow_add-used c = search rules
 
-slice-aggregate-headed : tie.Need-slice-aggregate-headed
-slice-aggregate-headed c = search rules
-
-slice-aggregate-headed-2 : tie.Need-slice-aggregate-headed-2
-slice-aggregate-headed-2 c = search rules
+slice_bounds-headed-end : tie.Need-slice_bounds-headed-end
+slice_bounds-headed-end c = search rules
 
 headed-requires : tie.Need-headed-requires
 headed-requires c κs = search rules
 
-slice-aggregate-gather : tie.Need-slice-aggregate-gather
-slice-aggregate-gather c = search rules
+slice_bounds-gather-end : tie.Need-slice_bounds-gather-end
+slice_bounds-gather-end c = search rules
 
 gather-requires : tie.Need-gather-requires
 unfolding fresh_words
 gather-requires c κs =
-    let h = c.before.before.before in
-    let s = c.before.before.before.before.before.before.before.before in
-    (enough s.args.tail.now h.headed.new.0 _ (few s) h.headed.ensures refl, omega (arith, s.requires.0, tail_length s.args.tail.now))
+    (enough c.args.tail.now c.headed.new.dst _ (few c.before.before.before.before.before.before.before.before.before) c.headed.ensures refl, omega (arith, c.requires.0, tail_length c.args.tail.now))
 
-mul-clear : tie.Need-overflow-mul-clear
-mul-clear c = search rules
+offset_bounds-words-used : tie.Need-offset_bounds-words-used
+offset_bounds-words-used c = search rules
 
-sub-clear : tie.Need-overflow-sub-clear
-sub-clear c = omega (arith, room c.before.before.before.before.before.before.before.before.before.before.before, c.before.before.gather.auto.1.1.1.1.0)
+slice_bounds-clear-count : tie.Need-slice_bounds-clear-count
+slice_bounds-clear-count c = omega (arith, room c.before.before.before.before.before.before.before.before.before.before.before.before, c.gather.auto.e)
 
-part-clear-start : tie.Need-slice-bounds-clear-start
-part-clear-start c = omega (arith, room c.before.before.before.before.before.before.before.before.before.before.before, c.before.before.gather.auto.1.1.1.1.0)
+slice_bounds-clear-start : tie.Need-slice_bounds-clear-start
+slice_bounds-clear-start c = omega (arith, room c.before.before.before.before.before.before.before.before.before.before.before.before, c.gather.auto.e)
 
-part-clear-end : tie.Need-slice-bounds-clear-end
-part-clear-end c = search rules
+slice_bounds-clear-end : tie.Need-slice_bounds-clear-end
+slice_bounds-clear-end c = search rules
 
 clear-requires : tie.Need-clear-requires
 clear-requires c κs = search rules
 
-same_length : tie.Need-same-length
-same_length c = search rules
+shape_of-words : tie.Need-shape_of-words
+shape_of-words c = search rules
 
 returns : tie.Need-returns
 unfolding fresh_words
 returns c =
-    let h = c.before.before.before.before.before.before.before.before.before.before in
-    let s = c.before.before.before.before.before.before.before.before.before.before.before.before.before.before.before in
-    filled s.args.tail.now h.headed.new.0 _ (few s) h.headed.ensures refl _ _ _ c.before.before.before.before.before.before.gather.ensures c.before.before.before.before.before.before.gather.auto.1.1.1.1.0 (room s) c.before.before.clear.ensures
+    filled c.args.tail.now c.headed.new.dst _ (few c.before.before.before.before.before.before.before.before.before.before.before.before.before.before.before.before) c.headed.ensures refl _ _ _ c.gather.ensures c.gather.auto.e (room c.before.before.before.before.before.before.before.before.before.before.before.before.before.before.before.before) c.clear.ensures
 
 pub fill_spec : {M : Type 1} → statement M
 fill_spec =
     tie.close
     (tie.spec
-    add-used
-    slice-aggregate-headed
-    slice-aggregate-headed-2
+    overflow_add-used
+    slice_bounds-headed-end
     headed-requires
-    slice-aggregate-gather
+    slice_bounds-gather-end
     gather-requires
-    mul-clear
-    sub-clear
-    part-clear-start
-    part-clear-end
+    offset_bounds-words-used
+    slice_bounds-clear-count
+    slice_bounds-clear-start
+    slice_bounds-clear-end
     clear-requires
-    same_length
+    shape_of-words
     returns)

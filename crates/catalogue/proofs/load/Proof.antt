@@ -1,4 +1,6 @@
 -- `catalogue::load` meets its contract.
+use mathlib.Core.Bool.{not}
+use mathlib.Core.Path.{ap}
 use native.Mathlib.Omega.{arith}
 use Rattle.catalogue.proofs.Loading.{Read, list_short, list_long, no_trailer, wrong_trailer, inside, tail_bytes, shorter, words_size, no_store, long_label, no_room, loaded}
 use borrow.Author.Rules.{rules}
@@ -6,112 +8,112 @@ use Rattle.catalogue.proofs.load.Statement.{statement}
 use Rattle.catalogue.proofs.load.Tie as tie
 
 -- what was read once the trailer was tested
-read : (c : tie.After-trailer-fits) → Read c.before.before.before.before.before.before.before.before.args.file.now c.before.before.before.before.before.before.before.before.args.words.now c.before.before.eight.result c.before.eight2.result c.trailer-fits.result
+read : (c : tie.After-trailer_fits) → Read c.args.file.now c.args.words.now c.eight-start.result c.eight-count.result c.trailer_fits.result
 read c = record {
-  long = c.before.before.before.before.before.if1.false;
-  short = c.before.before.before.before.if2.false;
-  some = c.before.before.before.if3.false;
-  start = c.before.before.eight.ensures;
-  count = c.before.eight2.ensures;
-  fits = c.trailer-fits.ensures;
+  long = c.if-words-lt-FRESH_LENGTH.false;
+  short = c.if-words-gt-LONGEST.false;
+  some = c.if-n-lt-TRAILER.false;
+  start = c.eight-start.ensures;
+  count = c.eight-count.ensures;
+  fits = c.trailer_fits.ensures;
 }
 
-returns : tie.Need-returns
-returns c = list_short c.before.before.before.args.file.now c.before.before.before.args.words.now c.if1.true
+returns-then-words-lt-FRESH_LENGTH : tie.Need-returns-then-words-lt-FRESH_LENGTH
+returns-then-words-lt-FRESH_LENGTH c = list_short c.args.file.now c.args.words.now c.if-words-lt-FRESH_LENGTH.true
 
-returns-2 : tie.Need-returns-2
-returns-2 c = list_long c.before.before.before.before.args.file.now c.before.before.before.before.args.words.now c.before.if1.false c.if2.true
+returns-then-words-gt-LONGEST : tie.Need-returns-then-words-gt-LONGEST
+returns-then-words-gt-LONGEST c = list_long c.args.file.now c.args.words.now c.if-words-lt-FRESH_LENGTH.false c.if-words-gt-LONGEST.true
 
-returns-3 : tie.Need-returns-3
-returns-3 c = no_trailer c.before.before.before.before.before.args.file.now c.before.before.before.before.before.args.words.now c.before.before.if1.false c.before.if2.false c.if3.true
+returns-then-n-lt-TRAILER : tie.Need-returns-then-n-lt-TRAILER
+returns-then-n-lt-TRAILER c = no_trailer c.args.file.now c.args.words.now c.if-words-lt-FRESH_LENGTH.false c.if-words-gt-LONGEST.false c.if-n-lt-TRAILER.true
 
-eight-requires : tie.Need-eight-requires
-eight-requires c κs = search rules
+eight-start-requires : tie.Need-eight-start-requires
+eight-start-requires c κs = search rules
 
-sub-eight : tie.Need-overflow-sub-eight
-sub-eight c = search rules
+overflow_sub-n : tie.Need-overflow_sub-n
+overflow_sub-n c = search rules
 
-eight-requires-2 : tie.Need-eight-requires-2
-eight-requires-2 c κs = search rules
+eight-count-requires : tie.Need-eight-count-requires
+eight-count-requires c κs = search rules
 
-trailer-fits-requires : tie.Need-trailer-fits-requires
-trailer-fits-requires c κs = search rules
+trailer_fits-requires : tie.Need-trailer_fits-requires
+trailer_fits-requires c κs = search rules
 
-returns-4 : tie.Need-returns-4
-returns-4 c = wrong_trailer _ _ _ _ _ (read c.before) c.if4.true
+returns-then-not-trailer_fits : tie.Need-returns-then-not-trailer_fits
+returns-then-not-trailer_fits c = wrong_trailer _ _ _ _ _ (read c.before) (ap not c.if-not-trailer_fits.true)
 
-sub-stores-for : tie.Need-overflow-sub-stores-for
-sub-stores-for c = inside _ _ _ _ _ (read c.before) c.if4.false
+overflow_sub-end-2 : tie.Need-overflow_sub-end-2
+overflow_sub-end-2 c = inside _ _ _ _ _ (read c.before) (ap not c.if-not-trailer_fits.false)
 
-sub-stores-for-2 : tie.Need-overflow-sub-stores-for-2
-sub-stores-for-2 c = inside _ _ _ _ _ (read c.before) c.if4.false
+slice_bounds-stores_for-count : tie.Need-slice_bounds-stores_for-count
+slice_bounds-stores_for-count c = inside _ _ _ _ _ (read c.before) (ap not c.if-not-trailer_fits.false)
 
-part-stores-for-start : tie.Need-slice-bounds-stores-for-start
-part-stores-for-start c = inside _ _ _ _ _ (read c.before) c.if4.false
+slice_bounds-stores_for-start : tie.Need-slice_bounds-stores_for-start
+slice_bounds-stores_for-start c = inside _ _ _ _ _ (read c.before) (ap not c.if-not-trailer_fits.false)
 
-part-stores-for-end : tie.Need-slice-bounds-stores-for-end
-part-stores-for-end c = search rules
+slice_bounds-stores_for-end : tie.Need-slice_bounds-stores_for-end
+slice_bounds-stores_for-end c = search rules
 
-stores-for-requires : tie.Need-stores-for-requires
-stores-for-requires c κs = search rules
+stores_for-requires : tie.Need-stores_for-requires
+stores_for-requires c κs = search rules
 
-returns-5 : tie.Need-returns-5
-returns-5 c = no_store _ _ _ _ _ (read c.before.before.before.before) c.before.before.before.if4.false _ c.before.stores-for.ensures c.if5.true
+returns-then-not-stores_for : tie.Need-returns-then-not-stores_for
+returns-then-not-stores_for c = no_store _ _ _ _ _ (read c.before.before.before.before) (ap not c.if-not-trailer_fits.false) _ c.stores_for.ensures (ap not c.if-not-stores_for.true)
 
-returns-6 : tie.Need-returns-6
-returns-6 c = long_label _ _ _ _ _ (read c.before.before.before.before.before) c.before.before.before.before.if4.false _ c.before.before.stores-for.ensures c.before.if5.false c.if6.true
+returns-then-start : tie.Need-returns-then-start
+returns-then-start c = long_label _ _ _ _ _ (read c.before.before.before.before.before) (ap not c.if-not-trailer_fits.false) _ c.stores_for.ensures (ap not c.if-not-stores_for.false) c.if-start.true
 
-add-if7 : tie.Need-overflow-add-if7
-add-if7 c =
+overflow_add-count : tie.Need-overflow_add-count
+overflow_add-count c =
     let r = read c.before.before.before.before.before in
-    let y = c.before.before.before.before.if4.false in
+    let y = (ap not c.if-not-trailer_fits.false) in
     record { fits = omega (arith, words_size _ _ _ _ _ r y, tail_bytes _ _ _ _ _ r y, shorter _ _ _ _ _ r y) }
 
-returns-7 : tie.Need-returns-7
-returns-7 c = no_room _ _ _ _ _ (read c.before.before.before.before.before.before) c.before.before.before.before.before.if4.false _ c.before.before.before.stores-for.ensures c.before.before.if5.false c.before.if6.false c.if7.true
+returns-then-words-count : tie.Need-returns-then-words-count
+returns-then-words-count c = no_room _ _ _ _ _ (read c.before.before.before.before.before.before) (ap not c.if-not-trailer_fits.false) _ c.stores_for.ensures (ap not c.if-not-stores_for.false) c.if-start.false c.if-words-count.true
 
-sub-fill : tie.Need-overflow-sub-fill
-sub-fill c = inside _ _ _ _ _ (read c.before.before.before.before.before.before.before) c.before.before.before.before.before.before.if4.false
+slice_bounds-fill-count : tie.Need-slice_bounds-fill-count
+slice_bounds-fill-count c = inside _ _ _ _ _ (read c.before.before.before.before.before.before.before) (ap not c.if-not-trailer_fits.false)
 
-part-fill-start : tie.Need-slice-bounds-fill-start
-part-fill-start c = inside _ _ _ _ _ (read c.before.before.before.before.before.before.before) c.before.before.before.before.before.before.if4.false
+slice_bounds-fill-start : tie.Need-slice_bounds-fill-start
+slice_bounds-fill-start c = inside _ _ _ _ _ (read c.before.before.before.before.before.before.before) (ap not c.if-not-trailer_fits.false)
 
-part-fill-end : tie.Need-slice-bounds-fill-end
-part-fill-end c = search rules
+slice_bounds-fill-end : tie.Need-slice_bounds-fill-end
+slice_bounds-fill-end c = search rules
 
 fill-requires : tie.Need-fill-requires
-fill-requires c κs = (omega (arith, words_size _ _ _ _ _ (read c.before.before.before.before.before.before.before.before) c.before.before.before.before.before.before.before.if4.false, c.before.before.if7.false), c.before.before.before.before.before.before.before.before.before.before.before.before.if2.false)
+fill-requires c κs = (omega (arith, words_size _ _ _ _ _ (read c.before.before.before.before.before.before.before.before) (ap not c.if-not-trailer_fits.false), c.if-words-count.false), c.if-words-gt-LONGEST.false)
 
-same_length : tie.Need-same-length
-same_length c = search rules
+shape_of-words : tie.Need-shape_of-words
+shape_of-words c = search rules
 
-returns-8 : tie.Need-returns-8
-returns-8 c = loaded _ _ _ _ _ (read c.before.before.before.before.before.before.before.before.before.before.before) c.before.before.before.before.before.before.before.before.before.before.if4.false _ c.before.before.before.before.before.before.before.before.stores-for.ensures c.before.before.before.before.before.before.before.if5.false c.before.before.before.before.before.before.if6.false c.before.before.before.before.before.if7.false _ c.before.before.fill.ensures
+returns : tie.Need-returns
+returns c = loaded _ _ _ _ _ (read c.before.before.before.before.before.before.before.before.before.before.before) (ap not c.if-not-trailer_fits.false) _ c.stores_for.ensures (ap not c.if-not-stores_for.false) c.if-start.false c.if-words-count.false _ c.fill.ensures
 
 pub load_spec : {M : Type 1} → statement M
 load_spec =
     tie.close
     (tie.spec
-    returns
-    returns-2
-    returns-3
-    eight-requires
-    sub-eight
-    eight-requires-2
-    trailer-fits-requires
-    returns-4
-    sub-stores-for
-    sub-stores-for-2
-    part-stores-for-start
-    part-stores-for-end
-    stores-for-requires
-    returns-5
-    returns-6
-    add-if7
-    returns-7
-    sub-fill
-    part-fill-start
-    part-fill-end
+    returns-then-words-lt-FRESH_LENGTH
+    returns-then-words-gt-LONGEST
+    returns-then-n-lt-TRAILER
+    eight-start-requires
+    overflow_sub-n
+    eight-count-requires
+    trailer_fits-requires
+    returns-then-not-trailer_fits
+    overflow_sub-end-2
+    slice_bounds-stores_for-count
+    slice_bounds-stores_for-start
+    slice_bounds-stores_for-end
+    stores_for-requires
+    returns-then-not-stores_for
+    returns-then-start
+    overflow_add-count
+    returns-then-words-count
+    slice_bounds-fill-count
+    slice_bounds-fill-start
+    slice_bounds-fill-end
     fill-requires
-    same_length
-    returns-8)
+    shape_of-words
+    returns)

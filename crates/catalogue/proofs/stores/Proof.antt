@@ -1,5 +1,6 @@
 -- `catalogue::stores` meets its contract.
-use mathlib.Core.Path.{refl}
+use mathlib.Core.Bool.{not}
+use mathlib.Core.Path.{ap, refl}
 use native.Mathlib.Omega.{arith}
 use Rattle.wellformed.specs.Fresh.{fresh_words}
 use Rattle.wellformed.proofs.Tail.{tail_length}
@@ -8,62 +9,54 @@ use borrow.Author.Rules.{rules}
 use Rattle.catalogue.proofs.stores.Statement.{statement}
 use Rattle.catalogue.proofs.stores.Tie as tie
 
-verify-tail-requires : tie.Need-verify-tail-requires
-verify-tail-requires c κs = search rules
+verify_tail-requires : tie.Need-verify_tail-requires
+verify_tail-requires c κs = search rules
 
-same_length : tie.Need-same-length
-same_length c = search rules
+shape_of-bits-then-not-verify_tail : tie.Need-shape_of-bits-then-not-verify_tail
+shape_of-bits-then-not-verify_tail c = search rules
 
-returns : tie.Need-returns
-returns c = not_formed c.before.before.before.before.before.before.before.args.tail.now _ _ c.before.before.before.verify-tail.ensures c.if1.true
+returns-then-not-verify_tail : tie.Need-returns-then-not-verify_tail
+returns-then-not-verify_tail c = not_formed c.args.tail.now _ _ c.verify_tail.ensures (ap not c.if-not-verify_tail.true)
 
-add-used : tie.Need-overflow-add-used
-add-used c = search rules
+overflow_add-used : tie.Need-overflow_add-used
+overflow_add-used c = search rules
 
-slice-aggregate-headed : tie.Need-slice-aggregate-headed
-slice-aggregate-headed c = search rules
-
-slice-aggregate-headed-2 : tie.Need-slice-aggregate-headed-2
-slice-aggregate-headed-2 c = search rules
+slice_bounds-headed-end : tie.Need-slice_bounds-headed-end
+slice_bounds-headed-end c = search rules
 
 headed-requires : tie.Need-headed-requires
 headed-requires c κs = search rules
 
-slice-aggregate-distinct : tie.Need-slice-aggregate-distinct
-slice-aggregate-distinct c = search rules
+slice_bounds-distinct-end : tie.Need-slice_bounds-distinct-end
+slice_bounds-distinct-end c = search rules
 
 distinct-requires : tie.Need-distinct-requires
 unfolding fresh_words
 distinct-requires c κs =
-    let h = c.before.before.before in
-    let v = c.before.before.before.before.before.before.before.before.before in
-    let s = c.before.before.before.before.before.before.before.before.before.before.before.before.before in
-    let y = c.before.before.before.before.before.before.if1.false in (
-      a_store s.args.tail.now _ _ v.verify-tail.ensures y h.headed.new.0 _ h.headed.ensures refl,
-      (few s.args.tail.now _ _ v.verify-tail.ensures y, omega (arith, s.requires.0, tail_length s.args.tail.now, v.verify-tail.auto.1.0), omega (arith, s.requires.1, v.verify-tail.auto.1.0)),
+    let y = (ap not c.if-not-verify_tail.false) in (
+      a_store c.args.tail.now _ _ c.verify_tail.ensures y c.headed.new.dst _ c.headed.ensures refl,
+      (few c.args.tail.now _ _ c.verify_tail.ensures y, omega (arith, c.requires.0, tail_length c.args.tail.now, c.verify_tail.auto.bits), omega (arith, c.requires.1, c.verify_tail.auto.bits)),
     )
 
-same-length-2 : tie.Need-same-length-2
-same-length-2 c = search rules
+shape_of-bits : tie.Need-shape_of-bits
+shape_of-bits c = search rules
 
-returns-2 : tie.Need-returns-2
+returns : tie.Need-returns
 unfolding fresh_words
-returns-2 c =
-    let h = c.before.before.before.before.before.before in
-    told c.before.before.before.before.before.before.before.before.before.before.before.before.before.before.before.before.args.tail.now _ _ c.before.before.before.before.before.before.before.before.before.before.before.before.verify-tail.ensures c.before.before.before.before.before.before.before.before.before.if1.false h.headed.new.0 _ h.headed.ensures refl _ c.before.before.distinct.ensures
+returns c =
+    told c.args.tail.now _ _ c.verify_tail.ensures (ap not c.if-not-verify_tail.false) c.headed.new.dst _ c.headed.ensures refl _ c.distinct.ensures
 
-pub stores-spec : {M : Type 1} → statement M
-stores-spec =
+pub stores_spec : {M : Type 1} → statement M
+stores_spec =
     tie.close
     (tie.spec
-    verify-tail-requires
-    same_length
-    returns
-    add-used
-    slice-aggregate-headed
-    slice-aggregate-headed-2
+    verify_tail-requires
+    shape_of-bits-then-not-verify_tail
+    returns-then-not-verify_tail
+    overflow_add-used
+    slice_bounds-headed-end
     headed-requires
-    slice-aggregate-distinct
+    slice_bounds-distinct-end
     distinct-requires
-    same-length-2
-    returns-2)
+    shape_of-bits
+    returns)

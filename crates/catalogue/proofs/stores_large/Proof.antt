@@ -5,14 +5,14 @@ use borrow.Author.Rules.{rules}
 use Rattle.catalogue.proofs.stores_large.Statement.{statement}
 use Rattle.catalogue.proofs.stores_large.Tie as tie
 
-slice-aggregate-stores : tie.Need-slice-aggregate-stores
-slice-aggregate-stores c = search rules
+slice_bounds-stores-end : tie.Need-slice_bounds-stores-end
+slice_bounds-stores-end c = search rules
 
 stores-requires : tie.Need-stores-requires
-stores-requires c κs = (omega (arith, tail_length c.before.before.args.tail.now), omega arith)
+stores-requires c κs = (omega (arith, tail_length c.args.tail.now), omega arith)
 
 returns : tie.Need-returns
-returns c = c.before.stores.ensures
+returns c = c.stores.ensures
 
-pub stores-large-spec : {M : Type 1} → statement M
-stores-large-spec = tie.close (tie.spec slice-aggregate-stores stores-requires returns)
+pub stores_large_spec : {M : Type 1} → statement M
+stores_large_spec = tie.close (tie.spec slice_bounds-stores-end stores-requires returns)
