@@ -158,7 +158,7 @@ def convert(path, d, crate, function, said):
         out.append(block(text[a:b], it, labels, own, function, path, said, helpers))
     result = "".join(out)
     result = goals(result, aliases, said, path, function)
-    result = negated(result)
+    result = negated(result).replace(".type-inv", ".type_inv")
     result = re.sub(r"(?m)^(use \S+ as )(\S+)$", lambda m: m.group(1) + (m.group(2).replace("-", "_") if m.group(2) in aliases else m.group(2)), result)
     with open(path, "w", encoding="utf-8") as f:
         f.write(result)

@@ -15,7 +15,7 @@ size-n-requires : tie.Need-size-n-requires
 size-n-requires c κs = search rules
 
 same_words-requires : tie.Need-same_words-requires
-same_words-requires c κs = (search rules, (omega (arith, size_small c.word.result (omega (arith, c.word.type-inv)), c.size-n.ensures), search rules, search rules))
+same_words-requires c κs = (search rules, (omega (arith, size_small c.word.result (omega (arith, c.word.type_inv)), c.size-n.ensures), search rules, search rules))
 
 returns : tie.Need-returns
 returns c = search name_words_is
