@@ -9,118 +9,112 @@ use borrow.Author.Rules.{rules}
 use Rattle.structs.proofs.fields_with.Statement.{statement}
 use Rattle.structs.proofs.fields_with.Tie as tie
 
-abbrev invariant-loop : tie.invariant-loop
-invariant-loop dst₀ old new used p types finals n i₀ dst i =
+abbrev invariant-loop-i : tie.invariant-loop-i
+invariant-loop-i dst₀ old new used p types finals n i₀ dst i =
     (i ≤ n) × (length dst ≡ length dst₀)
     × (take (4 * i) dst ++ fields_left (take used (old ++ new)) p types finals i ≡ fields_with (take used (old ++ new)) p types finals)
     × (drop (4 * i) dst ≡ drop (4 * i) dst₀)
 
-abbrev decreases-loop : tie.decreases-loop
-decreases-loop dst₀ old new used p types finals n i₀ dst i = n - i
+abbrev decreases-loop-i : tie.decreases-loop-i
+decreases-loop-i dst₀ old new used p types finals n i₀ dst i = n - i
 
-loop-holds : tie.Need-loop-init invariant-loop decreases-loop
-loop-holds c = (search rules, refl, fill_begin _ _ _ _, refl)
+loop-i-init : tie.Need-loop-i-init invariant-loop-i decreases-loop-i
+loop-i-init c = (search rules, refl, fill_begin _ _ _ _, refl)
 
-mul_at : tie.Need-overflow-mul-at invariant-loop decreases-loop
-mul_at c = search rules
+overflow_mul-at : tie.Need-overflow_mul-at invariant-loop-i decreases-loop-i
+overflow_mul-at c = search rules
 
-add_at : tie.Need-overflow-add-at invariant-loop decreases-loop
-add_at c = search rules
+overflow_add-at : tie.Need-overflow_add-at invariant-loop-i decreases-loop-i
+overflow_add-at c = search rules
 
-word-requires : tie.Need-word-requires invariant-loop decreases-loop
-word-requires c κs = search rules
+word-name-requires : tie.Need-word-name-requires invariant-loop-i decreases-loop-i
+word-name-requires c κs = search rules
 
-add-word : tie.Need-overflow-add-word invariant-loop decreases-loop
-add-word c = search rules
+overflow_add-at-in-loop-i : tie.Need-overflow_add-at-in-loop-i invariant-loop-i decreases-loop-i
+overflow_add-at-in-loop-i c = search rules
 
-word-requires-2 : tie.Need-word-requires-2 invariant-loop decreases-loop
-word-requires-2 c κs = search rules
+word-alias-requires : tie.Need-word-alias-requires invariant-loop-i decreases-loop-i
+word-alias-requires c κs = search rules
 
-mul-write : tie.Need-overflow-mul-write invariant-loop decreases-loop
-mul-write c = search rules
+overflow_mul-i : tie.Need-overflow_mul-i invariant-loop-i decreases-loop-i
+overflow_mul-i c = search rules
 
-mul-write-2 : tie.Need-overflow-mul-write-2 invariant-loop decreases-loop
-mul-write-2 c = search rules
+offset_bounds-dst-i : tie.Need-offset_bounds-dst-i invariant-loop-i decreases-loop-i
+offset_bounds-dst-i c = search rules
 
-sub-write : tie.Need-overflow-sub-write invariant-loop decreases-loop
-sub-write c = search rules
+slice_bounds-write-count : tie.Need-slice_bounds-write-count invariant-loop-i decreases-loop-i
+slice_bounds-write-count c = search rules
 
-part-write-start : tie.Need-slice-bounds-write-start invariant-loop decreases-loop
-part-write-start c = search rules
+slice_bounds-write-start : tie.Need-slice_bounds-write-start invariant-loop-i decreases-loop-i
+slice_bounds-write-start c = search rules
 
-part-write-end : tie.Need-slice-bounds-write-end invariant-loop decreases-loop
-part-write-end c = search rules
+slice_bounds-write-end : tie.Need-slice_bounds-write-end invariant-loop-i decreases-loop-i
+slice_bounds-write-end c = search rules
 
-mul_wide : tie.Need-overflow-mul-wide invariant-loop decreases-loop
-mul_wide c = search rules
+offset_bounds-types-i : tie.Need-offset_bounds-types-i invariant-loop-i decreases-loop-i
+offset_bounds-types-i c = search rules
 
-shared-slice-read-wide : tie.Need-shared-slice-read-wide invariant-loop decreases-loop
-shared-slice-read-wide c = search rules
+bounds-types-i : tie.Need-bounds-types-i invariant-loop-i decreases-loop-i
+bounds-types-i c = search rules
 
-wide-requires : tie.Need-wide-requires invariant-loop decreases-loop
+wide-requires : tie.Need-wide-requires invariant-loop-i decreases-loop-i
 wide-requires c κs = search rules
 
-shared-slice-read-flag : tie.Need-shared-slice-read-flag invariant-loop decreases-loop
-shared-slice-read-flag c = search rules
+bounds-finals-i : tie.Need-bounds-finals-i invariant-loop-i decreases-loop-i
+bounds-finals-i c = search rules
 
-flag-requires : tie.Need-flag-requires invariant-loop decreases-loop
+flag-requires : tie.Need-flag-requires invariant-loop-i decreases-loop-i
 flag-requires c κs = search rules
 
-slice-aggregate-write : tie.Need-slice-aggregate-write invariant-loop decreases-loop
-slice-aggregate-write c = search rules
+slice_bounds-write-end-in-loop-i : tie.Need-slice_bounds-write-end-in-loop-i invariant-loop-i decreases-loop-i
+slice_bounds-write-end-in-loop-i c = search rules
 
-write-requires : tie.Need-write-requires invariant-loop decreases-loop
+write-requires : tie.Need-write-requires invariant-loop-i decreases-loop-i
 write-requires c κs = search rules
 
-add-i : tie.Need-overflow-add-i invariant-loop decreases-loop
-add-i c = search rules
+overflow_add-i : tie.Need-overflow_add-i invariant-loop-i decreases-loop-i
+overflow_add-i c = search rules
 
-loop-less : tie.Need-loop-smaller invariant-loop decreases-loop
-loop-less c = search rules
+loop-i-smaller : tie.Need-loop-i-smaller invariant-loop-i decreases-loop-i
+loop-i-smaller c = search rules
 
-loop-again : tie.Need-loop-preserved invariant-loop decreases-loop
-loop-again c =
-    let w = c.before.before in
-    let g = w.before.before in
-    let t = g.before.before in
-    let v = t.before.before.before in
-    let l = v.before.before.before in
-    let s = l.before.before.before.before.before.before in
-    let f = fill_on _ _ _ _ _ _ _ l.loop.invariant.2 l.loop.invariant.3 s.requires.1.1 s.requires.1.2 l.loop.invariant.1 v.before.before.loop-test.true _ _ _ _ v.before.word.ensures v.word2.ensures t.wide.ensures g.flag.ensures _ w.write.ensures in
+loop-i-preserved : tie.Need-loop-i-preserved invariant-loop-i decreases-loop-i
+loop-i-preserved c =
+    let f = fill_on _ _ _ _ _ _ _ c.loop-i.invariant.2 c.loop-i.invariant.3 c.requires.1.1 c.requires.1.2 c.loop-i.invariant.1 c.loop-i-test.true _ _ _ _ c.word-name.ensures c.word-alias.ensures c.wide.ensures c.flag.ensures _ c.write.ensures in
     (search rules, search rules, f.0, f.1)
 
-same_length : tie.Need-same-length invariant-loop decreases-loop
-same_length c = search rules
+shape_of-dst : tie.Need-shape_of-dst invariant-loop-i decreases-loop-i
+shape_of-dst c = search rules
 
-returns : tie.Need-returns invariant-loop decreases-loop
+returns : tie.Need-returns invariant-loop-i decreases-loop-i
 returns c = search fill_end
 
-pub fields-with-spec : {M : Type 1} → statement M
-fields-with-spec =
+pub fields_with_spec : {M : Type 1} → statement M
+fields_with_spec =
     tie.close
     (tie.spec
-    invariant-loop
-    decreases-loop
-    loop-holds
-    mul_at
-    add_at
-    word-requires
-    add-word
-    word-requires-2
-    mul-write
-    mul-write-2
-    sub-write
-    part-write-start
-    part-write-end
-    mul_wide
-    shared-slice-read-wide
+    invariant-loop-i
+    decreases-loop-i
+    loop-i-init
+    overflow_mul-at
+    overflow_add-at
+    word-name-requires
+    overflow_add-at-in-loop-i
+    word-alias-requires
+    overflow_mul-i
+    offset_bounds-dst-i
+    slice_bounds-write-count
+    slice_bounds-write-start
+    slice_bounds-write-end
+    offset_bounds-types-i
+    bounds-types-i
     wide-requires
-    shared-slice-read-flag
+    bounds-finals-i
     flag-requires
-    slice-aggregate-write
+    slice_bounds-write-end-in-loop-i
     write-requires
-    add-i
-    loop-less
-    loop-again
-    same_length
+    overflow_add-i
+    loop-i-smaller
+    loop-i-preserved
+    shape_of-dst
     returns)

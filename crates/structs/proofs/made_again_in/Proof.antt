@@ -4,51 +4,51 @@ use borrow.Author.Rules.{rules}
 use Rattle.structs.proofs.made_again_in.Statement.{statement}
 use Rattle.structs.proofs.made_again_in.Tie as tie
 
-add-fields-with : tie.Need-overflow-add-fields-with
-add-fields-with c = search rules
+overflow_add-a : tie.Need-overflow_add-a
+overflow_add-a c = search rules
 
-fields-with-requires : tie.Need-fields-with-requires
-fields-with-requires c κs = search rules
+fields_with-requires : tie.Need-fields_with-requires
+fields_with-requires c κs = search rules
 
-add-word : tie.Need-overflow-add-word
-add-word c = search rules
+overflow_add-a-2 : tie.Need-overflow_add-a-2
+overflow_add-a-2 c = search rules
 
-word-requires : tie.Need-word-requires
-word-requires c κs = search rules
+word-name-requires : tie.Need-word-name-requires
+word-name-requires c κs = search rules
 
-mul-structure : tie.Need-overflow-mul-structure
-mul-structure c = search rules
+overflow_mul-n : tie.Need-overflow_mul-n
+overflow_mul-n c = search rules
 
-slice-reshare-prefix-structure : tie.Need-slice-reshare-prefix-structure
-slice-reshare-prefix-structure c = search rules
+slice_bounds-structure-end : tie.Need-slice_bounds-structure-end
+slice_bounds-structure-end c = search rules
 
-slice-aggregate-structure : tie.Need-slice-aggregate-structure
-slice-aggregate-structure c = search fields_many
+slice_bounds-structure-end-2 : tie.Need-slice_bounds-structure-end-2
+slice_bounds-structure-end-2 c = search fields_many
 
 structure-requires : tie.Need-structure-requires
 structure-requires c κs = (search rules, ((search fields_few, search fields_fit), search rules))
 
-same_length : tie.Need-same-length
-same_length c = search rules
+shape_of-new : tie.Need-shape_of-new
+shape_of-new c = search rules
 
-same-length-2 : tie.Need-same-length-2
-same-length-2 c = search rules
+shape_of-fields : tie.Need-shape_of-fields
+shape_of-fields c = search rules
 
 returns : tie.Need-returns
 returns c = search again_made
 
-pub made-again-in-spec : {M : Type 1} → statement M
-made-again-in-spec =
+pub made_again_in_spec : {M : Type 1} → statement M
+made_again_in_spec =
     tie.close
     (tie.spec
-    add-fields-with
-    fields-with-requires
-    add-word
-    word-requires
-    mul-structure
-    slice-reshare-prefix-structure
-    slice-aggregate-structure
+    overflow_add-a
+    fields_with-requires
+    overflow_add-a-2
+    word-name-requires
+    overflow_mul-n
+    slice_bounds-structure-end
+    slice_bounds-structure-end-2
     structure-requires
-    same_length
-    same-length-2
+    shape_of-new
+    shape_of-fields
     returns)

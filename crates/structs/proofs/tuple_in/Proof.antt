@@ -7,32 +7,32 @@ use Rattle.structs.proofs.tuple_in.Tie as tie
 widened-requires : tie.Need-widened-requires
 widened-requires c κs = search rules
 
-slice-reshare-prefix-tuple : tie.Need-slice-reshare-prefix-tuple
-slice-reshare-prefix-tuple c = search rules
+slice_bounds-tuple-end : tie.Need-slice_bounds-tuple-end
+slice_bounds-tuple-end c = search rules
 
-slice-aggregate-tuple : tie.Need-slice-aggregate-tuple
-slice-aggregate-tuple c = search widened_many
+slice_bounds-tuple-end-2 : tie.Need-slice_bounds-tuple-end-2
+slice_bounds-tuple-end-2 c = search widened_many
 
 tuple-requires : tie.Need-tuple-requires
 tuple-requires c κs = (search rules, (search widened_few, search rules))
 
-same_length : tie.Need-same-length
-same_length c = search rules
+shape_of-new : tie.Need-shape_of-new
+shape_of-new c = search rules
 
-same-length-2 : tie.Need-same-length-2
-same-length-2 c = search rules
+shape_of-handles : tie.Need-shape_of-handles
+shape_of-handles c = search rules
 
 returns : tie.Need-returns
 returns c = search tuple_made
 
-pub tuple-in-spec : {M : Type 1} → statement M
-tuple-in-spec =
+pub tuple_in_spec : {M : Type 1} → statement M
+tuple_in_spec =
     tie.close
     (tie.spec
     widened-requires
-    slice-reshare-prefix-tuple
-    slice-aggregate-tuple
+    slice_bounds-tuple-end
+    slice_bounds-tuple-end-2
     tuple-requires
-    same_length
-    same-length-2
+    shape_of-new
+    shape_of-handles
     returns)

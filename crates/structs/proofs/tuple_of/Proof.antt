@@ -4,39 +4,39 @@ use borrow.Author.Rules.{rules}
 use Rattle.structs.proofs.tuple_of.Statement.{statement}
 use Rattle.structs.proofs.tuple_of.Tie as tie
 
-slice-aggregate-tuple-in : tie.Need-slice-aggregate-tuple-in
-slice-aggregate-tuple-in c = search rules
+slice_bounds-tuple_in-end : tie.Need-slice_bounds-tuple_in-end
+slice_bounds-tuple_in-end c = search rules
 
-tuple-in-requires : tie.Need-tuple-in-requires
-tuple-in-requires c κs = (search rules, ((search rules, omega (arith, c.before.before.if1.true)), search rules))
+tuple_in-requires : tie.Need-tuple_in-requires
+tuple_in-requires c κs = (search rules, ((search rules, omega (arith, c.if-types-le-FEW_ELEMENTS.true)), search rules))
 
-same_length : tie.Need-same-length
-same_length c = search rules
+shape_of-new-then-types-le-FEW_ELEMENTS : tie.Need-shape_of-new-then-types-le-FEW_ELEMENTS
+shape_of-new-then-types-le-FEW_ELEMENTS c = search rules
+
+returns-then-types-le-FEW_ELEMENTS : tie.Need-returns-then-types-le-FEW_ELEMENTS
+returns-then-types-le-FEW_ELEMENTS c = search rules
+
+slice_bounds-tuple_in-end-2 : tie.Need-slice_bounds-tuple_in-end-2
+slice_bounds-tuple_in-end-2 c = search rules
+
+tuple_in-requires-2 : tie.Need-tuple_in-requires-2
+tuple_in-requires-2 c κs = (search rules, ((search rules, omega (arith, c.requires.1.0)), search rules))
+
+shape_of-new : tie.Need-shape_of-new
+shape_of-new c = search rules
 
 returns : tie.Need-returns
 returns c = search rules
 
-slice-aggregate-tuple-in-2 : tie.Need-slice-aggregate-tuple-in-2
-slice-aggregate-tuple-in-2 c = search rules
-
-tuple-in-requires-2 : tie.Need-tuple-in-requires-2
-tuple-in-requires-2 c κs = (search rules, ((search rules, omega (arith, c.before.before.before.before.before.before.before.requires.1.0)), search rules))
-
-same-length-2 : tie.Need-same-length-2
-same-length-2 c = search rules
-
-returns-2 : tie.Need-returns-2
-returns-2 c = search rules
-
-pub tuple-of-spec : {M : Type 1} → statement M
-tuple-of-spec =
+pub tuple_of_spec : {M : Type 1} → statement M
+tuple_of_spec =
     tie.close
     (tie.spec
-    slice-aggregate-tuple-in
-    tuple-in-requires
-    same_length
-    returns
-    slice-aggregate-tuple-in-2
-    tuple-in-requires-2
-    same-length-2
-    returns-2)
+    slice_bounds-tuple_in-end
+    tuple_in-requires
+    shape_of-new-then-types-le-FEW_ELEMENTS
+    returns-then-types-le-FEW_ELEMENTS
+    slice_bounds-tuple_in-end-2
+    tuple_in-requires-2
+    shape_of-new
+    returns)

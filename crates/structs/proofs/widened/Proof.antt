@@ -8,64 +8,61 @@ use borrow.Author.Rules.{rules}
 use Rattle.structs.proofs.widened.Statement.{statement}
 use Rattle.structs.proofs.widened.Tie as tie
 
-abbrev invariant-loop : tie.invariant-loop
-invariant-loop dst₀ types n i₀ dst i = (i ≤ n) × (length dst ≡ length dst₀) × (take i dst ++ drop i types ≡ types) × (drop i dst ≡ drop i dst₀)
+abbrev invariant-loop-i : tie.invariant-loop-i
+invariant-loop-i dst₀ types n i₀ dst i = (i ≤ n) × (length dst ≡ length dst₀) × (take i dst ++ drop i types ≡ types) × (drop i dst ≡ drop i dst₀)
 
-abbrev decreases-loop : tie.decreases-loop
-decreases-loop dst₀ types n i₀ dst i = n - i
+abbrev decreases-loop-i : tie.decreases-loop-i
+decreases-loop-i dst₀ types n i₀ dst i = n - i
 
-loop-holds : tie.Need-loop-init invariant-loop decreases-loop
-loop-holds c = (search rules, refl, refl, refl)
+loop-i-init : tie.Need-loop-i-init invariant-loop-i decreases-loop-i
+loop-i-init c = (search rules, refl, refl, refl)
 
-mul_wide : tie.Need-overflow-mul-wide invariant-loop decreases-loop
-mul_wide c = search rules
+offset_bounds-types-i : tie.Need-offset_bounds-types-i invariant-loop-i decreases-loop-i
+offset_bounds-types-i c = search rules
 
-shared-slice-read-wide : tie.Need-shared-slice-read-wide invariant-loop decreases-loop
-shared-slice-read-wide c = search rules
+bounds-types-i : tie.Need-bounds-types-i invariant-loop-i decreases-loop-i
+bounds-types-i c = search rules
 
-wide-requires : tie.Need-wide-requires invariant-loop decreases-loop
+wide-requires : tie.Need-wide-requires invariant-loop-i decreases-loop-i
 wide-requires c κs = search rules
 
-mul-dst : tie.Need-overflow-mul-dst invariant-loop decreases-loop
-mul-dst c = search rules
+offset_bounds-dst-i : tie.Need-offset_bounds-dst-i invariant-loop-i decreases-loop-i
+offset_bounds-dst-i c = search rules
 
-slice-write-dst : tie.Need-slice-write-dst invariant-loop decreases-loop
-slice-write-dst c = search rules
+bounds-dst-i : tie.Need-bounds-dst-i invariant-loop-i decreases-loop-i
+bounds-dst-i c = search rules
 
-add-i : tie.Need-overflow-add-i invariant-loop decreases-loop
-add-i c = search rules
+overflow_add-i : tie.Need-overflow_add-i invariant-loop-i decreases-loop-i
+overflow_add-i c = search rules
 
-loop-less : tie.Need-loop-smaller invariant-loop decreases-loop
-loop-less c = search rules
+loop-i-smaller : tie.Need-loop-i-smaller invariant-loop-i decreases-loop-i
+loop-i-smaller c = search rules
 
-loop-again : tie.Need-loop-preserved invariant-loop decreases-loop
-loop-again c =
-    let t = c.before.before in
-    let l = t.before in
-    let s = l.before.before.before in
-    let w = widen_on _ _ _ _ l.loop.invariant.2 l.loop.invariant.3 s.requires l.loop.invariant.1 t.loop-test.true _ c.wide.ensures in
+loop-i-preserved : tie.Need-loop-i-preserved invariant-loop-i decreases-loop-i
+loop-i-preserved c =
+    let w = widen_on _ _ _ _ c.loop-i.invariant.2 c.loop-i.invariant.3 c.requires c.loop-i.invariant.1 c.loop-i-test.true _ c.wide.ensures in
     (search rules, search rules, w.0, w.1)
 
-same_length : tie.Need-same-length invariant-loop decreases-loop
-same_length c = search rules
+shape_of-dst : tie.Need-shape_of-dst invariant-loop-i decreases-loop-i
+shape_of-dst c = search rules
 
-returns : tie.Need-returns invariant-loop decreases-loop
+returns : tie.Need-returns invariant-loop-i decreases-loop-i
 returns c = search widen_end
 
-pub widened-spec : {M : Type 1} → statement M
-widened-spec =
+pub widened_spec : {M : Type 1} → statement M
+widened_spec =
     tie.close
     (tie.spec
-    invariant-loop
-    decreases-loop
-    loop-holds
-    mul_wide
-    shared-slice-read-wide
+    invariant-loop-i
+    decreases-loop-i
+    loop-i-init
+    offset_bounds-types-i
+    bounds-types-i
     wide-requires
-    mul-dst
-    slice-write-dst
-    add-i
-    loop-less
-    loop-again
-    same_length
+    offset_bounds-dst-i
+    bounds-dst-i
+    overflow_add-i
+    loop-i-smaller
+    loop-i-preserved
+    shape_of-dst
     returns)
