@@ -4,29 +4,29 @@ use borrow.Author.Rules.{rules}
 use Rattle.meet_answers.proofs.meet_int.Statement.{statement}
 use Rattle.meet_answers.proofs.meet_int.Tie as tie
 
-add-word : tie.Need-overflow-add-word
-add-word c = search rules
+overflow_add-a : tie.Need-overflow_add-a
+overflow_add-a c = search rules
 
 word-requires : tie.Need-word-requires
 word-requires c κs = search rules
 
-add-word-2 : tie.Need-overflow-add-word-2
-add-word-2 c = search rules
+overflow_add-b : tie.Need-overflow_add-b
+overflow_add-b c = search rules
 
 word-requires-2 : tie.Need-word-requires-2
 word-requires-2 c κs = search rules
 
-smaller-of-requires : tie.Need-smaller-of-requires
-smaller-of-requires c κs = search rules
+smaller_of-min-requires : tie.Need-smaller_of-min-requires
+smaller_of-min-requires c κs = search rules
 
-add-word-3 : tie.Need-overflow-add-word-3
-add-word-3 c = search rules
+overflow_add-a-2 : tie.Need-overflow_add-a-2
+overflow_add-a-2 c = search rules
 
 word-requires-3 : tie.Need-word-requires-3
 word-requires-3 c κs = search rules
 
-add-word-4 : tie.Need-overflow-add-word-4
-add-word-4 c = search rules
+overflow_add-b-2 : tie.Need-overflow_add-b-2
+overflow_add-b-2 c = search rules
 
 word-requires-4 : tie.Need-word-requires-4
 word-requires-4 c κs = search rules
@@ -34,26 +34,30 @@ word-requires-4 c κs = search rules
 int-requires : tie.Need-int-requires
 int-requires c κs = search rules
 
-same_length : tie.Need-same-length
-same_length c = search rules
+shape_of-new : tie.Need-shape_of-new
+shape_of-new c = search rules
 
 returns : tie.Need-returns
 returns c = search met_int
 
-pub meet-int-spec : {M : Type 1} → statement M
-meet-int-spec =
+larger_of-max-requires : tie.Need-larger_of-max-requires
+larger_of-max-requires c κs = search rules
+
+pub meet_int_spec : {M : Type 1} → statement M
+meet_int_spec =
     tie.close
     (tie.spec
-    add-word
+    overflow_add-a
     word-requires
-    add-word-2
+    overflow_add-b
     word-requires-2
-    smaller-of-requires
-    add-word-3
+    smaller_of-min-requires
+    overflow_add-a-2
     word-requires-3
-    add-word-4
+    overflow_add-b-2
     word-requires-4
+    larger_of-max-requires
     (λ c κs. search rules)
     int-requires
-    same_length
+    shape_of-new
     returns)
