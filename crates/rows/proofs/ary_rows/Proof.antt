@@ -4,91 +4,91 @@ use borrow.Author.Rules.{rules}
 use Rattle.rows.proofs.ary_rows.Statement.{statement}
 use Rattle.rows.proofs.ary_rows.Tie as tie
 
-slice-aggregate-all-start : tie.Need-slice-aggregate-all-start
-slice-aggregate-all-start c = search rules
+slice_bounds-all_start-end : tie.Need-slice_bounds-all_start-end
+slice_bounds-all_start-end c = search rules
 
-all-start-requires : tie.Need-all-start-requires
-all-start-requires c κs = search rules
+all_start-requires : tie.Need-all_start-requires
+all_start-requires c κs = search rules
 
-returns : tie.Need-returns
-returns c = search ary_2
+returns-then-not-all_start : tie.Need-returns-then-not-all_start
+returns-then-not-all_start c = search ary_2
 
-slice-aggregate-all-kinds : tie.Need-slice-aggregate-all-kinds
-slice-aggregate-all-kinds c = search rules
+slice_bounds-all_kinds-end : tie.Need-slice_bounds-all_kinds-end
+slice_bounds-all_kinds-end c = search rules
 
-slice-aggregate-all-kinds-2 : tie.Need-slice-aggregate-all-kinds-2
-slice-aggregate-all-kinds-2 c = search rules
+slice_bounds-all_kinds-end-2 : tie.Need-slice_bounds-all_kinds-end-2
+slice_bounds-all_kinds-end-2 c = search rules
 
-all-kinds-requires : tie.Need-all-kinds-requires
-all-kinds-requires c κs = search rules
+all_kinds-requires : tie.Need-all_kinds-requires
+all_kinds-requires c κs = search rules
 
-returns-2 : tie.Need-returns-2
-returns-2 c = search ary_3_length
+returns-then-not-all_kinds : tie.Need-returns-then-not-all_kinds
+returns-then-not-all_kinds c = search ary_3_length
 
-slice-aggregate-all-kinds-3 : tie.Need-slice-aggregate-all-kinds-3
-slice-aggregate-all-kinds-3 c = search rules
+slice_bounds-all_kinds-end-3 : tie.Need-slice_bounds-all_kinds-end-3
+slice_bounds-all_kinds-end-3 c = search rules
 
-slice-aggregate-all-kinds-4 : tie.Need-slice-aggregate-all-kinds-4
-slice-aggregate-all-kinds-4 c = search rules
+slice_bounds-all_kinds-end-4 : tie.Need-slice_bounds-all_kinds-end-4
+slice_bounds-all_kinds-end-4 c = search rules
 
-all-kinds-requires-2 : tie.Need-all-kinds-requires-2
-all-kinds-requires-2 c κs = search rules
+all_kinds-requires-2 : tie.Need-all_kinds-requires-2
+all_kinds-requires-2 c κs = search rules
 
-returns-3 : tie.Need-returns-3
-returns-3 c = search ary_3_body
+returns-then-not-all_kinds-2 : tie.Need-returns-then-not-all_kinds-2
+returns-then-not-all_kinds-2 c = search ary_3_body
 
-returns-4 : tie.Need-returns-4
-returns-4 c = search ary_4_length
+returns-then-len_alias-gt-LARGEST_ALIAS : tie.Need-returns-then-len_alias-gt-LARGEST_ALIAS
+returns-then-len_alias-gt-LARGEST_ALIAS c = search ary_4_length
 
-returns-5 : tie.Need-returns-5
-returns-5 c = search ary_4_body
+returns-then-body_alias-gt-LARGEST_ALIAS : tie.Need-returns-then-body_alias-gt-LARGEST_ALIAS
+returns-then-body_alias-gt-LARGEST_ALIAS c = search ary_4_body
 
-returns-6 : tie.Need-returns-6
-returns-6 c = search ary_5
+returns-then-text-gt-LONGEST_TEXT : tie.Need-returns-then-text-gt-LONGEST_TEXT
+returns-then-text-gt-LONGEST_TEXT c = search ary_5
 
-slice-aggregate-deep : tie.Need-slice-aggregate-deep
-slice-aggregate-deep c = search rules
+slice_bounds-deep-end : tie.Need-slice_bounds-deep-end
+slice_bounds-deep-end c = search rules
 
-slice-aggregate-deep-2 : tie.Need-slice-aggregate-deep-2
-slice-aggregate-deep-2 c = search rules
+slice_bounds-deep-end-2 : tie.Need-slice_bounds-deep-end-2
+slice_bounds-deep-end-2 c = search rules
 
 deep-requires : tie.Need-deep-requires
 deep-requires c κs = search rules
 
-returns-7 : tie.Need-returns-7
-returns-7 c = search ary_6
+returns-then-deep-gt-DEEPEST_WITHIN : tie.Need-returns-then-deep-gt-DEEPEST_WITHIN
+returns-then-deep-gt-DEEPEST_WITHIN c = search ary_6
 
-never-nil-requires : tie.Need-never-nil-requires
-never-nil-requires c κs = search rules
+never_nil-requires : tie.Need-never_nil-requires
+never_nil-requires c κs = search rules
 
-returns-8 : tie.Need-returns-8
-returns-8 c = search ary_10
+returns-then-never_nil : tie.Need-returns-then-never_nil
+returns-then-never_nil c = search ary_10
 
-returns-9 : tie.Need-returns-9
-returns-9 c = search ary_0
+returns : tie.Need-returns
+returns c = search ary_0
 
-pub ary-rows-spec : {M : Type 1} → statement M
-ary-rows-spec =
+pub ary_rows_spec : {M : Type 1} → statement M
+ary_rows_spec =
     tie.close
     (tie.spec
-    slice-aggregate-all-start
-    all-start-requires
-    returns
-    slice-aggregate-all-kinds
-    slice-aggregate-all-kinds-2
-    all-kinds-requires
-    returns-2
-    slice-aggregate-all-kinds-3
-    slice-aggregate-all-kinds-4
-    all-kinds-requires-2
-    returns-3
-    returns-4
-    returns-5
-    returns-6
-    slice-aggregate-deep
-    slice-aggregate-deep-2
+    slice_bounds-all_start-end
+    all_start-requires
+    returns-then-not-all_start
+    slice_bounds-all_kinds-end
+    slice_bounds-all_kinds-end-2
+    all_kinds-requires
+    returns-then-not-all_kinds
+    slice_bounds-all_kinds-end-3
+    slice_bounds-all_kinds-end-4
+    all_kinds-requires-2
+    returns-then-not-all_kinds-2
+    returns-then-len_alias-gt-LARGEST_ALIAS
+    returns-then-body_alias-gt-LARGEST_ALIAS
+    returns-then-text-gt-LONGEST_TEXT
+    slice_bounds-deep-end
+    slice_bounds-deep-end-2
     deep-requires
-    returns-7
-    never-nil-requires
-    returns-8
-    returns-9)
+    returns-then-deep-gt-DEEPEST_WITHIN
+    never_nil-requires
+    returns-then-never_nil
+    returns)

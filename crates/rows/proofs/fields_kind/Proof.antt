@@ -9,63 +9,63 @@ use borrow.Author.Rules.{rules}
 use Rattle.rows.proofs.fields_kind.Statement.{statement}
 use Rattle.rows.proofs.fields_kind.Tie as tie
 
-abbrev invariant-loop : tie.invariant-loop
-invariant-loop words used fields p low high none at₀ j₀ at j = (at + 4 * j ≤ p + length fields) × (all (kind_at (word (take used words)) (kind_in low high)) (every 4 (length fields / 4) p fields) ≡ all (kind_at (word (take used words)) (kind_in low high)) (every 4 j at fields))
+abbrev invariant-loop-j : tie.invariant-loop-j
+invariant-loop-j words used fields p low high none at₀ j₀ at j = (at + 4 * j ≤ p + length fields) × (all (kind_at (word (take used words)) (kind_in low high)) (every 4 (length fields / 4) p fields) ≡ all (kind_at (word (take used words)) (kind_in low high)) (every 4 j at fields))
 
-abbrev decreases-loop : tie.decreases-loop
-decreases-loop words used fields p low high none at₀ j₀ at j = j
+abbrev decreases-loop-j : tie.decreases-loop-j
+decreases-loop-j words used fields p low high none at₀ j₀ at j = j
 
-loop-holds : tie.Need-loop-init invariant-loop decreases-loop
-loop-holds c = (search rules, refl)
+loop-j-init : tie.Need-loop-j-init invariant-loop-j decreases-loop-j
+loop-j-init c = (search rules, refl)
 
-slice-aggregate-all-kinds : tie.Need-slice-aggregate-all-kinds invariant-loop decreases-loop
-slice-aggregate-all-kinds c = search rules
+slice_bounds-all_kinds-end : tie.Need-slice_bounds-all_kinds-end invariant-loop-j decreases-loop-j
+slice_bounds-all_kinds-end c = search rules
 
-mul-t17 : tie.Need-overflow-mul-t17 invariant-loop decreases-loop
-mul-t17 c = search rules
+offset_bounds-fields-at : tie.Need-offset_bounds-fields-at invariant-loop-j decreases-loop-j
+offset_bounds-fields-at c = search rules
 
-shared-slice-read-t19 : tie.Need-shared-slice-read-t19 invariant-loop decreases-loop
-shared-slice-read-t19 c = search rules
+bounds-fields-at : tie.Need-bounds-fields-at invariant-loop-j decreases-loop-j
+bounds-fields-at c = search rules
 
-slice-aggregate-all-kinds-2 : tie.Need-slice-aggregate-all-kinds-2 invariant-loop decreases-loop
-slice-aggregate-all-kinds-2 c = search rules
+slice_bounds-all_kinds-end-in-loop-j : tie.Need-slice_bounds-all_kinds-end-in-loop-j invariant-loop-j decreases-loop-j
+slice_bounds-all_kinds-end-in-loop-j c = search rules
 
-all-kinds-requires : tie.Need-all-kinds-requires invariant-loop decreases-loop
-all-kinds-requires c κs = search rules
+all_kinds-requires : tie.Need-all_kinds-requires invariant-loop-j decreases-loop-j
+all_kinds-requires c κs = search rules
 
-returns : tie.Need-returns invariant-loop decreases-loop
-returns c = search stop_one
+returns-then-not-all_kinds : tie.Need-returns-then-not-all_kinds invariant-loop-j decreases-loop-j
+returns-then-not-all_kinds c = search stop_one
 
-add_at : tie.Need-overflow-add-at invariant-loop decreases-loop
-add_at c = search rules
+overflow_add-at : tie.Need-overflow_add-at invariant-loop-j decreases-loop-j
+overflow_add-at c = search rules
 
-sub-j : tie.Need-overflow-sub-j invariant-loop decreases-loop
-sub-j c = search rules
+overflow_sub-j : tie.Need-overflow_sub-j invariant-loop-j decreases-loop-j
+overflow_sub-j c = search rules
 
-loop-less : tie.Need-loop-smaller invariant-loop decreases-loop
-loop-less c = search rules
+loop-j-smaller : tie.Need-loop-j-smaller invariant-loop-j decreases-loop-j
+loop-j-smaller c = search rules
 
-loop-again : tie.Need-loop-preserved invariant-loop decreases-loop
-loop-again c = (search rules, search on_one)
+loop-j-preserved : tie.Need-loop-j-preserved invariant-loop-j decreases-loop-j
+loop-j-preserved c = (search rules, search on_one)
 
-returns-2 : tie.Need-returns-2 invariant-loop decreases-loop
-returns-2 c = search apart_end
+returns : tie.Need-returns invariant-loop-j decreases-loop-j
+returns c = search apart_end
 
-pub fields-kind-spec : {M : Type 1} → statement M
-fields-kind-spec =
+pub fields_kind_spec : {M : Type 1} → statement M
+fields_kind_spec =
     tie.close
     (tie.spec
-    invariant-loop
-    decreases-loop
-    loop-holds
-    slice-aggregate-all-kinds
-    mul-t17
-    shared-slice-read-t19
-    slice-aggregate-all-kinds-2
-    all-kinds-requires
-    returns
-    add_at
-    sub-j
-    loop-less
-    loop-again
-    returns-2)
+    invariant-loop-j
+    decreases-loop-j
+    loop-j-init
+    slice_bounds-all_kinds-end
+    offset_bounds-fields-at
+    bounds-fields-at
+    slice_bounds-all_kinds-end-in-loop-j
+    all_kinds-requires
+    returns-then-not-all_kinds
+    overflow_add-at
+    overflow_sub-j
+    loop-j-smaller
+    loop-j-preserved
+    returns)

@@ -10,51 +10,51 @@ use borrow.Author.Rules.{rules}
 use Rattle.rows.proofs.fields_most.Statement.{statement}
 use Rattle.rows.proofs.fields_most.Tie as tie
 
-abbrev invariant-loop : tie.invariant-loop
-invariant-loop fields p most at₀ j₀ at j = (at + 4 * j ≤ p + length fields) × (all (at_most most) (every 4 (length fields / 4) p fields) ≡ all (at_most most) (every 4 j at fields))
+abbrev invariant-loop-j : tie.invariant-loop-j
+invariant-loop-j fields p most at₀ j₀ at j = (at + 4 * j ≤ p + length fields) × (all (at_most most) (every 4 (length fields / 4) p fields) ≡ all (at_most most) (every 4 j at fields))
 
-abbrev decreases-loop : tie.decreases-loop
-decreases-loop fields p most at₀ j₀ at j = j
+abbrev decreases-loop-j : tie.decreases-loop-j
+decreases-loop-j fields p most at₀ j₀ at j = j
 
-loop-holds : tie.Need-loop-init invariant-loop decreases-loop
-loop-holds c = (search rules, refl)
+loop-j-init : tie.Need-loop-j-init invariant-loop-j decreases-loop-j
+loop-j-init c = (search rules, refl)
 
-mul-if1 : tie.Need-overflow-mul-if1 invariant-loop decreases-loop
-mul-if1 c = search rules
+offset_bounds-fields-at : tie.Need-offset_bounds-fields-at invariant-loop-j decreases-loop-j
+offset_bounds-fields-at c = search rules
 
-shared-slice-read-if1 : tie.Need-shared-slice-read-if1 invariant-loop decreases-loop
-shared-slice-read-if1 c = search rules
+bounds-fields-at : tie.Need-bounds-fields-at invariant-loop-j decreases-loop-j
+bounds-fields-at c = search rules
 
-returns : tie.Need-returns invariant-loop decreases-loop
-returns c = search stop_most
+returns-then-fields-at : tie.Need-returns-then-fields-at invariant-loop-j decreases-loop-j
+returns-then-fields-at c = search stop_most
 
-add_at : tie.Need-overflow-add-at invariant-loop decreases-loop
-add_at c = search rules
+overflow_add-at : tie.Need-overflow_add-at invariant-loop-j decreases-loop-j
+overflow_add-at c = search rules
 
-sub-j : tie.Need-overflow-sub-j invariant-loop decreases-loop
-sub-j c = search rules
+overflow_sub-j : tie.Need-overflow_sub-j invariant-loop-j decreases-loop-j
+overflow_sub-j c = search rules
 
-loop-less : tie.Need-loop-smaller invariant-loop decreases-loop
-loop-less c = search rules
+loop-j-smaller : tie.Need-loop-j-smaller invariant-loop-j decreases-loop-j
+loop-j-smaller c = search rules
 
-loop-again : tie.Need-loop-preserved invariant-loop decreases-loop
-loop-again c = (search rules, search on_most)
+loop-j-preserved : tie.Need-loop-j-preserved invariant-loop-j decreases-loop-j
+loop-j-preserved c = (search rules, search on_most)
 
-returns-2 : tie.Need-returns-2 invariant-loop decreases-loop
-returns-2 c = search apart_end
+returns : tie.Need-returns invariant-loop-j decreases-loop-j
+returns c = search apart_end
 
-pub fields-most-spec : {M : Type 1} → statement M
-fields-most-spec =
+pub fields_most_spec : {M : Type 1} → statement M
+fields_most_spec =
     tie.close
     (tie.spec
-    invariant-loop
-    decreases-loop
-    loop-holds
-    mul-if1
-    shared-slice-read-if1
-    returns
-    add_at
-    sub-j
-    loop-less
-    loop-again
-    returns-2)
+    invariant-loop-j
+    decreases-loop-j
+    loop-j-init
+    offset_bounds-fields-at
+    bounds-fields-at
+    returns-then-fields-at
+    overflow_add-at
+    overflow_sub-j
+    loop-j-smaller
+    loop-j-preserved
+    returns)

@@ -5,38 +5,36 @@ use borrow.Author.Rules.{rules}
 use Rattle.rows.proofs.never_nil.Statement.{statement}
 use Rattle.rows.proofs.never_nil.Tie as tie
 
-slice-aggregate-kind-on : tie.Need-slice-aggregate-kind-on
-slice-aggregate-kind-on c = search rules
+slice_bounds-kind_on-end : tie.Need-slice_bounds-kind_on-end
+slice_bounds-kind_on-end c = search rules
 
-kind-on-requires : tie.Need-kind-on-requires
-kind-on-requires c κs = search rules
+kind_on-requires : tie.Need-kind_on-requires
+kind_on-requires c κs = search rules
 
-returns : tie.Need-returns
-returns c = search no_pointer
+returns-then-kind_on-ne-MEM_PTR : tie.Need-returns-then-kind_on-ne-MEM_PTR
+returns-then-kind_on-ne-MEM_PTR c = search no_pointer
 
-slice-aggregate-word : tie.Need-slice-aggregate-word
-slice-aggregate-word c = search rules
+slice_bounds-word-end : tie.Need-slice_bounds-word-end
+slice_bounds-word-end c = search rules
 
-add-word : tie.Need-overflow-add-word
-add-word c =
-    let k = c.before.before in
-    let s = k.before.before.before in
-    omega (arith, kind_inside s.args.words.now s.args.used s.args.body k.kind-on.result s.requires k.kind-on.ensures (omega (arith, c.before.if1.false)))
+overflow_add-body : tie.Need-overflow_add-body
+overflow_add-body c =
+    omega (arith, kind_inside c.args.words.now c.args.used c.args.body c.kind_on.result c.requires c.kind_on.ensures (omega (arith, c.if-kind_on-ne-MEM_PTR.false)))
 
 word-requires : tie.Need-word-requires
 word-requires c κs = search rules
 
-returns-2 : tie.Need-returns-2
-returns-2 c = search a_pointer
+returns : tie.Need-returns
+returns c = search a_pointer
 
-pub never-nil-spec : {M : Type 1} → statement M
-never-nil-spec =
+pub never_nil_spec : {M : Type 1} → statement M
+never_nil_spec =
     tie.close
     (tie.spec
-    slice-aggregate-kind-on
-    kind-on-requires
-    returns
-    slice-aggregate-word
-    add-word
+    slice_bounds-kind_on-end
+    kind_on-requires
+    returns-then-kind_on-ne-MEM_PTR
+    slice_bounds-word-end
+    overflow_add-body
     word-requires
-    returns-2)
+    returns)

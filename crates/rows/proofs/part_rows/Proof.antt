@@ -4,59 +4,59 @@ use borrow.Author.Rules.{rules}
 use Rattle.rows.proofs.part_rows.Statement.{statement}
 use Rattle.rows.proofs.part_rows.Tie as tie
 
-slice-aggregate-all-start : tie.Need-slice-aggregate-all-start
-slice-aggregate-all-start c = search rules
+slice_bounds-all_start-end : tie.Need-slice_bounds-all_start-end
+slice_bounds-all_start-end c = search rules
 
-all-start-requires : tie.Need-all-start-requires
-all-start-requires c κs = search rules
+all_start-requires : tie.Need-all_start-requires
+all_start-requires c κs = search rules
 
-returns : tie.Need-returns
-returns c = search part_2
+returns-then-not-all_start : tie.Need-returns-then-not-all_start
+returns-then-not-all_start c = search part_2
 
-slice-aggregate-all-kinds : tie.Need-slice-aggregate-all-kinds
-slice-aggregate-all-kinds c = search rules
+slice_bounds-all_kinds-end : tie.Need-slice_bounds-all_kinds-end
+slice_bounds-all_kinds-end c = search rules
 
-slice-aggregate-all-kinds-2 : tie.Need-slice-aggregate-all-kinds-2
-slice-aggregate-all-kinds-2 c = search rules
+slice_bounds-all_kinds-end-2 : tie.Need-slice_bounds-all_kinds-end-2
+slice_bounds-all_kinds-end-2 c = search rules
 
-all-kinds-requires : tie.Need-all-kinds-requires
-all-kinds-requires c κs = search rules
+all_kinds-requires : tie.Need-all_kinds-requires
+all_kinds-requires c κs = search rules
 
-returns-2 : tie.Need-returns-2
-returns-2 c = search part_3
+returns-then-not-all_kinds : tie.Need-returns-then-not-all_kinds
+returns-then-not-all_kinds c = search part_3
 
-returns-3 : tie.Need-returns-3
-returns-3 c = search part_4
+returns-then-not-taken : tie.Need-returns-then-not-taken
+returns-then-not-taken c = search part_4
 
-slice-aggregate-deep : tie.Need-slice-aggregate-deep
-slice-aggregate-deep c = search rules
+slice_bounds-deep-end : tie.Need-slice_bounds-deep-end
+slice_bounds-deep-end c = search rules
 
-slice-aggregate-deep-2 : tie.Need-slice-aggregate-deep-2
-slice-aggregate-deep-2 c = search rules
+slice_bounds-deep-end-2 : tie.Need-slice_bounds-deep-end-2
+slice_bounds-deep-end-2 c = search rules
 
 deep-requires : tie.Need-deep-requires
 deep-requires c κs = search rules
 
-returns-4 : tie.Need-returns-4
-returns-4 c = search part_6
+returns-then-deep-gt-DEEPEST_WITHIN : tie.Need-returns-then-deep-gt-DEEPEST_WITHIN
+returns-then-deep-gt-DEEPEST_WITHIN c = search part_6
 
-returns-5 : tie.Need-returns-5
-returns-5 c = search part_0
+returns : tie.Need-returns
+returns c = search part_0
 
-pub part-rows-spec : {M : Type 1} → statement M
-part-rows-spec =
+pub part_rows_spec : {M : Type 1} → statement M
+part_rows_spec =
     tie.close
     (tie.spec
-    slice-aggregate-all-start
-    all-start-requires
-    returns
-    slice-aggregate-all-kinds
-    slice-aggregate-all-kinds-2
-    all-kinds-requires
-    returns-2
-    returns-3
-    slice-aggregate-deep
-    slice-aggregate-deep-2
+    slice_bounds-all_start-end
+    all_start-requires
+    returns-then-not-all_start
+    slice_bounds-all_kinds-end
+    slice_bounds-all_kinds-end-2
+    all_kinds-requires
+    returns-then-not-all_kinds
+    returns-then-not-taken
+    slice_bounds-deep-end
+    slice_bounds-deep-end-2
     deep-requires
-    returns-4
-    returns-5)
+    returns-then-deep-gt-DEEPEST_WITHIN
+    returns)

@@ -4,39 +4,39 @@ use borrow.Author.Rules.{rules}
 use Rattle.rows.proofs.struct_unfit.Statement.{statement}
 use Rattle.rows.proofs.struct_unfit.Tie as tie
 
-slice-aggregate-all-kinds : tie.Need-slice-aggregate-all-kinds
-slice-aggregate-all-kinds c = search rules
+slice_bounds-all_kinds-end : tie.Need-slice_bounds-all_kinds-end
+slice_bounds-all_kinds-end c = search rules
 
-slice-aggregate-all-kinds-2 : tie.Need-slice-aggregate-all-kinds-2
-slice-aggregate-all-kinds-2 c = search rules
+slice_bounds-all_kinds-end-2 : tie.Need-slice_bounds-all_kinds-end-2
+slice_bounds-all_kinds-end-2 c = search rules
 
-all-kinds-requires : tie.Need-all-kinds-requires
-all-kinds-requires c κs = search rules
+all_kinds-requires : tie.Need-all_kinds-requires
+all_kinds-requires c κs = search rules
+
+returns-then-not-all_kinds : tie.Need-returns-then-not-all_kinds
+returns-then-not-all_kinds c = search unfit_name
+
+fields_kind-requires : tie.Need-fields_kind-requires
+fields_kind-requires c κs = search rules
+
+returns-then-not-fields_kind : tie.Need-returns-then-not-fields_kind
+returns-then-not-fields_kind c = search unfit_names
+
+fields_kind-requires-2 : tie.Need-fields_kind-requires-2
+fields_kind-requires-2 c κs = search rules
 
 returns : tie.Need-returns
-returns c = search unfit_name
+returns c = search unfit_types
 
-fields-kind-requires : tie.Need-fields-kind-requires
-fields-kind-requires c κs = search rules
-
-returns-2 : tie.Need-returns-2
-returns-2 c = search unfit_names
-
-fields-kind-requires-2 : tie.Need-fields-kind-requires-2
-fields-kind-requires-2 c κs = search rules
-
-returns-3 : tie.Need-returns-3
-returns-3 c = search unfit_types
-
-pub struct-unfit-spec : {M : Type 1} → statement M
-struct-unfit-spec =
+pub struct_unfit_spec : {M : Type 1} → statement M
+struct_unfit_spec =
     tie.close
     (tie.spec
-    slice-aggregate-all-kinds
-    slice-aggregate-all-kinds-2
-    all-kinds-requires
-    returns
-    fields-kind-requires
-    returns-2
-    fields-kind-requires-2
-    returns-3)
+    slice_bounds-all_kinds-end
+    slice_bounds-all_kinds-end-2
+    all_kinds-requires
+    returns-then-not-all_kinds
+    fields_kind-requires
+    returns-then-not-fields_kind
+    fields_kind-requires-2
+    returns)

@@ -4,47 +4,47 @@ use borrow.Author.Rules.{rules}
 use Rattle.rows.proofs.tuple_rows.Statement.{statement}
 use Rattle.rows.proofs.tuple_rows.Tie as tie
 
-all-start-requires : tie.Need-all-start-requires
-all-start-requires c κs = search rules
+all_start-requires : tie.Need-all_start-requires
+all_start-requires c κs = search rules
 
-returns : tie.Need-returns
-returns c = search tuple_2
+returns-then-not-all_start : tie.Need-returns-then-not-all_start
+returns-then-not-all_start c = search tuple_2
 
-slice-aggregate-all-kinds : tie.Need-slice-aggregate-all-kinds
-slice-aggregate-all-kinds c = search rules
+slice_bounds-all_kinds-end : tie.Need-slice_bounds-all_kinds-end
+slice_bounds-all_kinds-end c = search rules
 
-all-kinds-requires : tie.Need-all-kinds-requires
-all-kinds-requires c κs = search rules
+all_kinds-requires : tie.Need-all_kinds-requires
+all_kinds-requires c κs = search rules
 
-returns-2 : tie.Need-returns-2
-returns-2 c = search tuple_3
+returns-then-not-all_kinds : tie.Need-returns-then-not-all_kinds
+returns-then-not-all_kinds c = search tuple_3
 
-returns-3 : tie.Need-returns-3
-returns-3 c = search tuple_5
+returns-then-types-gt-MOST_COUNTED : tie.Need-returns-then-types-gt-MOST_COUNTED
+returns-then-types-gt-MOST_COUNTED c = search tuple_5
 
-slice-aggregate-deep : tie.Need-slice-aggregate-deep
-slice-aggregate-deep c = search rules
+slice_bounds-deep-end : tie.Need-slice_bounds-deep-end
+slice_bounds-deep-end c = search rules
 
 deep-requires : tie.Need-deep-requires
 deep-requires c κs = search rules
 
-returns-4 : tie.Need-returns-4
-returns-4 c = search tuple_6
+returns-then-deep-gt-DEEPEST_WITHIN : tie.Need-returns-then-deep-gt-DEEPEST_WITHIN
+returns-then-deep-gt-DEEPEST_WITHIN c = search tuple_6
 
-returns-5 : tie.Need-returns-5
-returns-5 c = search tuple_0
+returns : tie.Need-returns
+returns c = search tuple_0
 
-pub tuple-rows-spec : {M : Type 1} → statement M
-tuple-rows-spec =
+pub tuple_rows_spec : {M : Type 1} → statement M
+tuple_rows_spec =
     tie.close
     (tie.spec
-    all-start-requires
-    returns
-    slice-aggregate-all-kinds
-    all-kinds-requires
-    returns-2
-    returns-3
-    slice-aggregate-deep
+    all_start-requires
+    returns-then-not-all_start
+    slice_bounds-all_kinds-end
+    all_kinds-requires
+    returns-then-not-all_kinds
+    returns-then-types-gt-MOST_COUNTED
+    slice_bounds-deep-end
     deep-requires
-    returns-4
-    returns-5)
+    returns-then-deep-gt-DEEPEST_WITHIN
+    returns)
