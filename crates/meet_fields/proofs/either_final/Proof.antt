@@ -9,83 +9,80 @@ use borrow.Author.Rules.{rules}
 use Rattle.meet_fields.proofs.either_final.Statement.{statement}
 use Rattle.meet_fields.proofs.either_final.Tie as tie
 
-abbrev invariant-loop : tie.invariant-loop
-invariant-loop dst₀ old new used n p q i₀ dst i =
+abbrev invariant-loop-i : tie.invariant-loop-i
+invariant-loop-i dst₀ old new used n p q i₀ dst i =
     (i ≤ n) × (length dst ≡ length dst₀)
     × (take i dst ++ finals (take used (old ++ new)) (n - i) (p + 3 * i) (q + 3 * i) ≡ finals (take used (old ++ new)) n p q)
     × (drop i dst ≡ drop i dst₀)
 
-abbrev decreases-loop : tie.decreases-loop
-decreases-loop dst₀ old new used n p q i₀ dst i = n - i
+abbrev decreases-loop-i : tie.decreases-loop-i
+decreases-loop-i dst₀ old new used n p q i₀ dst i = n - i
 
-loop-holds : tie.Need-loop-init invariant-loop decreases-loop
-loop-holds c = (search rules, refl, either_begin _ _ _ _, refl)
+loop-i-init : tie.Need-loop-i-init invariant-loop-i decreases-loop-i
+loop-i-init c = (search rules, refl, either_begin _ _ _ _, refl)
 
-mul-word : tie.Need-overflow-mul-word invariant-loop decreases-loop
-mul-word c = search rules
+overflow_mul-i : tie.Need-overflow_mul-i invariant-loop-i decreases-loop-i
+overflow_mul-i c = search rules
 
-add-word : tie.Need-overflow-add-word invariant-loop decreases-loop
-add-word c = search rules
+overflow_add-p : tie.Need-overflow_add-p invariant-loop-i decreases-loop-i
+overflow_add-p c = search rules
 
-word-requires : tie.Need-word-requires invariant-loop decreases-loop
-word-requires c κs = search rules
+word-f-requires : tie.Need-word-f-requires invariant-loop-i decreases-loop-i
+word-f-requires c κs = search rules
 
-mul-word-2 : tie.Need-overflow-mul-word-2 invariant-loop decreases-loop
-mul-word-2 c = search rules
+overflow_mul-i-in-loop-i : tie.Need-overflow_mul-i-in-loop-i invariant-loop-i decreases-loop-i
+overflow_mul-i-in-loop-i c = search rules
 
-add-word-2 : tie.Need-overflow-add-word-2 invariant-loop decreases-loop
-add-word-2 c = search rules
+overflow_add-q : tie.Need-overflow_add-q invariant-loop-i decreases-loop-i
+overflow_add-q c = search rules
 
-word-requires-2 : tie.Need-word-requires-2 invariant-loop decreases-loop
-word-requires-2 c κs = search rules
+word-g-requires : tie.Need-word-g-requires invariant-loop-i decreases-loop-i
+word-g-requires c κs = search rules
 
-larger-requires : tie.Need-larger-requires invariant-loop decreases-loop
+larger-requires : tie.Need-larger-requires invariant-loop-i decreases-loop-i
 larger-requires c κs = search rules
 
-cast-dst : tie.Need-overflow-cast-dst invariant-loop decreases-loop
-cast-dst c = omega (arith, c.larger.ensures)
+overflow_cast-dst : tie.Need-overflow_cast-dst invariant-loop-i decreases-loop-i
+overflow_cast-dst c = omega (arith, c.larger.ensures)
 
-slice-write-dst : tie.Need-slice-write-dst invariant-loop decreases-loop
-slice-write-dst c = search rules
+bounds-dst-i : tie.Need-bounds-dst-i invariant-loop-i decreases-loop-i
+bounds-dst-i c = search rules
 
-add-i : tie.Need-overflow-add-i invariant-loop decreases-loop
-add-i c = search rules
+overflow_add-i : tie.Need-overflow_add-i invariant-loop-i decreases-loop-i
+overflow_add-i c = search rules
 
-loop-less : tie.Need-loop-smaller invariant-loop decreases-loop
-loop-less c = search rules
+loop-i-smaller : tie.Need-loop-i-smaller invariant-loop-i decreases-loop-i
+loop-i-smaller c = search rules
 
-loop-again : tie.Need-loop-preserved invariant-loop decreases-loop
-loop-again c =
-    let w = c.before.before in
-    let l = w.before.before in
-    let s = l.before.before.before.before in
-    let f = either_on _ _ _ _ _ _ _ l.loop.invariant.2 l.loop.invariant.3 s.requires.1.0 l.loop.invariant.1 w.before.loop-test.true _ _ _ w.word.ensures c.before.word2.ensures c.larger.ensures in
+loop-i-preserved : tie.Need-loop-i-preserved invariant-loop-i decreases-loop-i
+loop-i-preserved c =
+    let f = either_on _ _ _ _ _ _ _ c.loop-i.invariant.2 c.loop-i.invariant.3 c.requires.1.0 c.loop-i.invariant.1 c.loop-i-test.true _ _ _ c.word-f.ensures c.word-g.ensures c.larger.ensures in
     (search rules, search rules, f.0, f.1)
 
-same_length : tie.Need-same-length invariant-loop decreases-loop
-same_length c = search rules
+shape_of-dst : tie.Need-shape_of-dst invariant-loop-i decreases-loop-i
+shape_of-dst c = search rules
 
-returns : tie.Need-returns invariant-loop decreases-loop
+returns : tie.Need-returns invariant-loop-i decreases-loop-i
 returns c = search either_end
 
-pub either-final-spec : {M : Type 1} → statement M
-either-final-spec =
+pub either_final_spec : {M : Type 1} → statement M
+either_final_spec =
     tie.close
     (tie.spec
-    invariant-loop
-    decreases-loop
-    loop-holds
-    mul-word
-    add-word
-    word-requires
-    mul-word-2
-    add-word-2
-    word-requires-2
+    invariant-loop-i
+    decreases-loop-i
+    loop-i-init
+    overflow_mul-i
+    overflow_add-p
+    word-f-requires
+    overflow_mul-i-in-loop-i
+    overflow_add-q
+    word-g-requires
     larger-requires
-    cast-dst
-    slice-write-dst
-    add-i
-    loop-less
-    loop-again
-    same_length
+    overflow_cast-dst
+    bounds-dst-i
+    overflow_add-i
+    loop-i-smaller
+    loop-i-preserved
+    shape_of-dst
     returns)

@@ -4,23 +4,23 @@ use borrow.Author.Rules.{rules}
 use Rattle.meet_fields.proofs.meet_fields.Statement.{statement}
 use Rattle.meet_fields.proofs.meet_fields.Tie as tie
 
-slice-aggregate-meet-fields-in : tie.Need-slice-aggregate-meet-fields-in
-slice-aggregate-meet-fields-in c = search rules
+slice_bounds-meet_fields_in-end : tie.Need-slice_bounds-meet_fields_in-end
+slice_bounds-meet_fields_in-end c = search rules
 
-meet-fields-in-requires : tie.Need-meet-fields-in-requires
-meet-fields-in-requires c κs = (search rules, ((search rules, omega (arith, c.before.before.before.before.before.before.requires.1.0.0), search rules, search rules), (search rules, search rules)))
+meet_fields_in-requires : tie.Need-meet_fields_in-requires
+meet_fields_in-requires c κs = (search rules, ((search rules, omega (arith, c.requires.1.0.0), search rules, search rules), (search rules, search rules)))
 
-same_length : tie.Need-same-length
-same_length c = search rules
+shape_of-new : tie.Need-shape_of-new
+shape_of-new c = search rules
 
 returns : tie.Need-returns
 returns c = search rules
 
-pub meet-fields-spec : {M : Type 1} → statement M
-meet-fields-spec =
+pub meet_fields_spec : {M : Type 1} → statement M
+meet_fields_spec =
     tie.close
     (tie.spec
-    slice-aggregate-meet-fields-in
-    meet-fields-in-requires
-    same_length
+    slice_bounds-meet_fields_in-end
+    meet_fields_in-requires
+    shape_of-new
     returns)
