@@ -211,6 +211,9 @@ def goals(text, aliases, said, path, function):
                 text = re.sub(rf"(?ms)^{re.escape(label)} : .*?(?=^\S[^\n]* : |\Z)", "", text, count=1)
                 text = re.sub(rf"(?m)^ +{re.escape(label)}(?=\)*$)\n?", lambda m: "", text) if not re.search(rf"(?m)^ +{re.escape(label)}\)", text) else text
         missing = [g for g in asked if g not in has]
+        # an answer may stand in the list itself
+        if len(re.findall(r"(?m)^ +\(λ c", text)) >= len(missing):
+            continue
         for goal in missing:
             at = asked.index(goal)
             rest = next(iter(has.values()))[1]

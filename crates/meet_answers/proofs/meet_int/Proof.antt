@@ -40,9 +40,6 @@ shape_of-new c = search rules
 returns : tie.Need-returns
 returns c = search met_int
 
-larger_of-max-requires : tie.Need-larger_of-max-requires
-larger_of-max-requires c κs = search rules
-
 pub meet_int_spec : {M : Type 1} → statement M
 meet_int_spec =
     tie.close
@@ -56,7 +53,6 @@ meet_int_spec =
     word-requires-3
     overflow_add-b-2
     word-requires-4
-    larger_of-max-requires
     (λ c κs. search rules)
     int-requires
     shape_of-new
