@@ -4,43 +4,43 @@ use borrow.Author.Rules.{rules}
 use Rattle.walk_rules.proofs.end_of.Statement.{statement}
 use Rattle.walk_rules.proofs.end_of.Tie as tie
 
-enum_told : tie.Need-enum-told
-enum_told c = search rules
+enum_told-1 : tie.Need-enum_told-1
+enum_told-1 c = search rules
 
-dual-end-requires : tie.Need-dual-end-requires
-dual-end-requires c κs = search rules
+dual_end-requires : tie.Need-dual_end-requires
+dual_end-requires c κs = search rules
 
-enum-told-2 : tie.Need-enum-told-2
-enum-told-2 c = search rules
+enum_told-in-Glb : tie.Need-enum_told-in-Glb
+enum_told-in-Glb c = search rules
 
-returns : tie.Need-returns
-returns c = search glb_ctrl
+returns-then-k-eq-CTRL : tie.Need-returns-then-k-eq-CTRL
+returns-then-k-eq-CTRL c = search glb_ctrl
 
-enum-told-3 : tie.Need-enum-told-3
-enum-told-3 c = search rules
+enum_told-in-Lub : tie.Need-enum_told-in-Lub
+enum_told-in-Lub c = search rules
 
-returns-2 : tie.Need-returns-2
-returns-2 c = search lub_ctrl
+returns-then-k-eq-CTRL-2 : tie.Need-returns-then-k-eq-CTRL-2
+returns-then-k-eq-CTRL-2 c = search lub_ctrl
 
-returns-3 : tie.Need-returns-3
-returns-3 c = search end_dual
+returns-in-Dual : tie.Need-returns-in-Dual
+returns-in-Dual c = search end_dual
 
-returns-4 : tie.Need-returns-4
-returns-4 c = search glb_other
+returns-else-k-eq-CTRL : tie.Need-returns-else-k-eq-CTRL
+returns-else-k-eq-CTRL c = search glb_other
 
-returns-5 : tie.Need-returns-5
-returns-5 c = search lub_other
+returns-else-k-eq-CTRL-2 : tie.Need-returns-else-k-eq-CTRL-2
+returns-else-k-eq-CTRL-2 c = search lub_other
 
-pub end-of-spec : {M : Type 1} → statement M
-end-of-spec =
+pub end_of_spec : {M : Type 1} → statement M
+end_of_spec =
     tie.close
     (tie.spec
-    enum_told
-    dual-end-requires
-    enum-told-2
-    returns
-    enum-told-3
-    returns-2
-    returns-3
-    returns-4
-    returns-5)
+    enum_told-1
+    dual_end-requires
+    enum_told-in-Glb
+    returns-then-k-eq-CTRL
+    enum_told-in-Lub
+    returns-then-k-eq-CTRL-2
+    returns-in-Dual
+    returns-else-k-eq-CTRL
+    returns-else-k-eq-CTRL-2)

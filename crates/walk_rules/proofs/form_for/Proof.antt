@@ -4,51 +4,51 @@ use borrow.Author.Rules.{rules}
 use Rattle.walk_rules.proofs.form_for.Statement.{statement}
 use Rattle.walk_rules.proofs.form_for.Tie as tie
 
-end-of-requires : tie.Need-end-of-requires
-end-of-requires c κs = search rules
+end_of-requires : tie.Need-end_of-requires
+end_of-requires c κs = search rules
+
+returns-then-k-le-XCTRL : tie.Need-returns-then-k-le-XCTRL
+returns-then-k-le-XCTRL c = search an_end
+
+returns-then-k-eq-INT : tie.Need-returns-then-k-eq-INT
+returns-then-k-eq-INT c = search an_int
+
+returns-then-k-eq-FLOAT : tie.Need-returns-then-k-eq-FLOAT
+returns-then-k-eq-FLOAT c = search a_float
+
+tuple_form-requires : tie.Need-tuple_form-requires
+tuple_form-requires c κs = search rules
+
+returns-then-k-eq-TUPLE : tie.Need-returns-then-k-eq-TUPLE
+returns-then-k-eq-TUPLE c = search a_tuple
+
+struct_form-requires : tie.Need-struct_form-requires
+struct_form-requires c κs = search rules
+
+returns-then-k-eq-STRUCT : tie.Need-returns-then-k-eq-STRUCT
+returns-then-k-eq-STRUCT c = search a_struct
+
+returns-then-k-eq-FREF : tie.Need-returns-then-k-eq-FREF
+returns-then-k-eq-FREF c = search an_fref
+
+returns-then-k-eq-MEM_PTR : tie.Need-returns-then-k-eq-MEM_PTR
+returns-then-k-eq-MEM_PTR c = search a_pointer
 
 returns : tie.Need-returns
-returns c = search an_end
+returns c = search a_memory
 
-returns-2 : tie.Need-returns-2
-returns-2 c = search an_int
-
-returns-3 : tie.Need-returns-3
-returns-3 c = search a_float
-
-tuple-form-requires : tie.Need-tuple-form-requires
-tuple-form-requires c κs = search rules
-
-returns-4 : tie.Need-returns-4
-returns-4 c = search a_tuple
-
-struct-form-requires : tie.Need-struct-form-requires
-struct-form-requires c κs = search rules
-
-returns-5 : tie.Need-returns-5
-returns-5 c = search a_struct
-
-returns-6 : tie.Need-returns-6
-returns-6 c = search an_fref
-
-returns-7 : tie.Need-returns-7
-returns-7 c = search a_pointer
-
-returns-8 : tie.Need-returns-8
-returns-8 c = search a_memory
-
-pub form-for-spec : {M : Type 1} → statement M
-form-for-spec =
+pub form_for_spec : {M : Type 1} → statement M
+form_for_spec =
     tie.close
     (tie.spec
-    end-of-requires
-    returns
-    returns-2
-    returns-3
-    tuple-form-requires
-    returns-4
-    struct-form-requires
-    returns-5
-    returns-6
-    returns-7
-    returns-8)
+    end_of-requires
+    returns-then-k-le-XCTRL
+    returns-then-k-eq-INT
+    returns-then-k-eq-FLOAT
+    tuple_form-requires
+    returns-then-k-eq-TUPLE
+    struct_form-requires
+    returns-then-k-eq-STRUCT
+    returns-then-k-eq-FREF
+    returns-then-k-eq-MEM_PTR
+    returns)
