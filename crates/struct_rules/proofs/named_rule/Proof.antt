@@ -5,71 +5,71 @@ use borrow.Author.Rules.{rules}
 use Rattle.struct_rules.proofs.named_rule.Statement.{statement}
 use Rattle.struct_rules.proofs.named_rule.Tie as tie
 
-add-word : tie.Need-overflow-add-word
-add-word c = search rules
+overflow_add-a : tie.Need-overflow_add-a
+overflow_add-a c = search rules
 
-word-requires : tie.Need-word-requires
-word-requires c κs = search rules
+word-x-requires : tie.Need-word-x-requires
+word-x-requires c κs = search rules
 
-add-word-2 : tie.Need-overflow-add-word-2
-add-word-2 c = search rules
+overflow_add-b : tie.Need-overflow_add-b
+overflow_add-b c = search rules
 
-word-requires-2 : tie.Need-word-requires-2
-word-requires-2 c κs = search rules
+word-y-requires : tie.Need-word-y-requires
+word-y-requires c κs = search rules
 
-same-name-requires : tie.Need-same-name-requires
-same-name-requires c κs = search rules
+same_name-requires : tie.Need-same_name-requires
+same_name-requires c κs = search rules
+
+returns-then-not-same_name : tie.Need-returns-then-not-same_name
+returns-then-not-same_name c = search other_name
+
+word-f-requires : tie.Need-word-f-requires
+word-f-requires c κs = search rules
+
+word-g-requires : tie.Need-word-g-requires
+word-g-requires c κs = search rules
+
+returns-then-f-eq-FREF : tie.Need-returns-then-f-eq-FREF
+returns-then-f-eq-FREF c = search fref_first
+
+returns-then-g-eq-FREF : tie.Need-returns-then-g-eq-FREF
+returns-then-g-eq-FREF c = search fref_second
+
+returns-then-f-g : tie.Need-returns-then-f-g
+returns-then-f-g c = search other_count
+
+overflow_add-a-2 : tie.Need-overflow_add-a-2
+overflow_add-a-2 c = search rules
+
+overflow_add-b-2 : tie.Need-overflow_add-b-2
+overflow_add-b-2 c = search rules
+
+same_fields-requires : tie.Need-same_fields-requires
+same_fields-requires c κs = (search rules, ((search few_fields, search rules, search rules), (search names_low, names_low_too _ _ c.requires.1.3 _ c.word-g.ensures _ c.if-f-g.false)))
+
+returns-then-not-same_fields : tie.Need-returns-then-not-same_fields
+returns-then-not-same_fields c = search other_fields
 
 returns : tie.Need-returns
-returns c = search other_name
+returns c = search fields_meet
 
-word-requires-3 : tie.Need-word-requires-3
-word-requires-3 c κs = search rules
-
-word-requires-4 : tie.Need-word-requires-4
-word-requires-4 c κs = search rules
-
-returns-2 : tie.Need-returns-2
-returns-2 c = search fref_first
-
-returns-3 : tie.Need-returns-3
-returns-3 c = search fref_second
-
-returns-4 : tie.Need-returns-4
-returns-4 c = search other_count
-
-add-same-fields : tie.Need-overflow-add-same-fields
-add-same-fields c = search rules
-
-add-same-fields-2 : tie.Need-overflow-add-same-fields-2
-add-same-fields-2 c = search rules
-
-same-fields-requires : tie.Need-same-fields-requires
-same-fields-requires c κs = (search rules, ((search few_fields, search rules, search rules), (search names_low, names_low_too _ _ c.before.before.before.before.before.before.before.before.before.before.before.requires.1.3 _ c.before.before.before.word4.ensures _ c.if4.false)))
-
-returns-5 : tie.Need-returns-5
-returns-5 c = search other_fields
-
-returns-6 : tie.Need-returns-6
-returns-6 c = search fields_meet
-
-pub named-rule-spec : {M : Type 1} → statement M
-named-rule-spec =
+pub named_rule_spec : {M : Type 1} → statement M
+named_rule_spec =
     tie.close
     (tie.spec
-    add-word
-    word-requires
-    add-word-2
-    word-requires-2
-    same-name-requires
-    returns
-    word-requires-3
-    word-requires-4
-    returns-2
-    returns-3
-    returns-4
-    add-same-fields
-    add-same-fields-2
-    same-fields-requires
-    returns-5
-    returns-6)
+    overflow_add-a
+    word-x-requires
+    overflow_add-b
+    word-y-requires
+    same_name-requires
+    returns-then-not-same_name
+    word-f-requires
+    word-g-requires
+    returns-then-f-eq-FREF
+    returns-then-g-eq-FREF
+    returns-then-f-g
+    overflow_add-a-2
+    overflow_add-b-2
+    same_fields-requires
+    returns-then-not-same_fields
+    returns)

@@ -4,28 +4,28 @@ use borrow.Author.Rules.{rules}
 use Rattle.struct_rules.proofs.struct_rule.Statement.{statement}
 use Rattle.struct_rules.proofs.struct_rule.Tie as tie
 
+returns-then-a-b : tie.Need-returns-then-a-b
+returns-then-a-b c = search same_struct
+
+returns-then-a-eq-STRUCT_BOT : tie.Need-returns-then-a-eq-STRUCT_BOT
+returns-then-a-eq-STRUCT_BOT c = search first_struct_bot
+
+returns-then-b-eq-STRUCT_BOT : tie.Need-returns-then-b-eq-STRUCT_BOT
+returns-then-b-eq-STRUCT_BOT c = search second_struct_bot
+
+returns-then-a-eq-STRUCT_TOP : tie.Need-returns-then-a-eq-STRUCT_TOP
+returns-then-a-eq-STRUCT_TOP c = search first_struct_top
+
+returns-then-b-eq-STRUCT_TOP : tie.Need-returns-then-b-eq-STRUCT_TOP
+returns-then-b-eq-STRUCT_TOP c = search second_struct_top
+
+named_rule-requires : tie.Need-named_rule-requires
+named_rule-requires c κs = search rules
+
 returns : tie.Need-returns
-returns c = search same_struct
+returns c = search by_name
 
-returns-2 : tie.Need-returns-2
-returns-2 c = search first_struct_bot
-
-returns-3 : tie.Need-returns-3
-returns-3 c = search second_struct_bot
-
-returns-4 : tie.Need-returns-4
-returns-4 c = search first_struct_top
-
-returns-5 : tie.Need-returns-5
-returns-5 c = search second_struct_top
-
-named-rule-requires : tie.Need-named-rule-requires
-named-rule-requires c κs = search rules
-
-returns-6 : tie.Need-returns-6
-returns-6 c = search by_name
-
-pub struct-rule-spec : {M : Type 1} → statement M
-struct-rule-spec =
+pub struct_rule_spec : {M : Type 1} → statement M
+struct_rule_spec =
     tie.close
-    (tie.spec returns returns-2 returns-3 returns-4 returns-5 named-rule-requires returns-6)
+    (tie.spec returns-then-a-b returns-then-a-eq-STRUCT_BOT returns-then-b-eq-STRUCT_BOT returns-then-a-eq-STRUCT_TOP returns-then-b-eq-STRUCT_TOP named_rule-requires returns)
