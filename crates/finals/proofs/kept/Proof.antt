@@ -1,24 +1,25 @@
 -- `finals::kept` meets its contract.
-use mathlib.Core.Path.{refl}
+use mathlib.Core.Bool.{not}
+use mathlib.Core.Path.{ap, refl}
 use Rattle.finals.proofs.Knows.{kept_none, kept_one}
 use borrow.Author.Rules.{rules}
 use Rattle.finals.proofs.kept.Statement.{statement}
 use Rattle.finals.proofs.kept.Tie as tie
 
-returns : tie.Need-returns
-returns c = (refl, kept_none _ _ _)
+returns-then-not-r : tie.Need-returns-then-not-r
+returns-then-not-r c = (refl, kept_none _ _ _)
 
-returns-2 : tie.Need-returns-2
-returns-2 c = (refl, kept_none _ _ _)
+returns-then-known-a : tie.Need-returns-then-known-a
+returns-then-known-a c = (refl, kept_none _ _ _)
 
 mark-requires : tie.Need-mark-requires
 mark-requires c κs = search rules
 
-same_length : tie.Need-same-length
-same_length c = search rules
+shape_of-known : tie.Need-shape_of-known
+shape_of-known c = search rules
 
-returns-3 : tie.Need-returns-3
-returns-3 c = (refl, kept_one _ _ _ _ c.before.before.before.before.before.if1.false c.before.before.mark.ensures)
+returns : tie.Need-returns
+returns c = (refl, kept_one _ _ _ _ (ap not c.if-not-r.false) c.mark.ensures)
 
-pub kept-spec : {M : Type 1} → statement M
-kept-spec = tie.close (tie.spec returns returns-2 mark-requires same_length returns-3)
+pub kept_spec : {M : Type 1} → statement M
+kept_spec = tie.close (tie.spec returns-then-not-r returns-then-known-a mark-requires shape_of-known returns)
