@@ -270,7 +270,7 @@ def block(text, it, labels, own, function, path, said, helpers):
     all_of, it, root, place = it, None, None, None
     first = re.search(rf"^{re.escape(name)}((?: [^\s=(){{}}]+)*) =", text[head.end() :], re.M)
     names = first.group(1).split() if first else []
-    need = re.match(rf"({ALIAS})\.Need-([^\s()]+)", text[head.end() :])
+    need = re.match(rf"(?:\([^()]*\) → )*({ALIAS})\.Need-([^\s()]+)", text[head.end() :])
     if need:
         it = all_of[need.group(1)]
         root = "c" if "c" in names else names[0] if names else None
