@@ -4,43 +4,43 @@ use borrow.Author.Rules.{rules}
 use Rattle.walk_answers.proofs.dual_float.Statement.{statement}
 use Rattle.walk_answers.proofs.dual_float.Tie as tie
 
-add-word : tie.Need-overflow-add-word
-add-word c = search rules
+overflow_add-a : tie.Need-overflow_add-a
+overflow_add-a c = search rules
 
-word-requires : tie.Need-word-requires
-word-requires c κs = search rules
+word-size-requires : tie.Need-word-size-requires
+word-size-requires c κs = search rules
 
-same_length : tie.Need-same-length
-same_length c = search rules
+shape_of-new-then-size-eq-SIZE_ZERO : tie.Need-shape_of-new-then-size-eq-SIZE_ZERO
+shape_of-new-then-size-eq-SIZE_ZERO c = search rules
 
-returns : tie.Need-returns
-returns c = search float-stays
+returns-then-size-eq-SIZE_ZERO : tie.Need-returns-then-size-eq-SIZE_ZERO
+returns-then-size-eq-SIZE_ZERO c = search float-stays
 
-sub-float-of : tie.Need-overflow-sub-float-of
-sub-float-of c = search size_most
+overflow_sub-size : tie.Need-overflow_sub-size
+overflow_sub-size c = search size_most
 
-float-of-requires : tie.Need-float-of-requires
-float-of-requires c κs = search other-known
+float_of-f-requires : tie.Need-float_of-f-requires
+float_of-f-requires c κs = search other-known
 
 float-requires : tie.Need-float-requires
 float-requires c κs = (search rules, ((search other_fits, search rules), search rules))
 
-same-length-2 : tie.Need-same-length-2
-same-length-2 c = search rules
+shape_of-new : tie.Need-shape_of-new
+shape_of-new c = search rules
 
-returns-2 : tie.Need-returns-2
-returns-2 c = search other_sign
+returns : tie.Need-returns
+returns c = search other_sign
 
-pub dual-float-spec : {M : Type 1} → statement M
-dual-float-spec =
+pub dual_float_spec : {M : Type 1} → statement M
+dual_float_spec =
     tie.close
     (tie.spec
-    add-word
-    word-requires
-    same_length
-    returns
-    sub-float-of
-    float-of-requires
+    overflow_add-a
+    word-size-requires
+    shape_of-new-then-size-eq-SIZE_ZERO
+    returns-then-size-eq-SIZE_ZERO
+    overflow_sub-size
+    float_of-f-requires
     float-requires
-    same-length-2
-    returns-2)
+    shape_of-new
+    returns)

@@ -4,39 +4,39 @@ use borrow.Author.Rules.{rules}
 use Rattle.walk_answers.proofs.float_of.Statement.{statement}
 use Rattle.walk_answers.proofs.float_of.Tie as tie
 
-enum_told : tie.Need-enum-told
-enum_told c = search rules
+enum_told-1 : tie.Need-enum_told-1
+enum_told-1 c = search rules
 
-dual-float-requires : tie.Need-dual-float-requires
-dual-float-requires c κs = search rules
+dual_float-requires : tie.Need-dual_float-requires
+dual_float-requires c κs = search rules
 
-enum-told-2 : tie.Need-enum-told-2
-enum-told-2 c = search rules
+enum_told-in-Glb : tie.Need-enum_told-in-Glb
+enum_told-in-Glb c = search rules
 
-enum-told-3 : tie.Need-enum-told-3
-enum-told-3 c = search rules
+enum_told-in-Lub : tie.Need-enum_told-in-Lub
+enum_told-in-Lub c = search rules
 
-same_length : tie.Need-same-length
-same_length c = search rules
+shape_of-new : tie.Need-shape_of-new
+shape_of-new c = search rules
 
-returns : tie.Need-returns
-returns c = search float-dual
+returns-in-Dual : tie.Need-returns-in-Dual
+returns-in-Dual c = search float-dual
 
-returns-2 : tie.Need-returns-2
-returns-2 c = search float-glb
+returns-in-Glb : tie.Need-returns-in-Glb
+returns-in-Glb c = search float-glb
 
-returns-3 : tie.Need-returns-3
-returns-3 c = search float-lub
+returns-in-Lub : tie.Need-returns-in-Lub
+returns-in-Lub c = search float-lub
 
-pub float-of-spec : {M : Type 1} → statement M
-float-of-spec =
+pub float_of_spec : {M : Type 1} → statement M
+float_of_spec =
     tie.close
     (tie.spec
-    enum_told
-    dual-float-requires
-    enum-told-2
-    enum-told-3
-    same_length
-    returns
-    returns-2
-    returns-3)
+    enum_told-1
+    dual_float-requires
+    enum_told-in-Glb
+    enum_told-in-Lub
+    shape_of-new
+    returns-in-Dual
+    returns-in-Glb
+    returns-in-Lub)

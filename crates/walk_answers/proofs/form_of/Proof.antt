@@ -7,11 +7,11 @@ use Rattle.walk_answers.proofs.form_of.Tie as tie
 word-requires : tie.Need-word-requires
 word-requires c κs = search rules
 
-form-for-requires : tie.Need-form-for-requires
-form-for-requires c κs = search rules
+form_for-requires : tie.Need-form_for-requires
+form_for-requires c κs = search rules
 
 returns : tie.Need-returns
 returns c = search by_word
 
-pub form-of-spec : {M : Type 1} → statement M
-form-of-spec = tie.close (tie.spec word-requires form-for-requires returns)
+pub form_of_spec : {M : Type 1} → statement M
+form_of_spec = tie.close (tie.spec word-requires form_for-requires returns)

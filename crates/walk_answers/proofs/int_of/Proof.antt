@@ -4,55 +4,55 @@ use borrow.Author.Rules.{rules}
 use Rattle.walk_answers.proofs.int_of.Statement.{statement}
 use Rattle.walk_answers.proofs.int_of.Tie as tie
 
-enum_told : tie.Need-enum-told
-enum_told c = search rules
+enum_told-1 : tie.Need-enum_told-1
+enum_told-1 c = search rules
 
-add-word : tie.Need-overflow-add-word
-add-word c = search rules
+overflow_add-a : tie.Need-overflow_add-a
+overflow_add-a c = search rules
 
-word-requires : tie.Need-word-requires
-word-requires c κs = search rules
+word-min-requires : tie.Need-word-min-requires
+word-min-requires c κs = search rules
 
-add-word-2 : tie.Need-overflow-add-word-2
-add-word-2 c = search rules
+overflow_add-a-in-Dual : tie.Need-overflow_add-a-in-Dual
+overflow_add-a-in-Dual c = search rules
 
-word-requires-2 : tie.Need-word-requires-2
-word-requires-2 c κs = search rules
+word-max-requires : tie.Need-word-max-requires
+word-max-requires c κs = search rules
 
 int-requires : tie.Need-int-requires
 int-requires c κs = search rules
 
-enum-told-2 : tie.Need-enum-told-2
-enum-told-2 c = search rules
+enum_told-in-Glb : tie.Need-enum_told-in-Glb
+enum_told-in-Glb c = search rules
 
-enum-told-3 : tie.Need-enum-told-3
-enum-told-3 c = search rules
+enum_told-in-Lub : tie.Need-enum_told-in-Lub
+enum_told-in-Lub c = search rules
 
-same_length : tie.Need-same-length
-same_length c = search rules
+shape_of-new : tie.Need-shape_of-new
+shape_of-new c = search rules
 
-returns : tie.Need-returns
-returns c = search int-dual
+returns-in-Dual : tie.Need-returns-in-Dual
+returns-in-Dual c = search int-dual
 
-returns-2 : tie.Need-returns-2
-returns-2 c = search int-glb
+returns-in-Glb : tie.Need-returns-in-Glb
+returns-in-Glb c = search int-glb
 
-returns-3 : tie.Need-returns-3
-returns-3 c = search int-lub
+returns-in-Lub : tie.Need-returns-in-Lub
+returns-in-Lub c = search int-lub
 
-pub int-of-spec : {M : Type 1} → statement M
-int-of-spec =
+pub int_of_spec : {M : Type 1} → statement M
+int_of_spec =
     tie.close
     (tie.spec
-    enum_told
-    add-word
-    word-requires
-    add-word-2
-    word-requires-2
+    enum_told-1
+    overflow_add-a
+    word-min-requires
+    overflow_add-a-in-Dual
+    word-max-requires
     int-requires
-    enum-told-2
-    enum-told-3
-    same_length
-    returns
-    returns-2
-    returns-3)
+    enum_told-in-Glb
+    enum_told-in-Lub
+    shape_of-new
+    returns-in-Dual
+    returns-in-Glb
+    returns-in-Lub)
