@@ -4,39 +4,39 @@ use borrow.Author.Rules.{rules}
 use Rattle.walk_fields.proofs.fields_in.Statement.{statement}
 use Rattle.walk_fields.proofs.fields_in.Tie as tie
 
-add-finals-of : tie.Need-overflow-add-finals-of
-add-finals-of c = search rules
+overflow_add-a : tie.Need-overflow_add-a
+overflow_add-a c = search rules
 
-finals-of-requires : tie.Need-finals-of-requires
-finals-of-requires c κs = search rules
+finals_of-requires : tie.Need-finals_of-requires
+finals_of-requires c κs = search rules
 
-slice-reshare-prefix-made-again : tie.Need-slice-reshare-prefix-made-preserved
-slice-reshare-prefix-made-again c = search rules
+made_again-requires : tie.Need-made_again-requires
+made_again-requires c κs = (search rules, ((search rules, search finals_many, search rules), ((search rules, search finals_fit), search rules)))
 
-slice-aggregate-made-again : tie.Need-slice-aggregate-made-preserved
-slice-aggregate-made-again c = search finals_many
+shape_of-new : tie.Need-shape_of-new
+shape_of-new c = search rules
 
-made-again-requires : tie.Need-made-again-requires
-made-again-requires c κs = (search rules, ((search rules, search finals_many, search rules), ((search rules, search finals_fit), search rules)))
-
-same_length : tie.Need-same-length
-same_length c = search rules
-
-same-length-2 : tie.Need-same-length-2
-same-length-2 c = search rules
+shape_of-finals : tie.Need-shape_of-finals
+shape_of-finals c = search rules
 
 returns : tie.Need-returns
 returns c = search fields_walked
 
-pub fields-in-spec : {M : Type 1} → statement M
-fields-in-spec =
+slice_bounds-made_again-end : tie.Need-slice_bounds-made_again-end
+slice_bounds-made_again-end c = search rules
+
+slice_bounds-made_again-end-2 : tie.Need-slice_bounds-made_again-end-2
+slice_bounds-made_again-end-2 c = search rules
+
+pub fields_in_spec : {M : Type 1} → statement M
+fields_in_spec =
     tie.close
     (tie.spec
-    add-finals-of
-    finals-of-requires
-    slice-reshare-prefix-made-again
-    slice-aggregate-made-again
-    made-again-requires
-    same_length
-    same-length-2
+    overflow_add-a
+    finals_of-requires
+    slice_bounds-made_again-end
+    slice_bounds-made_again-end-2
+    made_again-requires
+    shape_of-new
+    shape_of-finals
     returns)

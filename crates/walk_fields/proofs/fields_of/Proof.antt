@@ -4,23 +4,23 @@ use borrow.Author.Rules.{rules}
 use Rattle.walk_fields.proofs.fields_of.Statement.{statement}
 use Rattle.walk_fields.proofs.fields_of.Tie as tie
 
-slice-aggregate-fields-in : tie.Need-slice-aggregate-fields-in
-slice-aggregate-fields-in c = search rules
+slice_bounds-fields_in-end : tie.Need-slice_bounds-fields_in-end
+slice_bounds-fields_in-end c = search rules
 
-fields-in-requires : tie.Need-fields-in-requires
-fields-in-requires c κs = (search rules, ((search rules, omega (arith, c.before.before.before.before.before.before.requires.1.0.0), search rules), (search rules, search rules)))
+fields_in-requires : tie.Need-fields_in-requires
+fields_in-requires c κs = (search rules, ((search rules, omega (arith, c.requires.1.0.0), search rules), (search rules, search rules)))
 
-same_length : tie.Need-same-length
-same_length c = search rules
+shape_of-new : tie.Need-shape_of-new
+shape_of-new c = search rules
 
 returns : tie.Need-returns
 returns c = search rules
 
-pub fields-of-spec : {M : Type 1} → statement M
-fields-of-spec =
+pub fields_of_spec : {M : Type 1} → statement M
+fields_of_spec =
     tie.close
     (tie.spec
-    slice-aggregate-fields-in
-    fields-in-requires
-    same_length
+    slice_bounds-fields_in-end
+    fields_in-requires
+    shape_of-new
     returns)

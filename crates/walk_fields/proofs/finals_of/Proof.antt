@@ -9,71 +9,68 @@ use borrow.Author.Rules.{rules}
 use Rattle.walk_fields.proofs.finals_of.Statement.{statement}
 use Rattle.walk_fields.proofs.finals_of.Tie as tie
 
-abbrev invariant-loop : tie.invariant-loop
-invariant-loop walk dst₀ old new used n p i₀ dst i =
+abbrev invariant-loop-i : tie.invariant-loop-i
+invariant-loop-i walk dst₀ old new used n p i₀ dst i =
     (i ≤ n) × (length dst ≡ length dst₀)
     × (take i dst ++ finals walk (take used (old ++ new)) (n - i) (p + 3 * i) ≡ finals walk (take used (old ++ new)) n p)
     × (drop i dst ≡ drop i dst₀)
 
-abbrev decreases-loop : tie.decreases-loop
-decreases-loop walk dst₀ old new used n p i₀ dst i = n - i
+abbrev decreases-loop-i : tie.decreases-loop-i
+decreases-loop-i walk dst₀ old new used n p i₀ dst i = n - i
 
-loop-holds : tie.Need-loop-init invariant-loop decreases-loop
-loop-holds c = (search rules, refl, finals_begin _ _ _ _, refl)
+loop-i-init : tie.Need-loop-i-init invariant-loop-i decreases-loop-i
+loop-i-init c = (search rules, refl, finals_begin _ _ _ _, refl)
 
-mul-word : tie.Need-overflow-mul-word invariant-loop decreases-loop
-mul-word c = search rules
+overflow_mul-i : tie.Need-overflow_mul-i invariant-loop-i decreases-loop-i
+overflow_mul-i c = search rules
 
-add-word : tie.Need-overflow-add-word invariant-loop decreases-loop
-add-word c = search rules
+overflow_add-p : tie.Need-overflow_add-p invariant-loop-i decreases-loop-i
+overflow_add-p c = search rules
 
-word-requires : tie.Need-word-requires invariant-loop decreases-loop
+word-requires : tie.Need-word-requires invariant-loop-i decreases-loop-i
 word-requires c κs = search rules
 
-final-of-requires : tie.Need-final-of-requires invariant-loop decreases-loop
-final-of-requires c κs = search rules
+final_of-requires : tie.Need-final_of-requires invariant-loop-i decreases-loop-i
+final_of-requires c κs = search rules
 
-cast-dst : tie.Need-overflow-cast-dst invariant-loop decreases-loop
-cast-dst c = omega (arith, c.final-of.ensures.1)
+overflow_cast-dst : tie.Need-overflow_cast-dst invariant-loop-i decreases-loop-i
+overflow_cast-dst c = omega (arith, c.final_of.ensures.1)
 
-slice-write-dst : tie.Need-slice-write-dst invariant-loop decreases-loop
-slice-write-dst c = search rules
+bounds-dst-i : tie.Need-bounds-dst-i invariant-loop-i decreases-loop-i
+bounds-dst-i c = search rules
 
-add-i : tie.Need-overflow-add-i invariant-loop decreases-loop
-add-i c = search rules
+overflow_add-i : tie.Need-overflow_add-i invariant-loop-i decreases-loop-i
+overflow_add-i c = search rules
 
-loop-less : tie.Need-loop-smaller invariant-loop decreases-loop
-loop-less c = search rules
+loop-i-smaller : tie.Need-loop-i-smaller invariant-loop-i decreases-loop-i
+loop-i-smaller c = search rules
 
-loop-again : tie.Need-loop-preserved invariant-loop decreases-loop
-loop-again c =
-    let w = c.before in
-    let l = w.before.before in
-    let s = l.before.before.before.before in
-    let f = finals_on _ _ _ _ _ _ _ l.loop.invariant.2 l.loop.invariant.3 s.requires.1.0 l.loop.invariant.1 w.before.loop-test.true _ _ w.word.ensures c.final-of.ensures.0 in
+loop-i-preserved : tie.Need-loop-i-preserved invariant-loop-i decreases-loop-i
+loop-i-preserved c =
+    let f = finals_on _ _ _ _ _ _ _ c.loop-i.invariant.2 c.loop-i.invariant.3 c.requires.1.0 c.loop-i.invariant.1 c.loop-i-test.true _ _ c.word.ensures c.final_of.ensures.0 in
     (search rules, search rules, f.0, f.1)
 
-same_length : tie.Need-same-length invariant-loop decreases-loop
-same_length c = search rules
+shape_of-dst : tie.Need-shape_of-dst invariant-loop-i decreases-loop-i
+shape_of-dst c = search rules
 
-returns : tie.Need-returns invariant-loop decreases-loop
+returns : tie.Need-returns invariant-loop-i decreases-loop-i
 returns c = search finals_end
 
-pub finals-of-spec : {M : Type 1} → statement M
-finals-of-spec =
+pub finals_of_spec : {M : Type 1} → statement M
+finals_of_spec =
     tie.close
     (tie.spec
-    invariant-loop
-    decreases-loop
-    loop-holds
-    mul-word
-    add-word
+    invariant-loop-i
+    decreases-loop-i
+    loop-i-init
+    overflow_mul-i
+    overflow_add-p
     word-requires
-    final-of-requires
-    cast-dst
-    slice-write-dst
-    add-i
-    loop-less
-    loop-again
-    same_length
+    final_of-requires
+    overflow_cast-dst
+    bounds-dst-i
+    overflow_add-i
+    loop-i-smaller
+    loop-i-preserved
+    shape_of-dst
     returns)
