@@ -52,7 +52,7 @@ is_final-shape_of-known-then-contains : (t : ℕ) → is_final_lts.Need-shape_of
 is_final-shape_of-known-then-contains t c = search rules
 
 is_final-returns-then-contains : (t : ℕ) → is_final_lts.Need-returns-then-contains (is_final_K t) (is_final_at t) is_final.Post is_final-invariant-loop-i is_final-decreases-loop-i
-is_final-returns-then-contains t c = (known_final _ c.before.before.before.before.before.before.before.requires.1.1 (sym c.before.contains.ensures ∙ c.if-contains.true), c.before.before.before.before.before.before.before.requires.1.1)
+is_final-returns-then-contains t c = (known_final _ c.requires.1.1 (sym c.contains.ensures ∙ c.if-contains.true), c.requires.1.1)
 
 is_final-overflow_add-a : (t : ℕ) → is_final_lts.Need-overflow_add-a (is_final_K t) (is_final_at t) is_final.Post is_final-invariant-loop-i is_final-decreases-loop-i
 is_final-overflow_add-a t c = search rules
@@ -62,9 +62,9 @@ is_final-word-to-requires t c κs = search rules
 
 is_final-is_final-r-requires : (t : ℕ) → is_final_lts.Need-is_final-r-requires (is_final_K t) (is_final_at t) is_final.Post is_final-invariant-loop-i is_final-decreases-loop-i
 is_final-is_final-r-requires t c κs =
-    let P = c.before.before.before.before.before.before.before.before.before.before.requires.1.0 in
-    let n = part_ready P (pointer_part P.well_formed P.first _ c.before.before.before.before.before.before.word-head.ensures c.before.before.if-kind-eq-MEM_PTR.true _ c.before.word-to.ensures) in
-    (omega (arith, n.0), (n.1, c.before.before.before.before.before.before.before.before.before.before.requires.1.1))
+    let P = c.requires.1.0 in
+    let n = part_ready P (pointer_part P.well_formed P.first _ c.word-head.ensures c.if-kind-eq-MEM_PTR.true _ c.word-to.ensures) in
+    (omega (arith, n.0), (n.1, c.requires.1.1))
 
 is_final-kept-requires : (t : ℕ) → is_final_lts.Need-kept-requires (is_final_K t) (is_final_at t) is_final.Post is_final-invariant-loop-i is_final-decreases-loop-i
 is_final-kept-requires t c κs = search rules
@@ -74,22 +74,22 @@ is_final-shape_of-known-then-kind-eq-MEM_PTR t c = search rules
 
 is_final-returns-then-kind-eq-MEM_PTR : (t : ℕ) → is_final_lts.Need-returns-then-kind-eq-MEM_PTR (is_final_K t) (is_final_at t) is_final.Post is_final-invariant-loop-i is_final-decreases-loop-i
 is_final-returns-then-kind-eq-MEM_PTR t c =
-    let P = c.before.before.before.before.before.before.before.before.before.before.before.before.before.before.before.before.before.requires.1.0 in
-    kept_both P.well_formed P.first c.before.before.before.before.before.before.is_final-r.ensures.1 (final_pointer P.well_formed P.first _ c.before.before.before.before.before.before.before.before.before.before.before.before.before.word-head.ensures c.before.before.before.before.before.before.before.before.before.if-kind-eq-MEM_PTR.true _ c.before.before.before.before.before.before.before.before.word-to.ensures _ c.before.before.before.before.before.before.is_final-r.ensures.0) c.before.before.kept.ensures.0 c.before.before.kept.ensures.1
+    let P = c.requires.1.0 in
+    kept_both P.well_formed P.first c.is_final-r.ensures.1 (final_pointer P.well_formed P.first _ c.word-head.ensures c.if-kind-eq-MEM_PTR.true _ c.word-to.ensures _ c.is_final-r.ensures.0) c.auto.ensures.0 c.auto.ensures.1
 
 is_final-shape_of-known-then-kind-ne-STRUCT : (t : ℕ) → is_final_lts.Need-shape_of-known-then-kind-ne-STRUCT (is_final_K t) (is_final_at t) is_final.Post is_final-invariant-loop-i is_final-decreases-loop-i
 is_final-shape_of-known-then-kind-ne-STRUCT t c = search rules
 
 is_final-returns-then-kind-ne-STRUCT : (t : ℕ) → is_final_lts.Need-returns-then-kind-ne-STRUCT (is_final_K t) (is_final_at t) is_final.Post is_final-invariant-loop-i is_final-decreases-loop-i
 is_final-returns-then-kind-ne-STRUCT t c =
-    let P = c.before.before.before.before.before.before.before.before.before.requires.1.0 in
-    (final_other P.well_formed P.first _ c.before.before.before.before.before.word-head.ensures c.before.if-kind-eq-MEM_PTR.false (λ e. omega (arith, c.if-kind-ne-STRUCT.true)), c.before.before.before.before.before.before.before.before.before.requires.1.1)
+    let P = c.requires.1.0 in
+    (final_other P.well_formed P.first _ c.word-head.ensures c.if-kind-eq-MEM_PTR.false (λ e. omega (arith, c.if-kind-ne-STRUCT.true)), c.requires.1.1)
 
 is_final-loop-i-init : (t : ℕ) → is_final_lts.Need-loop-i-init (is_final_K t) (is_final_at t) is_final.Post is_final-invariant-loop-i is_final-decreases-loop-i
 is_final-loop-i-init t c =
-    let P = c.before.before.before.before.before.before.before.before.before.requires.1.0 in
-    let x = c.before.before.before.before.before.word-head.ensures in
-    (search rules, struct_few P.well_formed P.first _ x, omega (arith, P.near, P.within, P.small), struct_begin P.well_formed P.first _ x c.before.if-kind-eq-MEM_PTR.false (omega (arith, c.if-kind-ne-STRUCT.false)), c.before.before.before.before.before.before.before.before.before.requires.1.1, refl)
+    let P = c.requires.1.0 in
+    let x = c.word-head.ensures in
+    (search rules, struct_few P.well_formed P.first _ x, omega (arith, P.near, P.within, P.small), struct_begin P.well_formed P.first _ x c.if-kind-eq-MEM_PTR.false (omega (arith, c.if-kind-ne-STRUCT.false)), c.requires.1.1, refl)
 
 is_final-overflow_add-p : (t : ℕ) → is_final_lts.Need-overflow_add-p (is_final_K t) (is_final_at t) is_final.Post is_final-invariant-loop-i is_final-decreases-loop-i
 is_final-overflow_add-p t c = search rules
@@ -110,21 +110,21 @@ is_final-shape_of-known-then-flag-ne1 : (t : ℕ) → is_final_lts.Need-shape_of
 is_final-shape_of-known-then-flag-ne1 t c = search rules
 
 is_final-returns-then-flag-ne1 : (t : ℕ) → is_final_lts.Need-returns-then-flag-ne1 (is_final_K t) (is_final_at t) is_final.Post is_final-invariant-loop-i is_final-decreases-loop-i
-is_final-returns-then-flag-ne1 t c = (search left_not_final, c.before.before.before.loop-i.invariant.4)
+is_final-returns-then-flag-ne1 t c = (search left_not_final, c.loop-i.invariant.4)
 
 is_final-word-t-requires : (t : ℕ) → is_final_lts.Need-word-t-requires (is_final_K t) (is_final_at t) is_final.Post is_final-invariant-loop-i is_final-decreases-loop-i
 is_final-word-t-requires t c κs = search rules
 
 is_final-is_final-requires : (t : ℕ) → is_final_lts.Need-is_final-requires (is_final_K t) (is_final_at t) is_final.Post is_final-invariant-loop-i is_final-decreases-loop-i
 is_final-is_final-requires t c κs =
-    let n = part_ready c.before.before.before.before.before.before.before.before.before.before.before.before.before.before.before.requires.1.0 (left_part c.before.before.before.before.before.loop-i.invariant.3 c.before.before.before.before.loop-i-test.true _ c.before.before.before.word-flag.ensures _ c.before.word-t.ensures) in
-    (omega (arith, n.0), (n.1, c.before.before.before.before.before.loop-i.invariant.4))
+    let n = part_ready c.requires.1.0 (left_part c.loop-i.invariant.3 c.loop-i-test.true _ c.word-flag.ensures _ c.word-t.ensures) in
+    (omega (arith, n.0), (n.1, c.loop-i.invariant.4))
 
 is_final-shape_of-known-then-not-is_final : (t : ℕ) → is_final_lts.Need-shape_of-known-then-not-is_final (is_final_K t) (is_final_at t) is_final.Post is_final-invariant-loop-i is_final-decreases-loop-i
 is_final-shape_of-known-then-not-is_final t c = search rules
 
 is_final-returns-then-not-is_final : (t : ℕ) → is_final_lts.Need-returns-then-not-is_final (is_final_K t) (is_final_at t) is_final.Post is_final-invariant-loop-i is_final-decreases-loop-i
-is_final-returns-then-not-is_final t c = (left_stop c.before.before.before.before.before.before.before.before.before.loop-i.invariant.3 c.before.before.before.before.before.before.before.before.loop-i-test.true _ c.before.before.before.before.before.before.before.word-flag.ensures _ c.before.before.before.before.before.word-t.ensures c.before.before.before.before.before.before.if-flag-ne1.false _ c.before.before.before.is_final.ensures.0 (ap not c.if-not-is_final.true), c.before.before.before.is_final.ensures.1)
+is_final-returns-then-not-is_final t c = (left_stop c.loop-i.invariant.3 c.loop-i-test.true _ c.word-flag.ensures _ c.word-t.ensures c.if-flag-ne1.false _ c.is_final.ensures.0 (ap not c.if-not-is_final.true), c.is_final.ensures.1)
 
 is_final-overflow_add-i : (t : ℕ) → is_final_lts.Need-overflow_add-i (is_final_K t) (is_final_at t) is_final.Post is_final-invariant-loop-i is_final-decreases-loop-i
 is_final-overflow_add-i t c = search rules
@@ -134,8 +134,8 @@ is_final-loop-i-smaller t c = search rules
 
 is_final-loop-i-preserved : (t : ℕ) → is_final_lts.Need-loop-i-preserved (is_final_K t) (is_final_at t) is_final.Post is_final-invariant-loop-i is_final-decreases-loop-i
 is_final-loop-i-preserved t c =
-    let J = c.before.before.before.before.before.before.before.before.before.loop-i.invariant in
-    (search rules, J.1, J.2, left_turn J.3 c.before.before.before.before.before.before.before.before.loop-i-test.true _ c.before.before.before.before.before.before.before.word-flag.ensures _ c.before.before.before.before.before.word-t.ensures c.before.before.before.before.before.before.if-flag-ne1.false _ c.before.before.before.is_final.ensures.0 (ap not c.if-not-is_final.false), c.before.before.before.is_final.ensures.1, omega (arith, J.5, c.before.before.before.is_final.auto.1))
+    let J = c.loop-i.invariant in
+    (search rules, J.1, J.2, left_turn J.3 c.loop-i-test.true _ c.word-flag.ensures _ c.word-t.ensures c.if-flag-ne1.false _ c.is_final.ensures.0 (ap not c.if-not-is_final.false), c.is_final.ensures.1, omega (arith, J.5, c.is_final.auto.1))
 
 is_final-kept-requires-2 : (t : ℕ) → is_final_lts.Need-kept-requires-2 (is_final_K t) (is_final_at t) is_final.Post is_final-invariant-loop-i is_final-decreases-loop-i
 is_final-kept-requires-2 t c κs = search rules
@@ -145,8 +145,8 @@ is_final-shape_of-known t c = search rules
 
 is_final-returns : (t : ℕ) → is_final_lts.Need-returns (is_final_K t) (is_final_at t) is_final.Post is_final-invariant-loop-i is_final-decreases-loop-i
 is_final-returns t c =
-    let P = c.before.before.before.before.before.before.before.before.before.before.before.before.before.before.before.requires.1.0 in
-    kept_both P.well_formed P.first c.before.before.before.before.before.loop-i.invariant.4 (left_end c.before.before.before.before.before.loop-i.invariant.3 (omega arith)) c.before.before.kept-2.ensures.0 c.before.before.kept-2.ensures.1
+    let P = c.requires.1.0 in
+    kept_both P.well_formed P.first c.loop-i.invariant.4 (left_end c.loop-i.invariant.3 (omega arith)) c.kept-2.ensures.0 c.kept-2.ensures.1
 
 pub +is_final_spec : {M : Type 1} → statement M
 +is_final_spec = close μ_is_final λ t. is_final_lts.spec (is_final_K t)
