@@ -70,6 +70,8 @@ class Function:
                 k += 1
             if k < len(fields) and fields[k] == "0" and k - 1 < len(refs):
                 return [WORDS.get(fields[0], fields[0]), refs[k - 1]] + fields[k + 1 :]
+            if k == len(fields):
+                return [WORDS.get(fields[0], fields[0])]
         return fields
 
     def count(self, place, target):
@@ -236,7 +238,7 @@ def goals(text, aliases, said, path, function):
 
 
 FIELDS = r'(?:\.[^\s(){}.;,@"«»]+)*'
-WORDS = dict(pre="requires", taken="true", left="false", inv="invariant", kept="auto", last="new", typed="type_inv", came="branch", good="well_formed")
+WORDS = dict(pre="requires", taken="true", left="false", inv="invariant", kept="auto", last="new", typed="type_inv", came="branch")
 
 
 def renamed(fields, it, head=None):
