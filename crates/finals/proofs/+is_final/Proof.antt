@@ -63,7 +63,7 @@ is_final-word-to-requires t c κs = search rules
 is_final-is_final-r-requires : (t : ℕ) → is_final_lts.Need-is_final-r-requires (is_final_K t) (is_final_at t) is_final.Post is_final-invariant-loop-i is_final-decreases-loop-i
 is_final-is_final-r-requires t c κs =
     let P = c.requires.1.0 in
-    let n = part_ready P (pointer_part P.well_formed P.first _ c.word-head.ensures c.if-kind-eq-MEM_PTR.true _ c.word-to.ensures) in
+    let n = part_ready P (pointer_part P.good P.first _ c.word-head.ensures c.if-kind-eq-MEM_PTR.true _ c.word-to.ensures) in
     (omega (arith, n.0), (n.1, c.requires.1.1))
 
 is_final-kept-requires : (t : ℕ) → is_final_lts.Need-kept-requires (is_final_K t) (is_final_at t) is_final.Post is_final-invariant-loop-i is_final-decreases-loop-i
@@ -75,7 +75,7 @@ is_final-shape_of-known-then-kind-eq-MEM_PTR t c = search rules
 is_final-returns-then-kind-eq-MEM_PTR : (t : ℕ) → is_final_lts.Need-returns-then-kind-eq-MEM_PTR (is_final_K t) (is_final_at t) is_final.Post is_final-invariant-loop-i is_final-decreases-loop-i
 is_final-returns-then-kind-eq-MEM_PTR t c =
     let P = c.requires.1.0 in
-    kept_both P.well_formed P.first c.is_final-r.ensures.1 (final_pointer P.well_formed P.first _ c.word-head.ensures c.if-kind-eq-MEM_PTR.true _ c.word-to.ensures _ c.is_final-r.ensures.0) c.auto.ensures.0 c.auto.ensures.1
+    kept_both P.good P.first c.is_final-r.ensures.1 (final_pointer P.good P.first _ c.word-head.ensures c.if-kind-eq-MEM_PTR.true _ c.word-to.ensures _ c.is_final-r.ensures.0) c.auto.ensures.0 c.auto.ensures.1
 
 is_final-shape_of-known-then-kind-ne-STRUCT : (t : ℕ) → is_final_lts.Need-shape_of-known-then-kind-ne-STRUCT (is_final_K t) (is_final_at t) is_final.Post is_final-invariant-loop-i is_final-decreases-loop-i
 is_final-shape_of-known-then-kind-ne-STRUCT t c = search rules
@@ -83,13 +83,13 @@ is_final-shape_of-known-then-kind-ne-STRUCT t c = search rules
 is_final-returns-then-kind-ne-STRUCT : (t : ℕ) → is_final_lts.Need-returns-then-kind-ne-STRUCT (is_final_K t) (is_final_at t) is_final.Post is_final-invariant-loop-i is_final-decreases-loop-i
 is_final-returns-then-kind-ne-STRUCT t c =
     let P = c.requires.1.0 in
-    (final_other P.well_formed P.first _ c.word-head.ensures c.if-kind-eq-MEM_PTR.false (λ e. omega (arith, c.if-kind-ne-STRUCT.true)), c.requires.1.1)
+    (final_other P.good P.first _ c.word-head.ensures c.if-kind-eq-MEM_PTR.false (λ e. omega (arith, c.if-kind-ne-STRUCT.true)), c.requires.1.1)
 
 is_final-loop-i-init : (t : ℕ) → is_final_lts.Need-loop-i-init (is_final_K t) (is_final_at t) is_final.Post is_final-invariant-loop-i is_final-decreases-loop-i
 is_final-loop-i-init t c =
     let P = c.requires.1.0 in
     let x = c.word-head.ensures in
-    (search rules, struct_few P.well_formed P.first _ x, omega (arith, P.near, P.within, P.small), struct_begin P.well_formed P.first _ x c.if-kind-eq-MEM_PTR.false (omega (arith, c.if-kind-ne-STRUCT.false)), c.requires.1.1, refl)
+    (search rules, struct_few P.good P.first _ x, omega (arith, P.near, P.within, P.small), struct_begin P.good P.first _ x c.if-kind-eq-MEM_PTR.false (omega (arith, c.if-kind-ne-STRUCT.false)), c.requires.1.1, refl)
 
 is_final-overflow_add-p : (t : ℕ) → is_final_lts.Need-overflow_add-p (is_final_K t) (is_final_at t) is_final.Post is_final-invariant-loop-i is_final-decreases-loop-i
 is_final-overflow_add-p t c = search rules
@@ -135,7 +135,7 @@ is_final-loop-i-smaller t c = search rules
 is_final-loop-i-preserved : (t : ℕ) → is_final_lts.Need-loop-i-preserved (is_final_K t) (is_final_at t) is_final.Post is_final-invariant-loop-i is_final-decreases-loop-i
 is_final-loop-i-preserved t c =
     let J = c.loop-i.invariant in
-    (search rules, J.1, J.2, left_turn J.3 c.loop-i-test.true _ c.word-flag.ensures _ c.word-t.ensures c.if-flag-ne1.false _ c.is_final.ensures.0 (ap not c.if-not-is_final.false), c.is_final.ensures.1, omega (arith, J.5, c.is_final.auto.1))
+    (search rules, J.1, J.2, left_turn J.3 c.loop-i-test.true _ c.word-flag.ensures _ c.word-t.ensures c.if-flag-ne1.false _ c.is_final.ensures.0 (ap not c.if-not-is_final.false), c.is_final.ensures.1, omega (arith, J.5, c.is_final.auto))
 
 is_final-kept-requires-2 : (t : ℕ) → is_final_lts.Need-kept-requires-2 (is_final_K t) (is_final_at t) is_final.Post is_final-invariant-loop-i is_final-decreases-loop-i
 is_final-kept-requires-2 t c κs = search rules
@@ -146,7 +146,7 @@ is_final-shape_of-known t c = search rules
 is_final-returns : (t : ℕ) → is_final_lts.Need-returns (is_final_K t) (is_final_at t) is_final.Post is_final-invariant-loop-i is_final-decreases-loop-i
 is_final-returns t c =
     let P = c.requires.1.0 in
-    kept_both P.well_formed P.first c.loop-i.invariant.4 (left_end c.loop-i.invariant.3 (omega arith)) c.kept-2.ensures.0 c.kept-2.ensures.1
+    kept_both P.good P.first c.loop-i.invariant.4 (left_end c.loop-i.invariant.3 (omega arith)) c.kept-2.ensures.0 c.kept-2.ensures.1
 
 pub +is_final_spec : {M : Type 1} → statement M
 +is_final_spec = close μ_is_final λ t. is_final_lts.spec (is_final_K t)
