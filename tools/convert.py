@@ -335,7 +335,7 @@ def block(text, it, labels, own, function, path, said, helpers):
                 new = ".".join([word] + fields)
             elif word in above and k < len(fields):
                 changed, _ = it.path(place, fields[k:])
-                if changed == fields[k:] and fields[k] in WORDS:
+                if changed == fields[k:] and fields[k] in WORDS and norm(fields[k]) not in it.any:
                     changed = [WORDS[fields[k]]] + fields[k + 1 :]
                 new = ".".join([root] + changed)
                 if bound:
