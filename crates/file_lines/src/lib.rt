@@ -209,9 +209,9 @@ fn save_in(
 fn keep_file(output: &[u8], n: u64, file: &mut [u8]) -> usize {
     let most = least(output.len(), file.len());
     if n < most as u64 {
-        return bytes::copy(&output[0..n as usize], file);
+        return script::copy(&output[0..n as usize], file);
     }
-    bytes::copy(&output[0..most], file)
+    script::copy(&output[0..most], file)
 }
 
 // Puts a value into every byte.
@@ -277,7 +277,7 @@ fn add(line: &[u8], stop: usize, text: &mut [u8], file: &mut [u8], size: &mut us
     if file.len() - at < n {
         return Reply::Malformed;
     }
-    bytes::copy(&text[0..n], &mut file[at..]);
+    script::copy(&text[0..n], &mut file[at..]);
     *size = at + n;
     Reply::Short(Answer::Accepted)
 }

@@ -4,35 +4,35 @@ use borrow.Author.Rules.{rules}
 use Rattle.file_lines.proofs.load_said.Statement.{statement}
 use Rattle.file_lines.proofs.load_said.Tie as tie
 
-rest-requires : tie.Need-rest-requires
-rest-requires c κs = search rules
+rest-count-requires : tie.Need-rest-count-requires
+rest-count-requires c κs = search rules
 
-enum-known-count : tie.Need-enum-known-count
-enum-known-count c = search rules
+enum_known-count : tie.Need-enum_known-count
+enum_known-count c = search rules
 
-enum_told : tie.Need-enum-told
-enum_told c = search rules
+enum_told-1 : tie.Need-enum_told-1
+enum_told-1 c = search rules
 
-same_length : tie.Need-same-length
-same_length c = search rules
+shape_of-text-in_default : tie.Need-shape_of-text-in_default
+shape_of-text-in_default c = search rules
 
-returns : tie.Need-returns
-returns c = search rules
+returns-in_default : tie.Need-returns-in_default
+returns-in_default c = search rules
 
-same-length-2 : tie.Need-same-length-2
-same-length-2 c = search rules
+shape_of-text-then-most-n : tie.Need-shape_of-text-then-most-n
+shape_of-text-then-most-n c = search rules
 
-returns-2 : tie.Need-returns-2
-returns-2 c = search rules
+returns-then-most-n : tie.Need-returns-then-most-n
+returns-then-most-n c = search rules
 
-sub-load : tie.Need-overflow-sub-load
-sub-load c = search rules
+slice_bounds-load-count : tie.Need-slice_bounds-load-count
+slice_bounds-load-count c = search rules
 
-part-load-start : tie.Need-slice-bounds-load-start
-part-load-start c = search rules
+slice_bounds-load-start : tie.Need-slice_bounds-load-start
+slice_bounds-load-start c = search rules
 
-part-load-end : tie.Need-slice-bounds-load-end
-part-load-end c = search within
+slice_bounds-load-end : tie.Need-slice_bounds-load-end
+slice_bounds-load-end c = search within
 
 load-requires : tie.Need-load-requires
 load-requires c κs = search rules
@@ -40,31 +40,31 @@ load-requires c κs = search rules
 told-requires : tie.Need-told-requires
 told-requires c κs = search rules
 
-same-length-3 : tie.Need-same-length-3
-same-length-3 c = search rules
+shape_of-words : tie.Need-shape_of-words
+shape_of-words c = search rules
 
-same-length-4 : tie.Need-same-length-4
-same-length-4 c = search rules
+shape_of-text : tie.Need-shape_of-text
+shape_of-text c = search rules
 
-returns-3 : tie.Need-returns-3
-returns-3 c = search rules
+returns : tie.Need-returns
+returns c = search rules
 
-pub load-said-spec : {M : Type 1} → statement M
-load-said-spec =
+pub load_said_spec : {M : Type 1} → statement M
+load_said_spec =
     tie.close
     (tie.spec
-    rest-requires
-    enum-known-count
-    enum_told
-    same_length
-    returns
-    same-length-2
-    returns-2
-    sub-load
-    part-load-start
-    part-load-end
+    rest-count-requires
+    enum_known-count
+    enum_told-1
+    shape_of-text-in_default
+    returns-in_default
+    shape_of-text-then-most-n
+    returns-then-most-n
+    slice_bounds-load-count
+    slice_bounds-load-start
+    slice_bounds-load-end
     load-requires
     told-requires
-    same-length-3
-    same-length-4
-    returns-3)
+    shape_of-words
+    shape_of-text
+    returns)

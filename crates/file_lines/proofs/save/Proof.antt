@@ -4,115 +4,115 @@ use borrow.Author.Rules.{rules}
 use Rattle.file_lines.proofs.save.Statement.{statement}
 use Rattle.file_lines.proofs.save.Tie as tie
 
-label-end-requires : tie.Need-label-end-requires
-label-end-requires c κs = search rules
+label_end-end-requires : tie.Need-label_end-end-requires
+label_end-end-requires c κs = search rules
 
-sub-rest : tie.Need-overflow-sub-rest
-sub-rest c = search rules
+slice_bounds-rest-count : tie.Need-slice_bounds-rest-count
+slice_bounds-rest-count c = search rules
 
-part-rest-start : tie.Need-slice-bounds-rest-start
-part-rest-start c = search rules
+slice_bounds-rest-start : tie.Need-slice_bounds-rest-start
+slice_bounds-rest-start c = search rules
 
-part-rest-end : tie.Need-slice-bounds-rest-end
-part-rest-end c = search rules
+slice_bounds-rest-end : tie.Need-slice_bounds-rest-end
+slice_bounds-rest-end c = search rules
 
-rest-requires : tie.Need-rest-requires
-rest-requires c κs = search rules
+rest-label-requires : tie.Need-rest-label-requires
+rest-label-requires c κs = search rules
 
-enum-known-label : tie.Need-enum-known-label
-enum-known-label c = search rules
+enum_known-label : tie.Need-enum_known-label
+enum_known-label c = search rules
 
-enum_told : tie.Need-enum-told
-enum_told c = search rules
+enum_told-1 : tie.Need-enum_told-1
+enum_told-1 c = search rules
 
-same_length : tie.Need-same-length
-same_length c = search rules
+shape_of-text-in_default : tie.Need-shape_of-text-in_default
+shape_of-text-in_default c = search rules
 
-returns : tie.Need-returns
-returns c = search rules
+returns-in_default : tie.Need-returns-in_default
+returns-in_default c = search rules
 
-slice-aggregate-says : tie.Need-slice-aggregate-says
-slice-aggregate-says c = search rules
+slice_bounds-says-end : tie.Need-slice_bounds-says-end
+slice_bounds-says-end c = search rules
 
 says-requires : tie.Need-says-requires
 says-requires c κs = search rules
 
-same-length-2 : tie.Need-same-length-2
-same-length-2 c = search rules
+shape_of-text-then-not-says : tie.Need-shape_of-text-then-not-says
+shape_of-text-then-not-says c = search rules
 
-returns-2 : tie.Need-returns-2
-returns-2 c = search rules
+returns-then-not-says : tie.Need-returns-then-not-says
+returns-then-not-says c = search rules
 
-array-read-room : tie.Need-array-read-room
-array-read-room c = search rules
+bounds-numbers-0 : tie.Need-bounds-numbers-0
+bounds-numbers-0 c = search rules
 
-same-length-3 : tie.Need-same-length-3
-same-length-3 c = search rules
+shape_of-text-then-room-saved : tie.Need-shape_of-text-then-room-saved
+shape_of-text-then-room-saved c = search rules
 
-returns-3 : tie.Need-returns-3
-returns-3 c = search rules
+returns-then-room-saved : tie.Need-returns-then-room-saved
+returns-then-room-saved c = search rules
 
-sub-save-in : tie.Need-overflow-sub-save-in
-sub-save-in c = search rules
+slice_bounds-save_in-count : tie.Need-slice_bounds-save_in-count
+slice_bounds-save_in-count c = search rules
 
-part-save-in-start : tie.Need-slice-bounds-save-in-start
-part-save-in-start c = search rules
+slice_bounds-save_in-start : tie.Need-slice_bounds-save_in-start
+slice_bounds-save_in-start c = search rules
 
-part-save-in-end : tie.Need-slice-bounds-save-in-end
-part-save-in-end c = search within
+slice_bounds-save_in-end : tie.Need-slice_bounds-save_in-end
+slice_bounds-save_in-end c = search within
 
-sub-save-in-2 : tie.Need-overflow-sub-save-in-2
-sub-save-in-2 c = search rules
+slice_bounds-save_in-count-2 : tie.Need-slice_bounds-save_in-count-2
+slice_bounds-save_in-count-2 c = search rules
 
-part-save-in-start-2 : tie.Need-slice-bounds-save-in-start-2
-part-save-in-start-2 c = search rules
+slice_bounds-save_in-start-2 : tie.Need-slice_bounds-save_in-start-2
+slice_bounds-save_in-start-2 c = search rules
 
-part-save-in-end-2 : tie.Need-slice-bounds-save-in-end-2
-part-save-in-end-2 c = search rules
+slice_bounds-save_in-end-2 : tie.Need-slice_bounds-save_in-end-2
+slice_bounds-save_in-end-2 c = search rules
 
-save-in-requires : tie.Need-save-in-requires
-save-in-requires c κs = search rules
+save_in-requires : tie.Need-save_in-requires
+save_in-requires c κs = search rules
 
-same-length-4 : tie.Need-same-length-4
-same-length-4 c = search rules
+shape_of-text : tie.Need-shape_of-text
+shape_of-text c = search rules
 
-same-length-5 : tie.Need-same-length-5
-same-length-5 c = search rules
+shape_of-file : tie.Need-shape_of-file
+shape_of-file c = search rules
 
-same-length-6 : tie.Need-same-length-6
-same-length-6 c = search rules
+shape_of-saved : tie.Need-shape_of-saved
+shape_of-saved c = search rules
 
-returns-4 : tie.Need-returns-4
-returns-4 c = search rules
+returns : tie.Need-returns
+returns c = search rules
 
-pub save-spec : {M : Type 1} → statement M
-save-spec =
+pub save_spec : {M : Type 1} → statement M
+save_spec =
     tie.close
     (tie.spec
-    label-end-requires
-    sub-rest
-    part-rest-start
-    part-rest-end
-    rest-requires
-    enum-known-label
-    enum_told
-    same_length
-    returns
-    slice-aggregate-says
+    label_end-end-requires
+    slice_bounds-rest-count
+    slice_bounds-rest-start
+    slice_bounds-rest-end
+    rest-label-requires
+    enum_known-label
+    enum_told-1
+    shape_of-text-in_default
+    returns-in_default
+    slice_bounds-says-end
     says-requires
-    same-length-2
-    returns-2
-    array-read-room
-    same-length-3
-    returns-3
-    sub-save-in
-    part-save-in-start
-    part-save-in-end
-    sub-save-in-2
-    part-save-in-start-2
-    part-save-in-end-2
-    save-in-requires
-    same-length-4
-    same-length-5
-    same-length-6
-    returns-4)
+    shape_of-text-then-not-says
+    returns-then-not-says
+    bounds-numbers-0
+    shape_of-text-then-room-saved
+    returns-then-room-saved
+    slice_bounds-save_in-count
+    slice_bounds-save_in-start
+    slice_bounds-save_in-end
+    slice_bounds-save_in-count-2
+    slice_bounds-save_in-start-2
+    slice_bounds-save_in-end-2
+    save_in-requires
+    shape_of-text
+    shape_of-file
+    shape_of-saved
+    returns)
