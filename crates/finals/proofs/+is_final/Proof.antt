@@ -75,7 +75,7 @@ is_final-shape_of-known-then-kind-eq-MEM_PTR t c = search rules
 is_final-returns-then-kind-eq-MEM_PTR : (t : ℕ) → is_final_lts.Need-returns-then-kind-eq-MEM_PTR (is_final_K t) (is_final_at t) is_final.Post is_final-invariant-loop-i is_final-decreases-loop-i
 is_final-returns-then-kind-eq-MEM_PTR t c =
     let P = c.requires.1.0 in
-    kept_both P.good P.first c.is_final-r.ensures.1 (final_pointer P.good P.first _ c.word-head.ensures c.if-kind-eq-MEM_PTR.true _ c.word-to.ensures _ c.is_final-r.ensures.0) c.auto.ensures.0 c.auto.ensures.1
+    kept_both P.good P.first c.is_final-r.ensures.1 (final_pointer P.good P.first _ c.word-head.ensures c.if-kind-eq-MEM_PTR.true _ c.word-to.ensures _ c.is_final-r.ensures.0) c.kept.ensures.0 c.kept.ensures.1
 
 is_final-shape_of-known-then-kind-ne-STRUCT : (t : ℕ) → is_final_lts.Need-shape_of-known-then-kind-ne-STRUCT (is_final_K t) (is_final_at t) is_final.Post is_final-invariant-loop-i is_final-decreases-loop-i
 is_final-shape_of-known-then-kind-ne-STRUCT t c = search rules
