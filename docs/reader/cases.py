@@ -3,7 +3,7 @@ import struct
 
 from lex import Group, Token, grouped, is_text, split
 
-ANSWERS = {"handle": "{}", "number": "{}", "signedNumber": "{}", "refused": "refused, {}", "constantBits": "constant {}"}
+ANSWERS = {"handle": "{}", "number": "{}", "signed_number": "{}", "refused": "refused, {}", "constant_bits": "constant {}"}
 
 
 class Case:
@@ -48,13 +48,13 @@ def line_of(line):
 def call(items):
     name = items[0].text
     arguments = [argument(item, name) for item in items[1:]]
-    return f"{name.replace('-', '_')}({', '.join(arguments)})"
+    return f"{name}({', '.join(arguments)})"
 
 
 def argument(item, name):
     if isinstance(item, Group):
-        return listed(item, 4 if name == "get-struct" else 1)
-    return real(item.text) if name == "get-float" and item.text.startswith("0x") else item.text
+        return listed(item, 4 if name == "get_struct" else 1)
+    return real(item.text) if name == "get_float" and item.text.startswith("0x") else item.text
 
 
 def real(text):

@@ -5,6 +5,8 @@ from lex import Token, grouped, significant, tokens
 from terms import Bound, mark_words, set_role
 
 WORDS = {"pub", "fn", "extern", "mut", "enum", "struct", "requires", "ensures", "const"}
+CLAUSE = re.compile(r"    (requires|ensures)( \w+)? \{")
+RESULT = "result"
 PRIMITIVE = {"u8", "u16", "u32", "u64", "usize", "i8", "i64", "bool", "f64"}
 RATTLE = re.compile(r"(?P<space>\s+)|(?P<comment>//.*|#\[.*)|(?P<text>b?\"[^\"]*\")|(?P<number>\d\w*)|(?P<name>\w+)|(?P<punct>::|->|.)")
 
@@ -18,10 +20,12 @@ class CodeScope:
         world.fill(self, [significant(tokens(line)) for line in source.ghost])
         self.constants = {name: line for other in world.sources[source.crate] for name, line in other.constants.items()}
         self.types = dict(world.declared[source.crate])
-        for use in source.uses:
-            crate, name = (use.split("::") + [""])[0], use.split("::")[-1]
+        for module, name in source.uses:
+            crate = module.split("::")[0]
             if name in world.declared.get(crate, {}):
                 self.types[name] = world.declared[crate][name]
+            elif crate == "std":
+                self.constants[name] = f"{module}::{name}"
 
     def kind(self, name):
         """The type of the code with this name, as the type of a term in a clause."""
@@ -93,17 +97,18 @@ class Contracts:
             set_role(token, "constant", scope.constants[token.text])
 
     def clause(self, scope, line, parameters, result):
-        """requires { .. }, or ensures { λ r. .. } with r the function's result."""
+        """requires { .. }, or ensures { .. }, in which `result` is the function's. The clause may have a name before the bracket."""
         found = tokens(line)
         solid = significant(found)
         set_role(solid[0], "key")
+        *named, group = grouped(solid)[1:]
+        for name in named:
+            set_role(name, "def")
         mark_words(solid)
-        items = grouped(solid)[1].items
         bound = dict(parameters)
-        if items[0].text == "λ":
-            self.resolver.bind(items[1], result, bound)
-            items = items[3:]
-        self.resolver.walk(scope, items, bound)
+        if solid[0].text == "ensures":
+            bound[RESULT] = Bound(result, self.world.tools.built_in(RESULT))
+        self.resolver.walk(scope, group.items, bound)
         for token in found:
             set_role(token, token.kind if token.kind != "name" else "unresolved")
         return found
@@ -124,17 +129,17 @@ class Contracts:
 
 
 def typed_names(scope, found):
-    """The parameters with their types, also under the escaped spelling that a clause needs for a name with _, and the type of the result."""
+    """The parameters with their types, and the type of the result."""
     parameters, result = {}, None
     for place, token in enumerate(found):
-        after = found[place + 2 : place + 4]
+        after = found[place + 2 : place + 5]
         if token.role == "local":
-            bound = Bound(scope.kind(next((name.text for name in after if name.kind == "name" and name.text != "mut"), "")))
-            parameters[token.text] = parameters[f"«{token.text}»"] = bound
+            kind = scope.kind(next(name.text for name in after if name.text not in ("&", "mut")))
+            parameters[token.text] = Bound(kind, None, after[0].text == "&")
         elif token.text == "->":
             result = scope.kind(found[place + 1].text)
     return parameters, result
 
 
 def is_clause(line):
-    return line.startswith(("    requires {", "    ensures {"))
+    return CLAUSE.match(line) is not None

@@ -9,13 +9,14 @@ CLOSING = {"(": ")", "{": "}"}
 
 
 class Token:
-    """role and target are set when names are looked up: role says what the token is, target what a link leads to."""
+    """role and target are set when names are looked up: role says what the token is, target what a link leads to; type is the type of a name
+    bound nearby and of what a reference lends."""
 
-    __slots__ = ("kind", "text", "line", "at", "role", "target")
+    __slots__ = ("kind", "text", "line", "at", "role", "target", "type")
 
     def __init__(self, kind, text, line, at):
         self.kind, self.text, self.line, self.at = kind, text, line, at
-        self.role, self.target = None, None
+        self.role, self.target, self.type = None, None, None
 
     @property
     def end(self):
@@ -29,6 +30,14 @@ class Group:
 
     def __init__(self, opening, items, closing):
         self.open, self.items, self.close = opening, items, closing
+
+    @property
+    def at(self):
+        return self.open.at
+
+    @property
+    def end(self):
+        return self.close.end
 
 
 def tokens(text, line=1):

@@ -22,7 +22,7 @@ TESTS = (
 )
 TOOLCHAIN = (
     "What the definitions and contracts use of the toolchain's libraries and of its language. "
-    "A _ in a name is the place of an argument: <code>_++_</code> is written between two lists."
+    "A ◌ in a name is the place of an argument: <code>◌++◌</code> is written between two lists."
 )
 
 
@@ -118,7 +118,7 @@ def index(model):
     for crate, types in model.world.declared.items():
         for made in types.values():
             found += [(entry.name, f"{crate}/src", entry) for entry in [made, *made.members.values()]]
-    items = [index_item(*entry) for entry in sorted(found, key=lambda entry: (entry[0].strip("_").lower(), entry[1]))]
+    items = [index_item(*entry) for entry in sorted(found, key=lambda entry: (entry[0].strip("◌").lower(), entry[1]))]
     return section("index", 2, "Index of names", '<ul class="index">' + "\n".join(items) + "</ul>", find="names with these letters")
 
 

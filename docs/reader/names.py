@@ -3,6 +3,8 @@ import repo
 from blocks import MARKS, parsed
 from lex import grouped, is_text, position
 
+PLACE = "◌"  # the place of an argument, in an operator's name
+
 
 class Definition:
     """kind: function, record, data, constructor, field, enum, case, struct. type is its tree (None where there is none to look at), body the right side
@@ -128,4 +130,5 @@ class Anywhere(dict):
 
 
 def parts_of(name):
-    return [part for part in name.split("_") if part] if "_" in name and len(name) > 1 else []
+    """Of a name with places for arguments what stands between them."""
+    return [part for part in name.split(PLACE) if part] if PLACE in name else []

@@ -24,13 +24,13 @@ class Function:
 
 
 class Source:
-    """One file: what it imports, what it declares, its constants, and its functions."""
+    """One file: what it imports (uses: pairs of a module and a name), what it declares, its constants, and its functions."""
 
     def __init__(self, crate, path):
         self.crate, self.path = crate, path
         lines = repo.read(path).split("\n")
         self.ghost = [line[len("ghost ") :].rstrip(";") for line in lines if line.startswith("ghost use ")]
-        self.uses = [line[len("use ") :].rstrip(";") for line in lines if line.startswith("use ")]
+        self.uses = [pair for line in lines if line.startswith("use ") for pair in used(line[len("use ") :].rstrip(";"))]
         self.constants = {CONSTANT.match(line)[1]: line for line in lines if CONSTANT.match(line)}
         self.declared, self.functions = [], []
         for place, line in enumerate(lines):
@@ -38,6 +38,12 @@ class Source:
                 self.declared.append(declared_at(path, lines, place))
             elif FUNCTION.match(line):
                 self.functions.append(function_at(crate, path, lines, place))
+
+
+def used(path):
+    """The module and the name of each thing that a `use` line names: `a::b`, or `a::{b, c}` with several."""
+    module, _, names = path.rpartition("::{") if path.endswith("}") else path.rpartition("::")
+    return [(module, name.strip()) for name in names.rstrip("}").split(",")]
 
 
 def comment_start(lines, place):

@@ -4,15 +4,15 @@ from lex import Group, Token, is_text, place_of, position, split
 
 WORDS = {
     "use", "mod", "pub", "as", "record", "data", "where", "module", "unfoldable", "abbrev", "axiom", "infix", "infixl", "infixr", "let", "in",
-    "unfolding", "elim", "open", "using", "mutual", "do", "→", "λ", "=", ":", "_", "Type", "∀", "⌜", "⌝", "↦", "|", "[", "]", "←",
+    "unfolding", "elim", "open", "using", "mutual", "do", "→", "λ", "=", ":", "_", "Type", "∀", "↦", "|", "[", "]", "←",
 }  # fmt: skip
 
 
 class Bound:
-    """A name bound nearby: its type, where it is known, and for a record's own field what it is."""
+    """A name bound nearby: its type, where it is known, and for a record's own field what it is. lent: it is a reference, a parameter of the code."""
 
-    def __init__(self, kind=None, made=None):
-        self.kind, self.made = kind, made
+    def __init__(self, kind=None, made=None, lent=False):
+        self.kind, self.made, self.lent = kind, made, lent
 
 
 def set_role(token, role, target=None):
@@ -34,8 +34,8 @@ class Terms:
         self.problems = []
 
     def walk(self, file, items, scope):
-        """Roles for all tokens of a term. scope is changed: what is bound on the way holds up to the end of the items. spine is the application that a
-        field may be taken of."""
+        """Roles for all tokens of a term. scope is changed: what is bound on the way holds up to the end of the items. spine is the application so far, of
+        whose last part a field may be taken."""
         spine = []
         place = 0
         while place < len(items):
@@ -46,8 +46,10 @@ class Terms:
                 place, spine = self.abstraction(file, items, place, scope), []
             elif is_text(item, "let"):
                 place, spine = self.binding(file, items, place, scope), []
-            elif is_text(item, ".") and place + 1 < len(items):
-                place, spine = place + 1, [self.projection(file, items[place + 1], spine, scope)]
+            elif self.projects(items, place):
+                place, spine = place + 1, spine[:-1] + [self.projection(file, items[place + 1], spine[-1:], scope)]
+            elif is_text(item, "."):
+                self.problems.append(f"{file.path}:{item.line}: a dot that takes no field, and binds no name")
             elif self.qualified(file, items, place):
                 self.set_qualified(file, items, place)
                 place, spine = place + 2, spine + [items[place + 2]]
@@ -67,8 +69,9 @@ class Terms:
         if token.kind in ("number", "punct"):
             set_role(token, token.kind)
         elif token.text in scope:
-            made = scope[token.text].made
-            set_role(token, "ref" if made else "local", made)
+            bound = scope[token.text]
+            set_role(token, "ref" if bound.made else "local", bound.made)
+            token.type = bound.kind
         elif token.text in file.operators and token.text not in file.scope:
             set_role(token, "ref", file.operators[token.text])
         elif token.text in file.scope:
@@ -91,14 +94,24 @@ class Terms:
         set_role(items[place + 1], "punct")
         set_role(items[place + 2], "ref", self.world.exported(file, module, exports, items[place + 2].text))
 
+    def projects(self, items, place):
+        """Whether the dot of TERM.field stands here, without a space on either side."""
+        return (
+            is_text(items[place], ".") and 0 < place < len(items) - 1
+            and items[place - 1].end == items[place].at and items[place].end == items[place + 1].at
+        )  # fmt: skip
+
     def atoms(self, file, items):
-        """Items in which a qualified name, three tokens, is one: its last token, after the others have their roles."""
+        """Items in which a qualified name, three tokens, is one: its last token, after the others have their roles. And a field with what it is taken of."""
         found = []
         place = 0
         while place < len(items):
             if self.qualified(file, items, place):
                 self.set_qualified(file, items, place)
                 place += 2
+            elif self.projects(items, place):
+                found.pop()
+                place += 1
             found.append(items[place])
             place += 1
         return found
@@ -177,17 +190,22 @@ class Terms:
             yield from (made for made in types.values() if made.kind == "struct")
 
     def projection(self, file, token, spine, scope):
-        """.f behind a term: the field of the term's record. What stands for the whole afterwards is the field's token."""
-        record = record_of(self.inferred(file, spine, scope))
-        built_in = self.world.tools.built_in("." + token.text) if record is None else None
-        if record is None and built_in is None:
-            record = self.only_record(token.text)
+        """.f behind a term: the field of the term's record, or of a reference what it lends. What stands for the whole afterwards is the field's token."""
+        kind = self.inferred(file, spine, scope)
+        if self.is_lent(spine, scope):
+            built_in = self.world.tools.built_in("." + token.text)
+            set_role(token, "ref" if built_in else "unresolved", built_in)
+            token.type = kind
+            return token
+        record = record_of(kind) or self.only_record(token.text)
         if record is not None and token.text in record.members:
             set_role(token, "ref", record.members[token.text])
-        elif built_in is not None:
-            set_role(token, "ref", built_in)
         set_role(token, "number" if token.kind == "number" else "unresolved")
         return token
+
+    def is_lent(self, spine, scope):
+        """Whether a term is a parameter of the code that is a reference."""
+        return len(spine) == 1 and isinstance(spine[0], Token) and spine[0].role == "local" and spine[0].text in scope and scope[spine[0].text].lent
 
     def only_record(self, name):
         found = [made for made in self.records() if name in made.members]
@@ -198,12 +216,11 @@ class Terms:
         atoms = self.atoms(file, items)
         if not atoms or any(is_operator(atom, file) or is_text(atom, "→", "λ", "×") for atom in atoms):
             return None
-        dots = [place for place, atom in enumerate(atoms) if is_text(atom, ".")]
-        head, *arguments = atoms[dots[-1] + 1 :] if dots else atoms
+        head, *arguments = atoms
         if isinstance(head, Group):
             kind = self.inferred(file, head.items, scope)
-        elif head.role == "local" and head.text in scope:
-            kind = scope[head.text].kind
+        elif head.type or head.role == "local":
+            kind = head.type
         else:
             kind = type_of(head.target) if head.role == "ref" else None
         return applied(kind, len(arguments)) if kind else None

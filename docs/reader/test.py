@@ -13,10 +13,10 @@ from reading import Reading
 from tools import LANGUAGE
 from trace_md import Heading, fragments, quoted
 
-SIGNS = set("→ λ = : _ | ∣ [ ] ⌜ ⌝".split())
+SIGNS = set("→ λ = : _ | ∣ [ ]".split())
 SMALL = """-- a small file
-use mathlib.Core.List.{List, [], _∷_}
-use Prim.Native.Nat.{ℕ, max, _+_}
+use mathlib.Core.List.{List, [], ◌∷◌}
+use Rattle.std.specs.Prelude.{ℕ, max, ◌+◌}
 
 pub record Pair : Type 0 where
   pub left : ℕ
@@ -32,8 +32,11 @@ abbrev pub total : ℕ → ℕ
 total max = max + max
 
 abbrev pub lefts : Op → List Other → List ℕ
-lefts f [] = f 0 .right
-lefts f (x ∷ xs) = let total = x in total .left ∷ lefts (λ max. record { left = max; right = [] }) xs
+lefts f [] = (f 0).right
+lefts f (x ∷ xs) = let total = x in total.left ∷ lefts (λ max. record { left = max; right = [] }) xs
+
+abbrev pub sum : Op → Other → Pair → ℕ
+sum f left right = max left.left right.left + (f right.left).left
 """
 # line, text, which of them in the line, role, target
 EXPECTED = [
@@ -41,15 +44,20 @@ EXPECTED = [
     (16, "total", 0, "head", "small.Small.total"),
     (16, "max", 0, "local", None),
     (16, "max", 2, "local", None),
-    (16, "+", 0, "ref", "_+_"),
+    (16, "+", 0, "ref", "◌+◌"),
     (19, "right", 0, "ref", "small.Small.Pair.right"),
-    (20, "∷", 0, "ref", "_∷_"),
+    (20, "∷", 0, "ref", "◌∷◌"),
     (20, "total", 0, "local", None),
     (20, "total", 1, "local", None),
     (20, "left", 0, "ref", "small.Small.Other.left"),
     (20, "lefts", 1, "ref", "small.Small.lefts"),
     (20, "left", 1, "ref", "small.Small.Pair.left"),
     (20, "max", 1, "local", None),
+    (23, "left", 1, "local", None),
+    (23, "left", 2, "ref", "small.Small.Other.left"),
+    (23, "right", 1, "local", None),
+    (23, "left", 3, "ref", "small.Small.Pair.left"),
+    (23, "left", 5, "ref", "small.Small.Pair.left"),
 ]
 
 
@@ -142,7 +150,7 @@ def wrong_links(found):
         equals = next((at for at, piece in enumerate(clause) if piece.kind == "text" and "=" in piece.text.split()), len(clause))
         bound = {piece.text for piece in clause[:equals] if piece.kind == "var"}
         for before, piece in zip(clause[equals:], clause[equals + 1 :]):
-            is_field = before.text.rstrip(" ").endswith((".", "{", ";"))
+            is_field = before.text.endswith(".") or before.text.rstrip(" ").endswith(("{", ";"))
             if piece.kind == "a" and piece.text in bound and not is_field:
                 wrong.append(piece.text)
     return wrong

@@ -25,7 +25,7 @@ NOTATION = [
     ("cond t a b", "a where the test t holds, else b"),
     ("t ⇒ a ∣ rest", "a where the test t holds, else what the lines below say"),
     ("4 when t otherwise ..", "refusal 4 where t holds, else the next row"),
-    ("record { words = u; .. }", "a record with these fields; g .words is a field of g"),
+    ("record { words = u; .. }", "a record with these fields; g.words is a field of g"),
     ("let m = e in ..", "m stands for e in what follows"),
     ("a ≡ b", "the statement that a and b are the same. A theorem is a name with a statement: it has a proof"),
 ]
@@ -110,8 +110,8 @@ def twelve(model, listing):
         "<p>Each case is a list of calls with their answers, from a fresh store, so that the first new entry has handle 94 "
         f"({link(slug(file.id), file.path)}). That all of them hold is one theorem, computed over the same <code>run</code> that the contracts cite:</p>",
         signature_line(listing, proofs["twelve"]),
-        table(heads, case_rows(model, listing, "twelveCases"), "stack cases"),
+        table(heads, case_rows(model, listing, "twelve_cases"), "stack cases"),
         "<p>Document 01's traps, and what it says is also to be run, are a second table:</p>",
         signature_line(listing, proofs["traps"]),
-        table(heads, case_rows(model, listing, "trapCases"), "stack cases"),
+        table(heads, case_rows(model, listing, "trap_cases"), "stack cases"),
     )  # fmt: skip

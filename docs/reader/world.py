@@ -6,7 +6,8 @@ import rt
 from lex import Group, Token, grouped, is_text
 from names import Anywhere, CodeHome, Definition, File, parts_of
 
-MODULE = re.compile(r"Rattle·(\w+?)(?:·(?:specs|proofs))?\.(specs|proofs)\.(.+)")
+MODULE = re.compile(r"Rattle\.(?!std\.)(\w+)\.(specs|proofs)\.(.+)")
+VARIANTS = "TheVariants"
 
 
 class World:
@@ -88,7 +89,7 @@ class World:
         return self.specs[crate, words[0]].exports if (crate, words[0]) in self.specs else {}
 
     def declared_exports(self, crate, words):
-        variants = words[-1] == "the-variants"
+        variants = words[-1] == VARIANTS
         name = words[-2] if variants else words[-1]
         made = self.declared.get(crate, {}).get(name)
         if made is None:
@@ -101,7 +102,7 @@ class World:
             return None
         crate, words = match[1], match[3].split(".")
         if words[0] == "declared":
-            return self.declared.get(crate, {}).get(words[-2] if words[-1] == "the-variants" else words[-1])
+            return self.declared.get(crate, {}).get(words[-2] if words[-1] == VARIANTS else words[-1])
         return self.specs.get((crate, words[0]))
 
 
