@@ -4,31 +4,31 @@ use borrow.Author.Rules.{rules}
 use Rattle.of_structs.proofs.array_rows.Statement.{statement}
 use Rattle.of_structs.proofs.array_rows.Tie as tie
 
-slice-aggregate-all-start : tie.Need-slice-aggregate-all-start
-slice-aggregate-all-start c = search rules
+slice_bounds-all_start-end : tie.Need-slice_bounds-all_start-end
+slice_bounds-all_start-end c = search rules
 
-all-start-requires : tie.Need-all-start-requires
-all-start-requires c κs = search rules
+all_start-requires : tie.Need-all_start-requires
+all_start-requires c κs = search rules
+
+returns-then-not-all_start : tie.Need-returns-then-not-all_start
+returns-then-not-all_start c = search array_2
+
+is_array-requires : tie.Need-is_array-requires
+is_array-requires c κs = search rules
+
+returns-then-not-is_array : tie.Need-returns-then-not-is_array
+returns-then-not-is_array c = search array_3
 
 returns : tie.Need-returns
-returns c = search array_2
+returns c = search array_0
 
-is-array-requires : tie.Need-is-array-requires
-is-array-requires c κs = search rules
-
-returns-2 : tie.Need-returns-2
-returns-2 c = search array_3
-
-returns-3 : tie.Need-returns-3
-returns-3 c = search array_0
-
-pub array-rows-spec : {M : Type 1} → statement M
-array-rows-spec =
+pub array_rows_spec : {M : Type 1} → statement M
+array_rows_spec =
     tie.close
     (tie.spec
-    slice-aggregate-all-start
-    all-start-requires
-    returns
-    is-array-requires
-    returns-2
-    returns-3)
+    slice_bounds-all_start-end
+    all_start-requires
+    returns-then-not-all_start
+    is_array-requires
+    returns-then-not-is_array
+    returns)

@@ -4,17 +4,17 @@ use borrow.Author.Rules.{rules}
 use Rattle.of_structs.proofs.field_name.Statement.{statement}
 use Rattle.of_structs.proofs.field_name.Tie as tie
 
-add-p : tie.Need-overflow-add-p
-add-p c = search rules
+overflow_add-p : tie.Need-overflow_add-p
+overflow_add-p c = search rules
 
-mul-p : tie.Need-overflow-mul-p
-mul-p c = search rules
+overflow_mul-p : tie.Need-overflow_mul-p
+overflow_mul-p c = search rules
 
-add-p-2 : tie.Need-overflow-add-p-2
-add-p-2 c = search rules
+overflow_add-p-2 : tie.Need-overflow_add-p-2
+overflow_add-p-2 c = search rules
 
-slice-aggregate-word : tie.Need-slice-aggregate-word
-slice-aggregate-word c = search rules
+slice_bounds-word-end : tie.Need-slice_bounds-word-end
+slice_bounds-word-end c = search rules
 
 word-requires : tie.Need-word-requires
 word-requires c κs = search rules
@@ -22,6 +22,6 @@ word-requires c κs = search rules
 returns : tie.Need-returns
 returns c = (search rules, search name_low)
 
-pub field-name-spec : {M : Type 1} → statement M
-field-name-spec =
-    tie.close (tie.spec add-p mul-p add-p-2 slice-aggregate-word word-requires returns)
+pub field_name_spec : {M : Type 1} → statement M
+field_name_spec =
+    tie.close (tie.spec overflow_add-p overflow_mul-p overflow_add-p-2 slice_bounds-word-end word-requires returns)

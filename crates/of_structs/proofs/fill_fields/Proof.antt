@@ -11,8 +11,8 @@ use borrow.Author.Rules.{rules}
 use Rattle.of_structs.proofs.fill_fields.Statement.{statement}
 use Rattle.of_structs.proofs.fill_fields.Tie as tie
 
-abbrev invariant-loop : tie.invariant-loop
-invariant-loop words used s output₀ none n i₀ output i =
+abbrev invariant-loop-i : tie.invariant-loop-i
+invariant-loop-i words used s output₀ none n i₀ output i =
     (i ≤ n)
     × (n ≤ 255)
     × (n ≡ count_on (take used words) s)
@@ -20,120 +20,119 @@ invariant-loop words used s output₀ none n i₀ output i =
     × (take (4 * i) output ++ lent_left (take used words) s n i ≡ field_list (take used words) s)
     × (drop (4 * i) output ≡ drop (4 * i) output₀)
 
-abbrev decreases-loop : tie.decreases-loop
-decreases-loop words used s output₀ none n i₀ output i = n - i
+abbrev decreases-loop-i : tie.decreases-loop-i
+decreases-loop-i words used s output₀ none n i₀ output i = n - i
 
-slice-aggregate-word : tie.Need-slice-aggregate-word invariant-loop decreases-loop
-slice-aggregate-word c = search rules
+slice_bounds-word-end : tie.Need-slice_bounds-word-end invariant-loop-i decreases-loop-i
+slice_bounds-word-end c = search rules
 
-word-requires : tie.Need-word-requires invariant-loop decreases-loop
+word-requires : tie.Need-word-requires invariant-loop-i decreases-loop-i
 word-requires c κs = search rules
 
-loop-holds : tie.Need-loop-init invariant-loop decreases-loop
-loop-holds c = (search rules, search rules, search rules, refl, search lent_begin, refl)
+loop-i-init : tie.Need-loop-i-init invariant-loop-i decreases-loop-i
+loop-i-init c = (search rules, search rules, search rules, refl, search lent_begin, refl)
 
-add-p : tie.Need-overflow-add-p invariant-loop decreases-loop
-add-p c = search rules
+overflow_add-p : tie.Need-overflow_add-p invariant-loop-i decreases-loop-i
+overflow_add-p c = search rules
 
-mul-p : tie.Need-overflow-mul-p invariant-loop decreases-loop
-mul-p c = search rules
+overflow_mul-p : tie.Need-overflow_mul-p invariant-loop-i decreases-loop-i
+overflow_mul-p c = search rules
 
-add-p-2 : tie.Need-overflow-add-p-2 invariant-loop decreases-loop
-add-p-2 c = search rules
+overflow_add-p-in-loop-i : tie.Need-overflow_add-p-in-loop-i invariant-loop-i decreases-loop-i
+overflow_add-p-in-loop-i c = search rules
 
-slice-aggregate-word-2 : tie.Need-slice-aggregate-word-2 invariant-loop decreases-loop
-slice-aggregate-word-2 c = search rules
+slice_bounds-word-end-in-loop-i : tie.Need-slice_bounds-word-end-in-loop-i invariant-loop-i decreases-loop-i
+slice_bounds-word-end-in-loop-i c = search rules
 
-word-requires-2 : tie.Need-word-requires-2 invariant-loop decreases-loop
-word-requires-2 c κs = search rules
+word-name-requires : tie.Need-word-name-requires invariant-loop-i decreases-loop-i
+word-name-requires c κs = search rules
 
-slice-aggregate-word-3 : tie.Need-slice-aggregate-word-3 invariant-loop decreases-loop
-slice-aggregate-word-3 c = search rules
+slice_bounds-word-end-in-loop-i-2 : tie.Need-slice_bounds-word-end-in-loop-i-2 invariant-loop-i decreases-loop-i
+slice_bounds-word-end-in-loop-i-2 c = search rules
 
-add-word : tie.Need-overflow-add-word invariant-loop decreases-loop
-add-word c = search rules
+overflow_add-p-in-loop-i-2 : tie.Need-overflow_add-p-in-loop-i-2 invariant-loop-i decreases-loop-i
+overflow_add-p-in-loop-i-2 c = search rules
 
-word-requires-3 : tie.Need-word-requires-3 invariant-loop decreases-loop
-word-requires-3 c κs = search rules
+word-field_type-requires : tie.Need-word-field_type-requires invariant-loop-i decreases-loop-i
+word-field_type-requires c κs = search rules
 
-slice-aggregate-word-4 : tie.Need-slice-aggregate-word-4 invariant-loop decreases-loop
-slice-aggregate-word-4 c = search rules
+slice_bounds-word-end-in-loop-i-3 : tie.Need-slice_bounds-word-end-in-loop-i-3 invariant-loop-i decreases-loop-i
+slice_bounds-word-end-in-loop-i-3 c = search rules
 
-add-word-2 : tie.Need-overflow-add-word-2 invariant-loop decreases-loop
-add-word-2 c = search rules
+overflow_add-p-in-loop-i-3 : tie.Need-overflow_add-p-in-loop-i-3 invariant-loop-i decreases-loop-i
+overflow_add-p-in-loop-i-3 c = search rules
 
-word-requires-4 : tie.Need-word-requires-4 invariant-loop decreases-loop
-word-requires-4 c κs = search rules
+word-flags-requires : tie.Need-word-flags-requires invariant-loop-i decreases-loop-i
+word-flags-requires c κs = search rules
 
-mul-write : tie.Need-overflow-mul-write invariant-loop decreases-loop
-mul-write c = search rules
+overflow_mul-i : tie.Need-overflow_mul-i invariant-loop-i decreases-loop-i
+overflow_mul-i c = search rules
 
-mul-write-2 : tie.Need-overflow-mul-write-2 invariant-loop decreases-loop
-mul-write-2 c = search rules
+offset_bounds-output-i : tie.Need-offset_bounds-output-i invariant-loop-i decreases-loop-i
+offset_bounds-output-i c = search rules
 
-sub-write : tie.Need-overflow-sub-write invariant-loop decreases-loop
-sub-write c = search rules
+slice_bounds-write-count : tie.Need-slice_bounds-write-count invariant-loop-i decreases-loop-i
+slice_bounds-write-count c = search rules
 
-part-write-start : tie.Need-slice-bounds-write-start invariant-loop decreases-loop
-part-write-start c = search rules
+slice_bounds-write-start : tie.Need-slice_bounds-write-start invariant-loop-i decreases-loop-i
+slice_bounds-write-start c = search rules
 
-part-write-end : tie.Need-slice-bounds-write-end invariant-loop decreases-loop
-part-write-end c = search rules
+slice_bounds-write-end : tie.Need-slice_bounds-write-end invariant-loop-i decreases-loop-i
+slice_bounds-write-end c = search rules
 
-slice-aggregate-write : tie.Need-slice-aggregate-write invariant-loop decreases-loop
-slice-aggregate-write c = search rules
+slice_bounds-write-end-in-loop-i : tie.Need-slice_bounds-write-end-in-loop-i invariant-loop-i decreases-loop-i
+slice_bounds-write-end-in-loop-i c = search rules
 
-write-requires : tie.Need-write-requires invariant-loop decreases-loop
+write-requires : tie.Need-write-requires invariant-loop-i decreases-loop-i
 write-requires c κs = search rules
 
-add-i : tie.Need-overflow-add-i invariant-loop decreases-loop
-add-i c = search rules
+overflow_add-i : tie.Need-overflow_add-i invariant-loop-i decreases-loop-i
+overflow_add-i c = search rules
 
-loop-less : tie.Need-loop-smaller invariant-loop decreases-loop
-loop-less c = search rules
+loop-i-smaller : tie.Need-loop-i-smaller invariant-loop-i decreases-loop-i
+loop-i-smaller c = search rules
 
-loop-again : tie.Need-loop-preserved invariant-loop decreases-loop
-loop-again c =
-    let k = c.before.before.before.before.before in
-    let l = k.before.before.before.before.before.before.before.loop.invariant in
-    let next = lent_on _ _ _ _ _ _ l.4 l.5 k.before.before.before.before.before.before.loop-test.true (omega (arith, l.2, k.before.before.before.before.before.before.before.before.before.before.before.before.requires.1.1)) l.3 _ _ _ k.before.before.before.before.word2.ensures k.before.before.word3.ensures k.word4.ensures _ c.before.before.write.ensures in
+loop-i-preserved : tie.Need-loop-i-preserved invariant-loop-i decreases-loop-i
+loop-i-preserved c =
+    let l = c.loop-i.invariant in
+    let next = lent_on _ _ _ _ _ _ l.4 l.5 c.loop-i-test.true (omega (arith, l.2, c.requires.1.1)) l.3 _ _ _ c.word-name.ensures c.word-field_type.ensures c.word-flags.ensures _ c.write.ensures in
     (search rules, search rules, search rules, search rules, next.0, next.1)
 
-same_length : tie.Need-same-length invariant-loop decreases-loop
-same_length c = search rules
+shape_of-output : tie.Need-shape_of-output invariant-loop-i decreases-loop-i
+shape_of-output c = search rules
 
-returns : tie.Need-returns invariant-loop decreases-loop
+returns : tie.Need-returns invariant-loop-i decreases-loop-i
 returns c = search lent_all
 
-pub fill-fields-spec : {M : Type 1} → statement M
-fill-fields-spec =
+pub fill_fields_spec : {M : Type 1} → statement M
+fill_fields_spec =
     tie.close
     (tie.spec
-    invariant-loop
-    decreases-loop
-    slice-aggregate-word
+    invariant-loop-i
+    decreases-loop-i
+    slice_bounds-word-end
     word-requires
-    loop-holds
-    add-p
-    mul-p
-    add-p-2
-    slice-aggregate-word-2
-    word-requires-2
-    slice-aggregate-word-3
-    add-word
-    word-requires-3
-    slice-aggregate-word-4
-    add-word-2
-    word-requires-4
-    mul-write
-    mul-write-2
-    sub-write
-    part-write-start
-    part-write-end
-    slice-aggregate-write
+    loop-i-init
+    overflow_add-p
+    overflow_mul-p
+    overflow_add-p-in-loop-i
+    slice_bounds-word-end-in-loop-i
+    word-name-requires
+    slice_bounds-word-end-in-loop-i-2
+    overflow_add-p-in-loop-i-2
+    word-field_type-requires
+    slice_bounds-word-end-in-loop-i-3
+    overflow_add-p-in-loop-i-3
+    word-flags-requires
+    overflow_mul-i
+    offset_bounds-output-i
+    slice_bounds-write-count
+    slice_bounds-write-start
+    slice_bounds-write-end
+    slice_bounds-write-end-in-loop-i
     write-requires
-    add-i
-    loop-less
-    loop-again
-    same_length
+    overflow_add-i
+    loop-i-smaller
+    loop-i-preserved
+    shape_of-output
     returns)

@@ -10,63 +10,63 @@ use borrow.Author.Rules.{rules}
 use Rattle.of_structs.proofs.find.Statement.{statement}
 use Rattle.of_structs.proofs.find.Tie as tie
 
-abbrev invariant-loop : tie.invariant-loop
-invariant-loop words used s name none n left₀ left = (left ≤ n) × (n ≤ 255) × (n ≡ count_on (take used words) s) × (find_of (take used words) s name ≡ match_left (λ x. same_name (take used words) x name) (take used words) n (s + 2) left)
+abbrev invariant-loop-left : tie.invariant-loop-left
+invariant-loop-left words used s name none n left₀ left = (left ≤ n) × (n ≤ 255) × (n ≡ count_on (take used words) s) × (find_of (take used words) s name ≡ match_left (λ x. same_name (take used words) x name) (take used words) n (s + 2) left)
 
-abbrev decreases-loop : tie.decreases-loop
-decreases-loop words used s name none n left₀ left = left
+abbrev decreases-loop-left : tie.decreases-loop-left
+decreases-loop-left words used s name none n left₀ left = left
 
-slice-aggregate-word : tie.Need-slice-aggregate-word invariant-loop decreases-loop
-slice-aggregate-word c = search rules
+slice_bounds-word-end : tie.Need-slice_bounds-word-end invariant-loop-left decreases-loop-left
+slice_bounds-word-end c = search rules
 
-word-requires : tie.Need-word-requires invariant-loop decreases-loop
+word-requires : tie.Need-word-requires invariant-loop-left decreases-loop-left
 word-requires c κs = search rules
 
-loop-holds : tie.Need-loop-init invariant-loop decreases-loop
-loop-holds c = (search rules, search rules, search rules, search find_begin)
+loop-left-init : tie.Need-loop-left-init invariant-loop-left decreases-loop-left
+loop-left-init c = (search rules, search rules, search rules, search find_begin)
 
-sub-i : tie.Need-overflow-sub-i invariant-loop decreases-loop
-sub-i c = search rules
+overflow_sub-i : tie.Need-overflow_sub-i invariant-loop-left decreases-loop-left
+overflow_sub-i c = search rules
 
-field-name-requires : tie.Need-field-name-requires invariant-loop decreases-loop
-field-name-requires c κs = (search rules, (c.before.before.before.before.before.requires.1, search rules))
+field_name-x-requires : tie.Need-field_name-x-requires invariant-loop-left decreases-loop-left
+field_name-x-requires c κs = (search rules, (c.requires.1, search rules))
 
-slice-aggregate-same-name : tie.Need-slice-aggregate-same-name invariant-loop decreases-loop
-slice-aggregate-same-name c = search rules
+slice_bounds-same_name-end : tie.Need-slice_bounds-same_name-end invariant-loop-left decreases-loop-left
+slice_bounds-same_name-end c = search rules
 
-same-name-requires : tie.Need-same-name-requires invariant-loop decreases-loop
-same-name-requires c κs = search rules
+same_name-requires : tie.Need-same_name-requires invariant-loop-left decreases-loop-left
+same_name-requires c κs = search rules
 
-returns : tie.Need-returns invariant-loop decreases-loop
-returns c = search find_hit
+returns-then-same_name : tie.Need-returns-then-same_name invariant-loop-left decreases-loop-left
+returns-then-same_name c = search find_hit
 
-sub-left : tie.Need-overflow-sub-left invariant-loop decreases-loop
-sub-left c = search rules
+overflow_sub-left : tie.Need-overflow_sub-left invariant-loop-left decreases-loop-left
+overflow_sub-left c = search rules
 
-loop-less : tie.Need-loop-smaller invariant-loop decreases-loop
-loop-less c = search rules
+loop-left-smaller : tie.Need-loop-left-smaller invariant-loop-left decreases-loop-left
+loop-left-smaller c = search rules
 
-loop-again : tie.Need-loop-preserved invariant-loop decreases-loop
-loop-again c = (search rules, search rules, search rules, find_miss _ _ _ _ _ c.before.before.before.before.before.loop.invariant.3 c.before.before.before.before.loop-test.true c.before.before.before.before.before.loop.invariant.0 _ c.before.before.before.field-name.ensures.0 _ c.before.same_name.ensures c.if1.false)
+loop-left-preserved : tie.Need-loop-left-preserved invariant-loop-left decreases-loop-left
+loop-left-preserved c = (search rules, search rules, search rules, find_miss _ _ _ _ _ c.loop-left.invariant.3 c.loop-left-test.true c.loop-left.invariant.0 _ c.field_name-x.ensures.0 _ c.same_name.ensures c.if-same_name.false)
 
-returns-2 : tie.Need-returns-2 invariant-loop decreases-loop
-returns-2 c = search find_none
+returns : tie.Need-returns invariant-loop-left decreases-loop-left
+returns c = search find_none
 
 pub find_spec : {M : Type 1} → statement M
 find_spec =
     tie.close
     (tie.spec
-    invariant-loop
-    decreases-loop
-    slice-aggregate-word
+    invariant-loop-left
+    decreases-loop-left
+    slice_bounds-word-end
     word-requires
-    loop-holds
-    sub-i
-    field-name-requires
-    slice-aggregate-same-name
-    same-name-requires
-    returns
-    sub-left
-    loop-less
-    loop-again
-    returns-2)
+    loop-left-init
+    overflow_sub-i
+    field_name-x-requires
+    slice_bounds-same_name-end
+    same_name-requires
+    returns-then-same_name
+    overflow_sub-left
+    loop-left-smaller
+    loop-left-preserved
+    returns)

@@ -10,71 +10,71 @@ use borrow.Author.Rules.{rules}
 use Rattle.of_structs.proofs.find_alias.Statement.{statement}
 use Rattle.of_structs.proofs.find_alias.Tie as tie
 
-abbrev invariant-loop : tie.invariant-loop
-invariant-loop words used s alias none n left₀ left = (left ≤ n) × (n ≤ 255) × (n ≡ count_on (take used words) s) × (find_alias_of (take used words) s alias ≡ match_left (λ f. eqb (f / 2) alias) (take used words) n (s + 4) left)
+abbrev invariant-loop-left : tie.invariant-loop-left
+invariant-loop-left words used s alias none n left₀ left = (left ≤ n) × (n ≤ 255) × (n ≡ count_on (take used words) s) × (find_alias_of (take used words) s alias ≡ match_left (λ f. eqb (f / 2) alias) (take used words) n (s + 4) left)
 
-abbrev decreases-loop : tie.decreases-loop
-decreases-loop words used s alias none n left₀ left = left
+abbrev decreases-loop-left : tie.decreases-loop-left
+decreases-loop-left words used s alias none n left₀ left = left
 
-slice-aggregate-word : tie.Need-slice-aggregate-word invariant-loop decreases-loop
-slice-aggregate-word c = search rules
+slice_bounds-word-end : tie.Need-slice_bounds-word-end invariant-loop-left decreases-loop-left
+slice_bounds-word-end c = search rules
 
-word-requires : tie.Need-word-requires invariant-loop decreases-loop
+word-requires : tie.Need-word-requires invariant-loop-left decreases-loop-left
 word-requires c κs = search rules
 
-loop-holds : tie.Need-loop-init invariant-loop decreases-loop
-loop-holds c = (search rules, search rules, search rules, search alias_begin)
+loop-left-init : tie.Need-loop-left-init invariant-loop-left decreases-loop-left
+loop-left-init c = (search rules, search rules, search rules, search alias_begin)
 
-sub-i : tie.Need-overflow-sub-i invariant-loop decreases-loop
-sub-i c = search rules
+overflow_sub-i : tie.Need-overflow_sub-i invariant-loop-left decreases-loop-left
+overflow_sub-i c = search rules
 
-add-p : tie.Need-overflow-add-p invariant-loop decreases-loop
-add-p c = search rules
+overflow_add-p : tie.Need-overflow_add-p invariant-loop-left decreases-loop-left
+overflow_add-p c = search rules
 
-mul-p : tie.Need-overflow-mul-p invariant-loop decreases-loop
-mul-p c = search rules
+overflow_mul-p : tie.Need-overflow_mul-p invariant-loop-left decreases-loop-left
+overflow_mul-p c = search rules
 
-add-p-2 : tie.Need-overflow-add-p-2 invariant-loop decreases-loop
-add-p-2 c = search rules
+overflow_add-p-in-loop-left : tie.Need-overflow_add-p-in-loop-left invariant-loop-left decreases-loop-left
+overflow_add-p-in-loop-left c = search rules
 
-slice-aggregate-word-2 : tie.Need-slice-aggregate-word-2 invariant-loop decreases-loop
-slice-aggregate-word-2 c = search rules
+slice_bounds-word-end-in-loop-left : tie.Need-slice_bounds-word-end-in-loop-left invariant-loop-left decreases-loop-left
+slice_bounds-word-end-in-loop-left c = search rules
 
-word-requires-2 : tie.Need-word-requires-2 invariant-loop decreases-loop
-word-requires-2 c κs = search rules
+word-flags-requires : tie.Need-word-flags-requires invariant-loop-left decreases-loop-left
+word-flags-requires c κs = search rules
 
-returns : tie.Need-returns invariant-loop decreases-loop
-returns c = search alias_hit
+returns-then-flags-alias : tie.Need-returns-then-flags-alias invariant-loop-left decreases-loop-left
+returns-then-flags-alias c = search alias_hit
 
-sub-left : tie.Need-overflow-sub-left invariant-loop decreases-loop
-sub-left c = search rules
+overflow_sub-left : tie.Need-overflow_sub-left invariant-loop-left decreases-loop-left
+overflow_sub-left c = search rules
 
-loop-less : tie.Need-loop-smaller invariant-loop decreases-loop
-loop-less c = search rules
+loop-left-smaller : tie.Need-loop-left-smaller invariant-loop-left decreases-loop-left
+loop-left-smaller c = search rules
 
-loop-again : tie.Need-loop-preserved invariant-loop decreases-loop
-loop-again c = (search rules, search rules, search rules, alias_miss _ _ _ _ _ c.before.before.before.before.loop.invariant.3 c.before.before.before.loop-test.true c.before.before.before.before.loop.invariant.0 _ c.before.word2.ensures c.if1.false)
+loop-left-preserved : tie.Need-loop-left-preserved invariant-loop-left decreases-loop-left
+loop-left-preserved c = (search rules, search rules, search rules, alias_miss _ _ _ _ _ c.loop-left.invariant.3 c.loop-left-test.true c.loop-left.invariant.0 _ c.word-flags.ensures c.if-flags-alias.false)
 
-returns-2 : tie.Need-returns-2 invariant-loop decreases-loop
-returns-2 c = search alias_none
+returns : tie.Need-returns invariant-loop-left decreases-loop-left
+returns c = search alias_none
 
-pub find-alias-spec : {M : Type 1} → statement M
-find-alias-spec =
+pub find_alias_spec : {M : Type 1} → statement M
+find_alias_spec =
     tie.close
     (tie.spec
-    invariant-loop
-    decreases-loop
-    slice-aggregate-word
+    invariant-loop-left
+    decreases-loop-left
+    slice_bounds-word-end
     word-requires
-    loop-holds
-    sub-i
-    add-p
-    mul-p
-    add-p-2
-    slice-aggregate-word-2
-    word-requires-2
-    returns
-    sub-left
-    loop-less
-    loop-again
-    returns-2)
+    loop-left-init
+    overflow_sub-i
+    overflow_add-p
+    overflow_mul-p
+    overflow_add-p-in-loop-left
+    slice_bounds-word-end-in-loop-left
+    word-flags-requires
+    returns-then-flags-alias
+    overflow_sub-left
+    loop-left-smaller
+    loop-left-preserved
+    returns)

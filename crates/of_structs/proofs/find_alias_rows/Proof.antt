@@ -4,55 +4,55 @@ use borrow.Author.Rules.{rules}
 use Rattle.of_structs.proofs.find_alias_rows.Statement.{statement}
 use Rattle.of_structs.proofs.find_alias_rows.Tie as tie
 
-slice-aggregate-all-start : tie.Need-slice-aggregate-all-start
-slice-aggregate-all-start c = search rules
+slice_bounds-all_start-end : tie.Need-slice_bounds-all_start-end
+slice_bounds-all_start-end c = search rules
 
-all-start-requires : tie.Need-all-start-requires
-all-start-requires c κs = search rules
+all_start-requires : tie.Need-all_start-requires
+all_start-requires c κs = search rules
+
+returns-then-not-all_start : tie.Need-returns-then-not-all_start
+returns-then-not-all_start c = search alias_2
+
+slice_bounds-all_kinds-end : tie.Need-slice_bounds-all_kinds-end
+slice_bounds-all_kinds-end c = search rules
+
+slice_bounds-all_kinds-end-2 : tie.Need-slice_bounds-all_kinds-end-2
+slice_bounds-all_kinds-end-2 c = search rules
+
+all_kinds-requires : tie.Need-all_kinds-requires
+all_kinds-requires c κs = search rules
+
+returns-then-not-all_kinds : tie.Need-returns-then-not-all_kinds
+returns-then-not-all_kinds c = search alias_3
+
+returns-then-alias-gt-LARGEST_ALIAS : tie.Need-returns-then-alias-gt-LARGEST_ALIAS
+returns-then-alias-gt-LARGEST_ALIAS c = search alias_4
+
+slice_bounds-kind_on-end : tie.Need-slice_bounds-kind_on-end
+slice_bounds-kind_on-end c = search rules
+
+kind_on-requires : tie.Need-kind_on-requires
+kind_on-requires c κs = search rules
+
+returns-then-kind_on-eq-FREF : tie.Need-returns-then-kind_on-eq-FREF
+returns-then-kind_on-eq-FREF c = search alias_7
 
 returns : tie.Need-returns
-returns c = search alias_2
+returns c = search alias_0
 
-slice-aggregate-all-kinds : tie.Need-slice-aggregate-all-kinds
-slice-aggregate-all-kinds c = search rules
-
-slice-aggregate-all-kinds-2 : tie.Need-slice-aggregate-all-kinds-2
-slice-aggregate-all-kinds-2 c = search rules
-
-all-kinds-requires : tie.Need-all-kinds-requires
-all-kinds-requires c κs = search rules
-
-returns-2 : tie.Need-returns-2
-returns-2 c = search alias_3
-
-returns-3 : tie.Need-returns-3
-returns-3 c = search alias_4
-
-slice-aggregate-kind-on : tie.Need-slice-aggregate-kind-on
-slice-aggregate-kind-on c = search rules
-
-kind-on-requires : tie.Need-kind-on-requires
-kind-on-requires c κs = search rules
-
-returns-4 : tie.Need-returns-4
-returns-4 c = search alias_7
-
-returns-5 : tie.Need-returns-5
-returns-5 c = search alias_0
-
-pub find-alias-rows-spec : {M : Type 1} → statement M
-find-alias-rows-spec =
+pub find_alias_rows_spec : {M : Type 1} → statement M
+find_alias_rows_spec =
     tie.close
     (tie.spec
-    slice-aggregate-all-start
-    all-start-requires
-    returns
-    slice-aggregate-all-kinds
-    slice-aggregate-all-kinds-2
-    all-kinds-requires
-    returns-2
-    returns-3
-    slice-aggregate-kind-on
-    kind-on-requires
-    returns-4
-    returns-5)
+    slice_bounds-all_start-end
+    all_start-requires
+    returns-then-not-all_start
+    slice_bounds-all_kinds-end
+    slice_bounds-all_kinds-end-2
+    all_kinds-requires
+    returns-then-not-all_kinds
+    returns-then-alias-gt-LARGEST_ALIAS
+    slice_bounds-kind_on-end
+    kind_on-requires
+    returns-then-kind_on-eq-FREF
+    returns)

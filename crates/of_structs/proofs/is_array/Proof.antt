@@ -4,21 +4,21 @@ use borrow.Author.Rules.{rules}
 use Rattle.of_structs.proofs.is_array.Statement.{statement}
 use Rattle.of_structs.proofs.is_array.Tie as tie
 
-slice-aggregate-kind-on : tie.Need-slice-aggregate-kind-on
-slice-aggregate-kind-on c = search rules
+slice_bounds-kind_on-end : tie.Need-slice_bounds-kind_on-end
+slice_bounds-kind_on-end c = search rules
 
-kind-on-requires : tie.Need-kind-on-requires
-kind-on-requires c κs = search rules
+kind_on-requires : tie.Need-kind_on-requires
+kind_on-requires c κs = search rules
+
+returns-then-kind_on-ne-STRUCT : tie.Need-returns-then-kind_on-ne-STRUCT
+returns-then-kind_on-ne-STRUCT c = search no_struct
+
+is_ary-requires : tie.Need-is_ary-requires
+is_ary-requires c κs = search rules
 
 returns : tie.Need-returns
-returns c = search no_struct
+returns c = search struct_if
 
-is-ary-requires : tie.Need-is-ary-requires
-is-ary-requires c κs = search rules
-
-returns-2 : tie.Need-returns-2
-returns-2 c = search struct_if
-
-pub is-array-spec : {M : Type 1} → statement M
-is-array-spec =
-    tie.close (tie.spec slice-aggregate-kind-on kind-on-requires returns is-ary-requires returns-2)
+pub is_array_spec : {M : Type 1} → statement M
+is_array_spec =
+    tie.close (tie.spec slice_bounds-kind_on-end kind_on-requires returns-then-kind_on-ne-STRUCT is_ary-requires returns)

@@ -5,42 +5,40 @@ use borrow.Author.Rules.{rules}
 use Rattle.of_structs.proofs.is_ary.Statement.{statement}
 use Rattle.of_structs.proofs.is_ary.Tie as tie
 
-slice-aggregate-word : tie.Need-slice-aggregate-word
-slice-aggregate-word c = search rules
+slice_bounds-word-end : tie.Need-slice_bounds-word-end
+slice_bounds-word-end c = search rules
 
 word-requires : tie.Need-word-requires
 word-requires c κs = search rules
 
+returns-then-word-ne2 : tie.Need-returns-then-word-ne2
+returns-then-word-ne2 c = search no_pair
+
+slice_bounds-word-end-2 : tie.Need-slice_bounds-word-end-2
+slice_bounds-word-end-2 c = search rules
+
+overflow_add-s : tie.Need-overflow_add-s
+overflow_add-s c =
+    omega (arith, some_inside c.args.words.now c.args.used c.args.s c.word.result c.requires c.word.ensures (omega (arith, c.if-word-ne2.false)))
+
+word-name-requires : tie.Need-word-name-requires
+word-name-requires c κs = search rules
+
+is_body_name-requires : tie.Need-is_body_name-requires
+is_body_name-requires c κs = search rules
+
 returns : tie.Need-returns
-returns c = search no_pair
+returns c = search pair_if
 
-slice-aggregate-word-2 : tie.Need-slice-aggregate-word-2
-slice-aggregate-word-2 c = search rules
-
-add-word : tie.Need-overflow-add-word
-add-word c =
-    let w = c.before.before in
-    let s = w.before.before.before in
-    omega (arith, some_inside s.args.words.now s.args.used s.args.s w.word.result s.requires w.word.ensures (omega (arith, c.before.if1.false)))
-
-word-requires-2 : tie.Need-word-requires-2
-word-requires-2 c κs = search rules
-
-is-body-name-requires : tie.Need-is-body-name-requires
-is-body-name-requires c κs = search rules
-
-returns-2 : tie.Need-returns-2
-returns-2 c = search pair_if
-
-pub is-ary-spec : {M : Type 1} → statement M
-is-ary-spec =
+pub is_ary_spec : {M : Type 1} → statement M
+is_ary_spec =
     tie.close
     (tie.spec
-    slice-aggregate-word
+    slice_bounds-word-end
     word-requires
-    returns
-    slice-aggregate-word-2
-    add-word
-    word-requires-2
-    is-body-name-requires
-    returns-2)
+    returns-then-word-ne2
+    slice_bounds-word-end-2
+    overflow_add-s
+    word-name-requires
+    is_body_name-requires
+    returns)

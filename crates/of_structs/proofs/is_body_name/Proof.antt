@@ -5,38 +5,36 @@ use borrow.Author.Rules.{rules}
 use Rattle.of_structs.proofs.is_body_name.Statement.{statement}
 use Rattle.of_structs.proofs.is_body_name.Tie as tie
 
-slice-aggregate-word : tie.Need-slice-aggregate-word
-slice-aggregate-word c = search rules
+slice_bounds-word-end : tie.Need-slice_bounds-word-end
+slice_bounds-word-end c = search rules
 
 word-requires : tie.Need-word-requires
 word-requires c κs = search rules
 
-returns : tie.Need-returns
-returns c = search no_body
+returns-then-word-ne-BODY_NAME_HEAD : tie.Need-returns-then-word-ne-BODY_NAME_HEAD
+returns-then-word-ne-BODY_NAME_HEAD c = search no_body
 
-slice-aggregate-word-2 : tie.Need-slice-aggregate-word-2
-slice-aggregate-word-2 c = search rules
+slice_bounds-word-end-2 : tie.Need-slice_bounds-word-end-2
+slice_bounds-word-end-2 c = search rules
 
-add-word : tie.Need-overflow-add-word
-add-word c =
-    let w = c.before.before in
-    let s = w.before.before.before in
-    omega (arith, some_inside s.args.words.now s.args.used s.args.h w.word.result s.requires w.word.ensures (omega (arith, c.before.if1.false)))
+overflow_add-h : tie.Need-overflow_add-h
+overflow_add-h c =
+    omega (arith, some_inside c.args.words.now c.args.used c.args.h c.word.result c.requires c.word.ensures (omega (arith, c.if-word-ne-BODY_NAME_HEAD.false)))
 
 word-requires-2 : tie.Need-word-requires-2
 word-requires-2 c κs = search rules
 
-returns-2 : tie.Need-returns-2
-returns-2 c = search body_if
+returns : tie.Need-returns
+returns c = search body_if
 
-pub is-body-name-spec : {M : Type 1} → statement M
-is-body-name-spec =
+pub is_body_name_spec : {M : Type 1} → statement M
+is_body_name_spec =
     tie.close
     (tie.spec
-    slice-aggregate-word
+    slice_bounds-word-end
     word-requires
-    returns
-    slice-aggregate-word-2
-    add-word
+    returns-then-word-ne-BODY_NAME_HEAD
+    slice_bounds-word-end-2
+    overflow_add-h
     word-requires-2
-    returns-2)
+    returns)
