@@ -4,17 +4,17 @@ use borrow.Author.Rules.{rules}
 use Rattle.of_types.proofs.int_side.Statement.{statement}
 use Rattle.of_types.proofs.int_side.Tie as tie
 
-is-less-requires : tie.Need-is-less-requires
-is-less-requires c κs = search rules
+is_less-requires : tie.Need-is_less-requires
+is_less-requires c κs = search rules
+
+returns-then-is_less : tie.Need-returns-then-is_less
+returns-then-is_less c = search int_high
+
+returns-then-min-max : tie.Need-returns-then-min-max
+returns-then-min-max c = search int_constant
 
 returns : tie.Need-returns
-returns c = search int_high
+returns c = search int_low
 
-returns-2 : tie.Need-returns-2
-returns-2 c = search int_constant
-
-returns-3 : tie.Need-returns-3
-returns-3 c = search int_low
-
-pub int-side-spec : {M : Type 1} → statement M
-int-side-spec = tie.close (tie.spec is-less-requires returns returns-2 returns-3)
+pub int_side_spec : {M : Type 1} → statement M
+int_side_spec = tie.close (tie.spec is_less-requires returns-then-is_less returns-then-min-max returns)

@@ -4,39 +4,39 @@ use borrow.Author.Rules.{rules}
 use Rattle.of_types.proofs.int_side_at.Statement.{statement}
 use Rattle.of_types.proofs.int_side_at.Tie as tie
 
-slice-aggregate-word : tie.Need-slice-aggregate-word
-slice-aggregate-word c = search rules
+slice_bounds-word-end : tie.Need-slice_bounds-word-end
+slice_bounds-word-end c = search rules
 
-add-word : tie.Need-overflow-add-word
-add-word c = search rules
+overflow_add-t : tie.Need-overflow_add-t
+overflow_add-t c = search rules
 
-word-requires : tie.Need-word-requires
-word-requires c κs = search rules
+word-min-requires : tie.Need-word-min-requires
+word-min-requires c κs = search rules
 
-slice-aggregate-word-2 : tie.Need-slice-aggregate-word-2
-slice-aggregate-word-2 c = search rules
+slice_bounds-word-end-2 : tie.Need-slice_bounds-word-end-2
+slice_bounds-word-end-2 c = search rules
 
-add-word-2 : tie.Need-overflow-add-word-2
-add-word-2 c = search rules
+overflow_add-t-2 : tie.Need-overflow_add-t-2
+overflow_add-t-2 c = search rules
 
-word-requires-2 : tie.Need-word-requires-2
-word-requires-2 c κs = search rules
+word-max-requires : tie.Need-word-max-requires
+word-max-requires c κs = search rules
 
-int-side-requires : tie.Need-int-side-requires
-int-side-requires c κs = search rules
+int_side-requires : tie.Need-int_side-requires
+int_side-requires c κs = search rules
 
 returns : tie.Need-returns
 returns c = search side_words
 
-pub int-side-at-spec : {M : Type 1} → statement M
-int-side-at-spec =
+pub int_side_at_spec : {M : Type 1} → statement M
+int_side_at_spec =
     tie.close
     (tie.spec
-    slice-aggregate-word
-    add-word
-    word-requires
-    slice-aggregate-word-2
-    add-word-2
-    word-requires-2
-    int-side-requires
+    slice_bounds-word-end
+    overflow_add-t
+    word-min-requires
+    slice_bounds-word-end-2
+    overflow_add-t-2
+    word-max-requires
+    int_side-requires
     returns)

@@ -7,47 +7,47 @@ use borrow.Author.Rules.{rules}
 use Rattle.of_types.proofs.is_fref.Statement.{statement}
 use Rattle.of_types.proofs.is_fref.Tie as tie
 
-slice-aggregate-kind-on : tie.Need-slice-aggregate-kind-on
-slice-aggregate-kind-on c = search rules
+slice_bounds-kind_on-end : tie.Need-slice_bounds-kind_on-end
+slice_bounds-kind_on-end c = search rules
 
-kind-on-requires : tie.Need-kind-on-requires
-kind-on-requires c κs = search rules
+kind_on-k-requires : tie.Need-kind_on-k-requires
+kind_on-k-requires c κs = search rules
+
+returns-then-k-eq-FREF : tie.Need-returns-then-k-eq-FREF
+returns-then-k-eq-FREF c = search fref_itself
+
+slice_bounds-word-end : tie.Need-slice_bounds-word-end
+slice_bounds-word-end c = search rules
+
+overflow_add-t : tie.Need-overflow_add-t
+overflow_add-t c = omega (arith, kind_inside c.args.words.now c.args.used c.args.t c.kind_on-k.result c.requires c.kind_on-k.ensures (omega (arith, c.if-k-eq-MEM_PTR.true)))
+
+word-to-requires : tie.Need-word-to-requires
+word-to-requires c κs = search rules
+
+slice_bounds-kind_on-end-then-k-eq-MEM_PTR : tie.Need-slice_bounds-kind_on-end-then-k-eq-MEM_PTR
+slice_bounds-kind_on-end-then-k-eq-MEM_PTR c = search rules
+
+kind_on-requires : tie.Need-kind_on-requires
+kind_on-requires c κs = search rules
+
+returns-then-k-eq-MEM_PTR : tie.Need-returns-then-k-eq-MEM_PTR
+returns-then-k-eq-MEM_PTR c = search fref_target
 
 returns : tie.Need-returns
-returns c = search fref_itself
+returns c = search fref_other
 
-slice-aggregate-word : tie.Need-slice-aggregate-word
-slice-aggregate-word c = search rules
-
-add-word : tie.Need-overflow-add-word
-add-word c = let k = c.before.before.before in let s = k.before.before.before in omega (arith, kind_inside s.args.words.now s.args.used s.args.t k.kind-on.result s.requires k.kind-on.ensures (omega (arith, c.before.if2.true)))
-
-word-requires : tie.Need-word-requires
-word-requires c κs = search rules
-
-slice-aggregate-kind-on-2 : tie.Need-slice-aggregate-kind-on-2
-slice-aggregate-kind-on-2 c = search rules
-
-kind-on-requires-2 : tie.Need-kind-on-requires-2
-kind-on-requires-2 c κs = search rules
-
-returns-2 : tie.Need-returns-2
-returns-2 c = search fref_target
-
-returns-3 : tie.Need-returns-3
-returns-3 c = search fref_other
-
-pub is-fref-spec : {M : Type 1} → statement M
-is-fref-spec =
+pub is_fref_spec : {M : Type 1} → statement M
+is_fref_spec =
     tie.close
     (tie.spec
-    slice-aggregate-kind-on
-    kind-on-requires
-    returns
-    slice-aggregate-word
-    add-word
-    word-requires
-    slice-aggregate-kind-on-2
-    kind-on-requires-2
-    returns-2
-    returns-3)
+    slice_bounds-kind_on-end
+    kind_on-k-requires
+    returns-then-k-eq-FREF
+    slice_bounds-word-end
+    overflow_add-t
+    word-to-requires
+    slice_bounds-kind_on-end-then-k-eq-MEM_PTR
+    kind_on-requires
+    returns-then-k-eq-MEM_PTR
+    returns)

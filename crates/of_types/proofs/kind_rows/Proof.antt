@@ -4,39 +4,39 @@ use borrow.Author.Rules.{rules}
 use Rattle.of_types.proofs.kind_rows.Statement.{statement}
 use Rattle.of_types.proofs.kind_rows.Tie as tie
 
-slice-aggregate-all-start : tie.Need-slice-aggregate-all-start
-slice-aggregate-all-start c = search rules
+slice_bounds-all_start-end : tie.Need-slice_bounds-all_start-end
+slice_bounds-all_start-end c = search rules
 
-all-start-requires : tie.Need-all-start-requires
-all-start-requires c κs = search rules
+all_start-requires : tie.Need-all_start-requires
+all_start-requires c κs = search rules
+
+returns-then-not-all_start : tie.Need-returns-then-not-all_start
+returns-then-not-all_start c = search kind_2
+
+slice_bounds-all_kinds-end : tie.Need-slice_bounds-all_kinds-end
+slice_bounds-all_kinds-end c = search rules
+
+slice_bounds-all_kinds-end-2 : tie.Need-slice_bounds-all_kinds-end-2
+slice_bounds-all_kinds-end-2 c = search rules
+
+all_kinds-requires : tie.Need-all_kinds-requires
+all_kinds-requires c κs = search rules
+
+returns-then-not-all_kinds : tie.Need-returns-then-not-all_kinds
+returns-then-not-all_kinds c = search kind_3
 
 returns : tie.Need-returns
-returns c = search kind_2
+returns c = search kind_0
 
-slice-aggregate-all-kinds : tie.Need-slice-aggregate-all-kinds
-slice-aggregate-all-kinds c = search rules
-
-slice-aggregate-all-kinds-2 : tie.Need-slice-aggregate-all-kinds-2
-slice-aggregate-all-kinds-2 c = search rules
-
-all-kinds-requires : tie.Need-all-kinds-requires
-all-kinds-requires c κs = search rules
-
-returns-2 : tie.Need-returns-2
-returns-2 c = search kind_3
-
-returns-3 : tie.Need-returns-3
-returns-3 c = search kind_0
-
-pub kind-rows-spec : {M : Type 1} → statement M
-kind-rows-spec =
+pub kind_rows_spec : {M : Type 1} → statement M
+kind_rows_spec =
     tie.close
     (tie.spec
-    slice-aggregate-all-start
-    all-start-requires
-    returns
-    slice-aggregate-all-kinds
-    slice-aggregate-all-kinds-2
-    all-kinds-requires
-    returns-2
-    returns-3)
+    slice_bounds-all_start-end
+    all_start-requires
+    returns-then-not-all_start
+    slice_bounds-all_kinds-end
+    slice_bounds-all_kinds-end-2
+    all_kinds-requires
+    returns-then-not-all_kinds
+    returns)

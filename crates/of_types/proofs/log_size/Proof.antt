@@ -7,63 +7,63 @@ use borrow.Author.Rules.{rules}
 use Rattle.of_types.proofs.log_size.Statement.{statement}
 use Rattle.of_types.proofs.log_size.Tie as tie
 
-slice-aggregate-kind-on : tie.Need-slice-aggregate-kind-on
-slice-aggregate-kind-on c = search rules
+slice_bounds-kind_on-end : tie.Need-slice_bounds-kind_on-end
+slice_bounds-kind_on-end c = search rules
 
-kind-on-requires : tie.Need-kind-on-requires
-kind-on-requires c κs = search rules
+kind_on-k-requires : tie.Need-kind_on-k-requires
+kind_on-k-requires c κs = search rules
 
-int-log-size-requires : tie.Need-int-log-size-requires
-int-log-size-requires c κs = let k = c.before in let s = k.before.before.before in (s.requires, let k = c.before in let s = k.before.before.before in omega (arith, kind_inside s.args.words.now s.args.used s.args.t k.kind-on.result s.requires k.kind-on.ensures (omega (arith, c.if1.true))))
+int_log_size-requires : tie.Need-int_log_size-requires
+int_log_size-requires c κs = let k = c.before in let s = k.before.before.before in (c.requires, let k = c.before in let s = k.before.before.before in omega (arith, kind_inside c.args.words.now c.args.used c.args.t c.kind_on-k.result c.requires c.kind_on-k.ensures (omega (arith, c.if-k-eq-INT.true))))
+
+returns-then-k-eq-INT : tie.Need-returns-then-k-eq-INT
+returns-then-k-eq-INT c = search log_int
+
+slice_bounds-word-end : tie.Need-slice_bounds-word-end
+slice_bounds-word-end c = search rules
+
+overflow_add-t : tie.Need-overflow_add-t
+overflow_add-t c = omega (arith, kind_inside c.args.words.now c.args.used c.args.t c.kind_on-k.result c.requires c.kind_on-k.ensures (omega (arith, c.if-k-eq-FLOAT.true)))
+
+word-size-requires : tie.Need-word-size-requires
+word-size-requires c κs = search rules
+
+slice_bounds-word-end-then-k-eq-FLOAT : tie.Need-slice_bounds-word-end-then-k-eq-FLOAT
+slice_bounds-word-end-then-k-eq-FLOAT c = search rules
+
+overflow_add-t-then-k-eq-FLOAT : tie.Need-overflow_add-t-then-k-eq-FLOAT
+overflow_add-t-then-k-eq-FLOAT c = omega (arith, kind_inside c.args.words.now c.args.used c.args.t c.kind_on-k.result c.requires c.kind_on-k.ensures (omega (arith, c.if-k-eq-FLOAT.true)))
+
+word-bits-requires : tie.Need-word-bits-requires
+word-bits-requires c κs = search rules
+
+float_log_size-requires : tie.Need-float_log_size-requires
+float_log_size-requires c κs = search rules
+
+returns-then-k-eq-FLOAT : tie.Need-returns-then-k-eq-FLOAT
+returns-then-k-eq-FLOAT c = search log_float
+
+returns-then-k-eq-MEM_PTR : tie.Need-returns-then-k-eq-MEM_PTR
+returns-then-k-eq-MEM_PTR c = search log_pointer
 
 returns : tie.Need-returns
-returns c = search log_int
+returns c = search log_other
 
-slice-aggregate-word : tie.Need-slice-aggregate-word
-slice-aggregate-word c = search rules
-
-add-word : tie.Need-overflow-add-word
-add-word c = let k = c.before.before.before in let s = k.before.before.before in omega (arith, kind_inside s.args.words.now s.args.used s.args.t k.kind-on.result s.requires k.kind-on.ensures (omega (arith, c.before.if2.true)))
-
-word-requires : tie.Need-word-requires
-word-requires c κs = search rules
-
-slice-aggregate-word-2 : tie.Need-slice-aggregate-word-2
-slice-aggregate-word-2 c = search rules
-
-add-word-2 : tie.Need-overflow-add-word-2
-add-word-2 c = let k = c.before.before.before.before.before in let s = k.before.before.before in omega (arith, kind_inside s.args.words.now s.args.used s.args.t k.kind-on.result s.requires k.kind-on.ensures (omega (arith, c.before.before.before.if2.true)))
-
-word-requires-2 : tie.Need-word-requires-2
-word-requires-2 c κs = search rules
-
-float-log-size-requires : tie.Need-float-log-size-requires
-float-log-size-requires c κs = search rules
-
-returns-2 : tie.Need-returns-2
-returns-2 c = search log_float
-
-returns-3 : tie.Need-returns-3
-returns-3 c = search log_pointer
-
-returns-4 : tie.Need-returns-4
-returns-4 c = search log_other
-
-pub log-size-spec : {M : Type 1} → statement M
-log-size-spec =
+pub log_size_spec : {M : Type 1} → statement M
+log_size_spec =
     tie.close
     (tie.spec
-    slice-aggregate-kind-on
-    kind-on-requires
-    int-log-size-requires
-    returns
-    slice-aggregate-word
-    add-word
-    word-requires
-    slice-aggregate-word-2
-    add-word-2
-    word-requires-2
-    float-log-size-requires
-    returns-2
-    returns-3
-    returns-4)
+    slice_bounds-kind_on-end
+    kind_on-k-requires
+    int_log_size-requires
+    returns-then-k-eq-INT
+    slice_bounds-word-end
+    overflow_add-t
+    word-size-requires
+    slice_bounds-word-end-then-k-eq-FLOAT
+    overflow_add-t-then-k-eq-FLOAT
+    word-bits-requires
+    float_log_size-requires
+    returns-then-k-eq-FLOAT
+    returns-then-k-eq-MEM_PTR
+    returns)

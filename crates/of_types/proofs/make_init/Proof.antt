@@ -4,17 +4,17 @@ use borrow.Author.Rules.{rules}
 use Rattle.of_types.proofs.make_init.Statement.{statement}
 use Rattle.of_types.proofs.make_init.Tie as tie
 
-never-nil-requires : tie.Need-never-nil-requires
-never-nil-requires c κs = search rules
+never_nil-requires : tie.Need-never_nil-requires
+never_nil-requires c κs = search rules
+
+returns-then-never_nil : tie.Need-returns-then-never_nil
+returns-then-never_nil c = search init_top
+
+make_zero-requires : tie.Need-make_zero-requires
+make_zero-requires c κs = search rules
 
 returns : tie.Need-returns
-returns c = search init_top
+returns c = search init_zero
 
-make-zero-requires : tie.Need-make-zero-requires
-make-zero-requires c κs = search rules
-
-returns-2 : tie.Need-returns-2
-returns-2 c = search init_zero
-
-pub make-init-spec : {M : Type 1} → statement M
-make-init-spec = tie.close (tie.spec never-nil-requires returns make-zero-requires returns-2)
+pub make_init_spec : {M : Type 1} → statement M
+make_init_spec = tie.close (tie.spec never_nil-requires returns-then-never_nil make_zero-requires returns)

@@ -4,111 +4,111 @@ use borrow.Author.Rules.{rules}
 use Rattle.of_types.proofs.rows_of.Statement.{statement}
 use Rattle.of_types.proofs.rows_of.Tie as tie
 
-enum_told : tie.Need-enum-told
-enum_told c = search rules
+enum_told-1 : tie.Need-enum_told-1
+enum_told-1 c = search rules
 
-slice-aggregate-types-rows : tie.Need-slice-aggregate-types-rows
-slice-aggregate-types-rows c = search rules
+slice_bounds-types_rows-end : tie.Need-slice_bounds-types_rows-end
+slice_bounds-types_rows-end c = search rules
 
-types-rows-requires : tie.Need-types-rows-requires
-types-rows-requires c κs = search rules
+types_rows-requires : tie.Need-types_rows-requires
+types_rows-requires c κs = search rules
 
-enum-told-2 : tie.Need-enum-told-2
-enum-told-2 c = search rules
+enum_told-in-MakeZero : tie.Need-enum_told-in-MakeZero
+enum_told-in-MakeZero c = search rules
 
-zero-rows-requires : tie.Need-zero-rows-requires
-zero-rows-requires c κs = search rules
+zero_rows-requires : tie.Need-zero_rows-requires
+zero_rows-requires c κs = search rules
 
-enum-told-3 : tie.Need-enum-told-3
-enum-told-3 c = search rules
+enum_told-in-IsHigh : tie.Need-enum_told-in-IsHigh
+enum_told-in-IsHigh c = search rules
 
-slice-aggregate-types-rows-2 : tie.Need-slice-aggregate-types-rows-2
-slice-aggregate-types-rows-2 c = search rules
+slice_bounds-types_rows-end-in-IsHigh : tie.Need-slice_bounds-types_rows-end-in-IsHigh
+slice_bounds-types_rows-end-in-IsHigh c = search rules
 
-types-rows-requires-2 : tie.Need-types-rows-requires-2
-types-rows-requires-2 c κs = search rules
+types_rows-requires-in-IsHigh : tie.Need-types_rows-requires-in-IsHigh
+types_rows-requires-in-IsHigh c κs = search rules
 
-enum-told-4 : tie.Need-enum-told-4
-enum-told-4 c = search rules
+enum_told-in-IsHighOrConstant : tie.Need-enum_told-in-IsHighOrConstant
+enum_told-in-IsHighOrConstant c = search rules
 
-slice-aggregate-types-rows-3 : tie.Need-slice-aggregate-types-rows-3
-slice-aggregate-types-rows-3 c = search rules
+slice_bounds-types_rows-end-in-IsHighOrConstant : tie.Need-slice_bounds-types_rows-end-in-IsHighOrConstant
+slice_bounds-types_rows-end-in-IsHighOrConstant c = search rules
 
-types-rows-requires-3 : tie.Need-types-rows-requires-3
-types-rows-requires-3 c κs = search rules
+types_rows-requires-in-IsHighOrConstant : tie.Need-types_rows-requires-in-IsHighOrConstant
+types_rows-requires-in-IsHighOrConstant c κs = search rules
 
-enum-told-5 : tie.Need-enum-told-5
-enum-told-5 c = search rules
+enum_told-in-IsConstant : tie.Need-enum_told-in-IsConstant
+enum_told-in-IsConstant c = search rules
 
-slice-aggregate-types-rows-4 : tie.Need-slice-aggregate-types-rows-4
-slice-aggregate-types-rows-4 c = search rules
+slice_bounds-types_rows-end-in-IsConstant : tie.Need-slice_bounds-types_rows-end-in-IsConstant
+slice_bounds-types_rows-end-in-IsConstant c = search rules
 
-types-rows-requires-4 : tie.Need-types-rows-requires-4
-types-rows-requires-4 c κs = search rules
+types_rows-requires-in-IsConstant : tie.Need-types_rows-requires-in-IsConstant
+types_rows-requires-in-IsConstant c κs = search rules
 
-enum-told-6 : tie.Need-enum-told-6
-enum-told-6 c = search rules
+enum_told-in-IsFref : tie.Need-enum_told-in-IsFref
+enum_told-in-IsFref c = search rules
 
-slice-aggregate-types-rows-5 : tie.Need-slice-aggregate-types-rows-5
-slice-aggregate-types-rows-5 c = search rules
+slice_bounds-types_rows-end-in-IsFref : tie.Need-slice_bounds-types_rows-end-in-IsFref
+slice_bounds-types_rows-end-in-IsFref c = search rules
 
-types-rows-requires-5 : tie.Need-types-rows-requires-5
-types-rows-requires-5 c κs = search rules
+types_rows-requires-in-IsFref : tie.Need-types_rows-requires-in-IsFref
+types_rows-requires-in-IsFref c κs = search rules
 
-enum-told-7 : tie.Need-enum-told-7
-enum-told-7 c = search rules
+enum_told-in-LogSize : tie.Need-enum_told-in-LogSize
+enum_told-in-LogSize c = search rules
 
-log-size-rows-requires : tie.Need-log-size-rows-requires
-log-size-rows-requires c κs = search rules
+log_size_rows-requires : tie.Need-log_size_rows-requires
+log_size_rows-requires c κs = search rules
 
-returns : tie.Need-returns
-returns c = as_rows c.before.before.enum_told.given.1 _ _ c.types-rows.ensures
+returns-in-MakeInit : tie.Need-returns-in-MakeInit
+returns-in-MakeInit c = as_rows c.in-MakeInit.is _ _ c.types_rows.ensures
 
-returns-2 : tie.Need-returns-2
-returns-2 c = as_rows c.before.enum-told2.given.1 _ _ c.zero-rows.ensures
+returns-in-MakeZero : tie.Need-returns-in-MakeZero
+returns-in-MakeZero c = as_rows c.in-MakeZero.is _ _ c.zero_rows.ensures
 
-returns-3 : tie.Need-returns-3
-returns-3 c = as_rows c.before.before.enum-told3.given.1 _ _ c.types-rows2.ensures
+returns-in-IsHigh : tie.Need-returns-in-IsHigh
+returns-in-IsHigh c = as_rows c.in-IsHigh.is _ _ c.types_rows-in-IsHigh.ensures
 
-returns-4 : tie.Need-returns-4
-returns-4 c = as_rows c.before.before.enum-told4.given.1 _ _ c.types-rows3.ensures
+returns-in-IsHighOrConstant : tie.Need-returns-in-IsHighOrConstant
+returns-in-IsHighOrConstant c = as_rows c.in-IsHighOrConstant.is _ _ c.types_rows-in-IsHighOrConstant.ensures
 
-returns-5 : tie.Need-returns-5
-returns-5 c = as_rows c.before.before.enum-told5.given.1 _ _ c.types-rows4.ensures
+returns-in-IsConstant : tie.Need-returns-in-IsConstant
+returns-in-IsConstant c = as_rows c.in-IsConstant.is _ _ c.types_rows-in-IsConstant.ensures
 
-returns-6 : tie.Need-returns-6
-returns-6 c = as_rows c.before.before.enum-told6.given.1 _ _ c.types-rows5.ensures
+returns-in-IsFref : tie.Need-returns-in-IsFref
+returns-in-IsFref c = as_rows c.in-IsFref.is _ _ c.types_rows-in-IsFref.ensures
 
-returns-7 : tie.Need-returns-7
-returns-7 c = as_rows c.before.enum-told7.given.1 _ _ c.log-size-rows.ensures
+returns-in-LogSize : tie.Need-returns-in-LogSize
+returns-in-LogSize c = as_rows c.in-LogSize.is _ _ c.log_size_rows.ensures
 
-pub rows-of-spec : {M : Type 1} → statement M
-rows-of-spec =
+pub rows_of_spec : {M : Type 1} → statement M
+rows_of_spec =
     tie.close
     (tie.spec
-    enum_told
-    slice-aggregate-types-rows
-    types-rows-requires
-    enum-told-2
-    zero-rows-requires
-    enum-told-3
-    slice-aggregate-types-rows-2
-    types-rows-requires-2
-    enum-told-4
-    slice-aggregate-types-rows-3
-    types-rows-requires-3
-    enum-told-5
-    slice-aggregate-types-rows-4
-    types-rows-requires-4
-    enum-told-6
-    slice-aggregate-types-rows-5
-    types-rows-requires-5
-    enum-told-7
-    log-size-rows-requires
-    returns
-    returns-2
-    returns-3
-    returns-4
-    returns-5
-    returns-6
-    returns-7)
+    enum_told-1
+    slice_bounds-types_rows-end
+    types_rows-requires
+    enum_told-in-MakeZero
+    zero_rows-requires
+    enum_told-in-IsHigh
+    slice_bounds-types_rows-end-in-IsHigh
+    types_rows-requires-in-IsHigh
+    enum_told-in-IsHighOrConstant
+    slice_bounds-types_rows-end-in-IsHighOrConstant
+    types_rows-requires-in-IsHighOrConstant
+    enum_told-in-IsConstant
+    slice_bounds-types_rows-end-in-IsConstant
+    types_rows-requires-in-IsConstant
+    enum_told-in-IsFref
+    slice_bounds-types_rows-end-in-IsFref
+    types_rows-requires-in-IsFref
+    enum_told-in-LogSize
+    log_size_rows-requires
+    returns-in-MakeInit
+    returns-in-MakeZero
+    returns-in-IsHigh
+    returns-in-IsHighOrConstant
+    returns-in-IsConstant
+    returns-in-IsFref
+    returns-in-LogSize)

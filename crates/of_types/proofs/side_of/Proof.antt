@@ -7,63 +7,63 @@ use borrow.Author.Rules.{rules}
 use Rattle.of_types.proofs.side_of.Statement.{statement}
 use Rattle.of_types.proofs.side_of.Tie as tie
 
-slice-aggregate-kind-on : tie.Need-slice-aggregate-kind-on
-slice-aggregate-kind-on c = search rules
+slice_bounds-kind_on-end : tie.Need-slice_bounds-kind_on-end
+slice_bounds-kind_on-end c = search rules
 
-kind-on-requires : tie.Need-kind-on-requires
-kind-on-requires c κs = search rules
+kind_on-k-requires : tie.Need-kind_on-k-requires
+kind_on-k-requires c κs = search rules
+
+returns-then-k-eq-TOP : tie.Need-returns-then-k-eq-TOP
+returns-then-k-eq-TOP c = search side_top
+
+returns-then-k-eq-XCTRL : tie.Need-returns-then-k-eq-XCTRL
+returns-then-k-eq-XCTRL c = search side_xctrl
+
+int_side_at-requires : tie.Need-int_side_at-requires
+int_side_at-requires c κs = let k = c.before.before.before in let s = k.before.before.before in (c.requires, let k = c.before.before.before in let s = k.before.before.before in omega (arith, kind_inside c.args.words.now c.args.used c.args.t c.kind_on-k.result c.requires c.kind_on-k.ensures (omega (arith, c.if-k-eq-INT.true))))
+
+returns-then-k-eq-INT : tie.Need-returns-then-k-eq-INT
+returns-then-k-eq-INT c = search side_int
+
+slice_bounds-word-end : tie.Need-slice_bounds-word-end
+slice_bounds-word-end c = search rules
+
+overflow_add-t : tie.Need-overflow_add-t
+overflow_add-t c = omega (arith, kind_inside c.args.words.now c.args.used c.args.t c.kind_on-k.result c.requires c.kind_on-k.ensures (omega (arith, c.if-k-eq-FLOAT.true)))
+
+word-size-requires : tie.Need-word-size-requires
+word-size-requires c κs = search rules
+
+float_side-requires : tie.Need-float_side-requires
+float_side-requires c κs = search rules
+
+returns-then-k-eq-FLOAT : tie.Need-returns-then-k-eq-FLOAT
+returns-then-k-eq-FLOAT c = search side_float
+
+pointer_side-requires : tie.Need-pointer_side-requires
+pointer_side-requires c κs = search rules
+
+returns-then-k-eq-MEM_PTR : tie.Need-returns-then-k-eq-MEM_PTR
+returns-then-k-eq-MEM_PTR c = search side_pointer
 
 returns : tie.Need-returns
-returns c = search side_top
+returns c = search side_other
 
-returns-2 : tie.Need-returns-2
-returns-2 c = search side_xctrl
-
-int-side-at-requires : tie.Need-int-side-at-requires
-int-side-at-requires c κs = let k = c.before.before.before in let s = k.before.before.before in (s.requires, let k = c.before.before.before in let s = k.before.before.before in omega (arith, kind_inside s.args.words.now s.args.used s.args.t k.kind-on.result s.requires k.kind-on.ensures (omega (arith, c.if3.true))))
-
-returns-3 : tie.Need-returns-3
-returns-3 c = search side_int
-
-slice-aggregate-word : tie.Need-slice-aggregate-word
-slice-aggregate-word c = search rules
-
-add-word : tie.Need-overflow-add-word
-add-word c = let k = c.before.before.before.before.before in let s = k.before.before.before in omega (arith, kind_inside s.args.words.now s.args.used s.args.t k.kind-on.result s.requires k.kind-on.ensures (omega (arith, c.before.if4.true)))
-
-word-requires : tie.Need-word-requires
-word-requires c κs = search rules
-
-float-side-requires : tie.Need-float-side-requires
-float-side-requires c κs = search rules
-
-returns-4 : tie.Need-returns-4
-returns-4 c = search side_float
-
-pointer-side-requires : tie.Need-pointer-side-requires
-pointer-side-requires c κs = search rules
-
-returns-5 : tie.Need-returns-5
-returns-5 c = search side_pointer
-
-returns-6 : tie.Need-returns-6
-returns-6 c = search side_other
-
-pub side-of-spec : {M : Type 1} → statement M
-side-of-spec =
+pub side_of_spec : {M : Type 1} → statement M
+side_of_spec =
     tie.close
     (tie.spec
-    slice-aggregate-kind-on
-    kind-on-requires
-    returns
-    returns-2
-    int-side-at-requires
-    returns-3
-    slice-aggregate-word
-    add-word
-    word-requires
-    float-side-requires
-    returns-4
-    pointer-side-requires
-    returns-5
-    returns-6)
+    slice_bounds-kind_on-end
+    kind_on-k-requires
+    returns-then-k-eq-TOP
+    returns-then-k-eq-XCTRL
+    int_side_at-requires
+    returns-then-k-eq-INT
+    slice_bounds-word-end
+    overflow_add-t
+    word-size-requires
+    float_side-requires
+    returns-then-k-eq-FLOAT
+    pointer_side-requires
+    returns-then-k-eq-MEM_PTR
+    returns)

@@ -7,103 +7,103 @@ use borrow.Author.Rules.{rules}
 use Rattle.of_types.proofs.tell.Statement.{statement}
 use Rattle.of_types.proofs.tell.Tie as tie
 
-enum_told : tie.Need-enum-told
-enum_told c = search rules
+enum_told-1 : tie.Need-enum_told-1
+enum_told-1 c = search rules
 
-make-init-requires : tie.Need-make-init-requires
-make-init-requires c κs = search rules
+make_init-requires : tie.Need-make_init-requires
+make_init-requires c κs = search rules
 
-enum-told-2 : tie.Need-enum-told-2
-enum-told-2 c = search rules
+enum_told-in-MakeZero : tie.Need-enum_told-in-MakeZero
+enum_told-in-MakeZero c = search rules
 
-make-zero-requires : tie.Need-make-zero-requires
-make-zero-requires c κs = search rules
+make_zero-requires : tie.Need-make_zero-requires
+make_zero-requires c κs = search rules
 
-enum-told-3 : tie.Need-enum-told-3
-enum-told-3 c = search rules
+enum_told-in-IsHigh : tie.Need-enum_told-in-IsHigh
+enum_told-in-IsHigh c = search rules
 
-side-of-requires : tie.Need-side-of-requires
-side-of-requires c κs = search rules
+side_of-requires : tie.Need-side_of-requires
+side_of-requires c κs = search rules
 
-is-high-requires : tie.Need-is-high-requires
-is-high-requires c κs = search rules
+is_high-requires : tie.Need-is_high-requires
+is_high-requires c κs = search rules
 
-enum-told-4 : tie.Need-enum-told-4
-enum-told-4 c = search rules
+enum_told-in-IsHighOrConstant : tie.Need-enum_told-in-IsHighOrConstant
+enum_told-in-IsHighOrConstant c = search rules
 
-side-of-requires-2 : tie.Need-side-of-requires-2
-side-of-requires-2 c κs = search rules
+side_of-requires-in-IsHighOrConstant : tie.Need-side_of-requires-in-IsHighOrConstant
+side_of-requires-in-IsHighOrConstant c κs = search rules
 
-is-high-or-constant-requires : tie.Need-is-high-or-constant-requires
-is-high-or-constant-requires c κs = search rules
+is_high_or_constant-requires : tie.Need-is_high_or_constant-requires
+is_high_or_constant-requires c κs = search rules
 
-enum-told-5 : tie.Need-enum-told-5
-enum-told-5 c = search rules
+enum_told-in-IsConstant : tie.Need-enum_told-in-IsConstant
+enum_told-in-IsConstant c = search rules
 
-side-of-requires-3 : tie.Need-side-of-requires-3
-side-of-requires-3 c κs = search rules
+side_of-requires-in-IsConstant : tie.Need-side_of-requires-in-IsConstant
+side_of-requires-in-IsConstant c κs = search rules
 
-is-constant-requires : tie.Need-is-constant-requires
-is-constant-requires c κs = search rules
+is_constant-requires : tie.Need-is_constant-requires
+is_constant-requires c κs = search rules
 
-enum-told-6 : tie.Need-enum-told-6
-enum-told-6 c = search rules
+enum_told-in-IsFref : tie.Need-enum_told-in-IsFref
+enum_told-in-IsFref c = search rules
 
-is-fref-requires : tie.Need-is-fref-requires
-is-fref-requires c κs = search rules
+is_fref-requires : tie.Need-is_fref-requires
+is_fref-requires c κs = search rules
 
-enum-told-7 : tie.Need-enum-told-7
-enum-told-7 c = search rules
+enum_told-in-LogSize : tie.Need-enum_told-in-LogSize
+enum_told-in-LogSize c = search rules
 
-log-size-requires : tie.Need-log-size-requires
-log-size-requires c κs = search rules
+log_size-requires : tie.Need-log_size-requires
+log_size-requires c κs = search rules
 
-returns : tie.Need-returns
-returns c = as_told c.before.enum_told.given.1 _ _ (ap handle c.make_init.ensures)
+returns-in-MakeInit : tie.Need-returns-in-MakeInit
+returns-in-MakeInit c = as_told c.in-MakeInit.is _ _ (ap handle c.make_init.ensures)
 
-returns-2 : tie.Need-returns-2
-returns-2 c = as_told c.before.enum-told2.given.1 _ _ (ap handle c.make_zero.ensures)
+returns-in-MakeZero : tie.Need-returns-in-MakeZero
+returns-in-MakeZero c = as_told c.in-MakeZero.is _ _ (ap handle c.make_zero.ensures)
 
-returns-3 : tie.Need-returns-3
-returns-3 c = as_told c.before.before.enum-told3.given.1 _ _ (ap flag (c.is_high_is.ensures ∙ ap is_high c.before.side-of.ensures))
+returns-in-IsHigh : tie.Need-returns-in-IsHigh
+returns-in-IsHigh c = as_told c.in-IsHigh.is _ _ (ap flag (c.is_high_is.ensures ∙ ap is_high c.side_of.ensures))
 
-returns-4 : tie.Need-returns-4
-returns-4 c = as_told c.before.before.enum-told4.given.1 _ _ (ap flag (c.is_high_or_constant_is.ensures ∙ ap is_high_or_constant c.before.side-of2.ensures))
+returns-in-IsHighOrConstant : tie.Need-returns-in-IsHighOrConstant
+returns-in-IsHighOrConstant c = as_told c.in-IsHighOrConstant.is _ _ (ap flag (c.is_high_or_constant_is.ensures ∙ ap is_high_or_constant c.side_of-in-IsHighOrConstant.ensures))
 
-returns-5 : tie.Need-returns-5
-returns-5 c = as_told c.before.before.enum-told5.given.1 _ _ (ap flag (c.is_constant_is.ensures ∙ ap is_constant c.before.side-of3.ensures))
+returns-in-IsConstant : tie.Need-returns-in-IsConstant
+returns-in-IsConstant c = as_told c.in-IsConstant.is _ _ (ap flag (c.is_constant_is.ensures ∙ ap is_constant c.side_of-in-IsConstant.ensures))
 
-returns-6 : tie.Need-returns-6
-returns-6 c = as_told c.before.enum-told6.given.1 _ _ (ap flag c.is_fref_is.ensures)
+returns-in-IsFref : tie.Need-returns-in-IsFref
+returns-in-IsFref c = as_told c.in-IsFref.is _ _ (ap flag c.is_fref_is.ensures)
 
-returns-7 : tie.Need-returns-7
-returns-7 c = as_told c.before.enum-told7.given.1 _ _ (ap number c.log_size_is.ensures)
+returns-in-LogSize : tie.Need-returns-in-LogSize
+returns-in-LogSize c = as_told c.in-LogSize.is _ _ (ap number c.log_size_is.ensures)
 
-pub tell-spec : {M : Type 1} → statement M
-tell-spec =
+pub tell_spec : {M : Type 1} → statement M
+tell_spec =
     tie.close
     (tie.spec
-    enum_told
-    make-init-requires
-    enum-told-2
-    make-zero-requires
-    enum-told-3
-    side-of-requires
-    is-high-requires
-    enum-told-4
-    side-of-requires-2
-    is-high-or-constant-requires
-    enum-told-5
-    side-of-requires-3
-    is-constant-requires
-    enum-told-6
-    is-fref-requires
-    enum-told-7
-    log-size-requires
-    returns
-    returns-2
-    returns-3
-    returns-4
-    returns-5
-    returns-6
-    returns-7)
+    enum_told-1
+    make_init-requires
+    enum_told-in-MakeZero
+    make_zero-requires
+    enum_told-in-IsHigh
+    side_of-requires
+    is_high-requires
+    enum_told-in-IsHighOrConstant
+    side_of-requires-in-IsHighOrConstant
+    is_high_or_constant-requires
+    enum_told-in-IsConstant
+    side_of-requires-in-IsConstant
+    is_constant-requires
+    enum_told-in-IsFref
+    is_fref-requires
+    enum_told-in-LogSize
+    log_size-requires
+    returns-in-MakeInit
+    returns-in-MakeZero
+    returns-in-IsHigh
+    returns-in-IsHighOrConstant
+    returns-in-IsConstant
+    returns-in-IsFref
+    returns-in-LogSize)

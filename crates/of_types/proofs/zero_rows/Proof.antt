@@ -4,39 +4,39 @@ use borrow.Author.Rules.{rules}
 use Rattle.of_types.proofs.zero_rows.Statement.{statement}
 use Rattle.of_types.proofs.zero_rows.Tie as tie
 
-slice-aggregate-all-start : tie.Need-slice-aggregate-all-start
-slice-aggregate-all-start c = search rules
+slice_bounds-all_start-end : tie.Need-slice_bounds-all_start-end
+slice_bounds-all_start-end c = search rules
 
-all-start-requires : tie.Need-all-start-requires
-all-start-requires c κs = search rules
+all_start-requires : tie.Need-all_start-requires
+all_start-requires c κs = search rules
+
+returns-then-not-all_start : tie.Need-returns-then-not-all_start
+returns-then-not-all_start c = search kind_2
+
+slice_bounds-kind_on-end : tie.Need-slice_bounds-kind_on-end
+slice_bounds-kind_on-end c = search rules
+
+kind_on-requires : tie.Need-kind_on-requires
+kind_on-requires c κs = search rules
+
+has_zero-requires : tie.Need-has_zero-requires
+has_zero-requires c κs = search rules
+
+returns-then-not-has_zero : tie.Need-returns-then-not-has_zero
+returns-then-not-has_zero c = search (kind_3, only)
 
 returns : tie.Need-returns
-returns c = search kind_2
+returns c = search (kind_0, only)
 
-slice-aggregate-kind-on : tie.Need-slice-aggregate-kind-on
-slice-aggregate-kind-on c = search rules
-
-kind-on-requires : tie.Need-kind-on-requires
-kind-on-requires c κs = search rules
-
-has-zero-requires : tie.Need-has-zero-requires
-has-zero-requires c κs = search rules
-
-returns-2 : tie.Need-returns-2
-returns-2 c = search (kind_3, only)
-
-returns-3 : tie.Need-returns-3
-returns-3 c = search (kind_0, only)
-
-pub zero-rows-spec : {M : Type 1} → statement M
-zero-rows-spec =
+pub zero_rows_spec : {M : Type 1} → statement M
+zero_rows_spec =
     tie.close
     (tie.spec
-    slice-aggregate-all-start
-    all-start-requires
-    returns
-    slice-aggregate-kind-on
-    kind-on-requires
-    has-zero-requires
-    returns-2
-    returns-3)
+    slice_bounds-all_start-end
+    all_start-requires
+    returns-then-not-all_start
+    slice_bounds-kind_on-end
+    kind_on-requires
+    has_zero-requires
+    returns-then-not-has_zero
+    returns)
