@@ -5,25 +5,25 @@ use borrow.Author.Rules.{rules}
 use Rattle.of_values.proofs.float_at.Statement.{statement}
 use Rattle.of_values.proofs.float_at.Tie as tie
 
-slice-aggregate-word : tie.Need-slice-aggregate-word
-slice-aggregate-word c = search rules
+slice_bounds-word-end : tie.Need-slice_bounds-word-end
+slice_bounds-word-end c = search rules
 
-add-word : tie.Need-overflow-add-word
-add-word c = search rules
+overflow_add-t : tie.Need-overflow_add-t
+overflow_add-t c = search rules
 
-word-requires : tie.Need-word-requires
-word-requires c κs = search rules
+word-size-requires : tie.Need-word-size-requires
+word-size-requires c κs = search rules
 
 bits-requires : tie.Need-bits-requires
 bits-requires c κs = search rules
 
-float-of-requires : tie.Need-float-of-requires
-float-of-requires c κs = search sized_word
+float_of-requires : tie.Need-float_of-requires
+float_of-requires c κs = search sized_word
 
 returns : tie.Need-returns
-returns c = let s = c.before.before.before.before.before in read_words (take s.args.used s.args.words.now) s.args.t _ _ _ c.before.before.word.ensures c.before.bits.ensures c.float_of.ensures
+returns c = read_words (take c.args.used c.args.words.now) c.args.t _ _ _ c.word-size.ensures c.bits.ensures c.float_of.ensures
 
-pub float-at-spec : {M : Type 1} → statement M
-float-at-spec =
+pub float_at_spec : {M : Type 1} → statement M
+float_at_spec =
     tie.close
-    (tie.spec slice-aggregate-word add-word word-requires bits-requires float-of-requires returns)
+    (tie.spec slice_bounds-word-end overflow_add-t word-size-requires bits-requires float_of-requires returns)

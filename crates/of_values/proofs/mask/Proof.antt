@@ -16,5 +16,5 @@ mask-requires c κs = search rules
 returns : tie.Need-returns
 returns c = search masked
 
-pub mask-spec : {M : Type 1} → statement M
-mask-spec = tie.close (tie.spec min-requires max-requires mask-requires returns)
+pub mask_spec : {M : Type 1} → statement M
+mask_spec = tie.close (tie.spec min-requires max-requires mask-requires returns)

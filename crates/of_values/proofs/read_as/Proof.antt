@@ -4,14 +4,14 @@ use borrow.Author.Rules.{rules}
 use Rattle.of_values.proofs.read_as.Statement.{statement}
 use Rattle.of_values.proofs.read_as.Tie as tie
 
-float-at-requires : tie.Need-float-at-requires
-float-at-requires c κs = search rules
+float_at-requires : tie.Need-float_at-requires
+float_at-requires c κs = search rules
 
-reading-of-requires : tie.Need-reading-of-requires
-reading-of-requires c κs = search rules
+reading_of-requires : tie.Need-reading_of-requires
+reading_of-requires c κs = search rules
 
 returns : tie.Need-returns
 returns c = search read_reading
 
-pub read-as-spec : {M : Type 1} → statement M
-read-as-spec = tie.close (tie.spec float-at-requires reading-of-requires returns)
+pub read_as_spec : {M : Type 1} → statement M
+read_as_spec = tie.close (tie.spec float_at-requires reading_of-requires returns)

@@ -4,17 +4,17 @@ use borrow.Author.Rules.{rules}
 use Rattle.of_values.proofs.reading.Statement.{statement}
 use Rattle.of_values.proofs.reading.Tie as tie
 
-read-as-requires : tie.Need-read-as-requires
-read-as-requires c κs = search rules
+read_as-requires : tie.Need-read_as-requires
+read_as-requires c κs = search rules
 
 bits-requires : tie.Need-bits-requires
 bits-requires c κs = search rules
 
-reading-is-requires : tie.Need-reading-is-requires
-reading-is-requires c κs = search read_from
+reading_is-requires : tie.Need-reading_is-requires
+reading_is-requires c κs = search read_from
 
 returns : tie.Need-returns
 returns c = search told_reading
 
-pub reading-spec : {M : Type 1} → statement M
-reading-spec = tie.close (tie.spec read-as-requires bits-requires reading-is-requires returns)
+pub reading_spec : {M : Type 1} → statement M
+reading_spec = tie.close (tie.spec read_as-requires bits-requires reading_is-requires returns)

@@ -4,35 +4,35 @@ use borrow.Author.Rules.{rules}
 use Rattle.of_values.proofs.reading_is.Statement.{statement}
 use Rattle.of_values.proofs.reading_is.Tie as tie
 
-enum-known-r : tie.Need-enum-known-r
-enum-known-r c = search rules
+enum_known-r : tie.Need-enum_known-r
+enum_known-r c = search rules
 
-bits-of-requires : tie.Need-bits-of-requires
-bits-of-requires c κs = c.before.before.before.requires _ c.before.r.given.1
+bits_of-requires : tie.Need-bits_of-requires
+bits_of-requires c κs = c.requires _ c.in-Constant.is
 
-enum-known-r-2 : tie.Need-enum-known-r-2
-enum-known-r-2 c = search rules
+enum_known-r-in-Sized-1 : tie.Need-enum_known-r-in-Sized-1
+enum_known-r-in-Sized-1 c = search rules
 
-cast-word-of : tie.Need-overflow-cast-word-of
-cast-word-of c = search (wide, rules)
+overflow_cast-sz : tie.Need-overflow_cast-sz
+overflow_cast-sz c = search (wide, rules)
 
-word-of-requires : tie.Need-word-of-requires
-word-of-requires c κs = search rules
+word_of-requires : tie.Need-word_of-requires
+word_of-requires c κs = search rules
 
-returns : tie.Need-returns
-returns c = search is_constant_is
+returns-in-Constant : tie.Need-returns-in-Constant
+returns-in-Constant c = search is_constant_is
 
-returns-2 : tie.Need-returns-2
-returns-2 c = search (is_size_is, rules)
+returns-in-Sized : tie.Need-returns-in-Sized
+returns-in-Sized c = search (is_size_is, rules)
 
-pub reading-is-spec : {M : Type 1} → statement M
-reading-is-spec =
+pub reading_is_spec : {M : Type 1} → statement M
+reading_is_spec =
     tie.close
     (tie.spec
-    enum-known-r
-    bits-of-requires
-    enum-known-r-2
-    cast-word-of
-    word-of-requires
-    returns
-    returns-2)
+    enum_known-r
+    bits_of-requires
+    enum_known-r-in-Sized-1
+    overflow_cast-sz
+    word_of-requires
+    returns-in-Constant
+    returns-in-Sized)

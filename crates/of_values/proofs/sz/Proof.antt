@@ -4,17 +4,17 @@ use borrow.Author.Rules.{rules}
 use Rattle.of_values.proofs.sz.Statement.{statement}
 use Rattle.of_values.proofs.sz.Tie as tie
 
-float-at-requires : tie.Need-float-at-requires
-float-at-requires c κs = search rules
+float_at-f-requires : tie.Need-float_at-f-requires
+float_at-f-requires c κs = search rules
 
-cast-word-of : tie.Need-overflow-cast-word-of
-cast-word-of c = search (wide, rules)
+overflow_cast-f : tie.Need-overflow_cast-f
+overflow_cast-f c = search (wide, rules)
 
-word-of-requires : tie.Need-word-of-requires
-word-of-requires c κs = search rules
+word_of-requires : tie.Need-word_of-requires
+word_of-requires c κs = search rules
 
 returns : tie.Need-returns
 returns c = search (read_size, rules)
 
-pub sz-spec : {M : Type 1} → statement M
-sz-spec = tie.close (tie.spec float-at-requires cast-word-of word-of-requires returns)
+pub sz_spec : {M : Type 1} → statement M
+sz_spec = tie.close (tie.spec float_at-f-requires overflow_cast-f word_of-requires returns)

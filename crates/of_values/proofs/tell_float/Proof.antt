@@ -6,55 +6,55 @@ use borrow.Author.Rules.{rules}
 use Rattle.of_values.proofs.tell_float.Statement.{statement}
 use Rattle.of_values.proofs.tell_float.Tie as tie
 
-enum_told : tie.Need-enum-told
-enum_told c = search rules
+enum_told-1 : tie.Need-enum_told-1
+enum_told-1 c = search rules
 
 sz-requires : tie.Need-sz-requires
 sz-requires c κs = search rules
 
-enum-told-2 : tie.Need-enum-told-2
-enum-told-2 c = search rules
+enum_told-in-IsF32 : tie.Need-enum_told-in-IsF32
+enum_told-in-IsF32 c = search rules
 
-is-f32-requires : tie.Need-is-f32-requires
-is-f32-requires c κs = search rules
+is_f32-requires : tie.Need-is_f32-requires
+is_f32-requires c κs = search rules
 
-enum-told-3 : tie.Need-enum-told-3
-enum-told-3 c = search rules
+enum_told-in-Value : tie.Need-enum_told-in-Value
+enum_told-in-Value c = search rules
 
-float-value-requires : tie.Need-float-value-requires
-float-value-requires c κs = search rules
+float_value-requires : tie.Need-float_value-requires
+float_value-requires c κs = search rules
 
-enum-told-4 : tie.Need-enum-told-4
-enum-told-4 c = search rules
+enum_told-in-Reading : tie.Need-enum_told-in-Reading
+enum_told-in-Reading c = search rules
 
 reading-requires : tie.Need-reading-requires
 reading-requires c κs = search rules
 
-returns : tie.Need-returns
-returns c = as_float _ _ c.before.enum_told.given.1 (ap signed_number c.sz.ensures)
+returns-in-Sz : tie.Need-returns-in-Sz
+returns-in-Sz c = as_float _ _ c.in-Sz.is (ap signed_number c.sz.ensures)
 
-returns-2 : tie.Need-returns-2
-returns-2 c = as_float _ _ c.before.enum-told2.given.1 (ap flag c.is-f32.ensures)
+returns-in-IsF32 : tie.Need-returns-in-IsF32
+returns-in-IsF32 c = as_float _ _ c.in-IsF32.is (ap flag c.is_f32.ensures)
 
-returns-3 : tie.Need-returns-3
-returns-3 c = as_float _ _ c.before.enum-told3.given.1 c.float_value.ensures
+returns-in-Value : tie.Need-returns-in-Value
+returns-in-Value c = as_float _ _ c.in-Value.is c.float_value.ensures
 
-returns-4 : tie.Need-returns-4
-returns-4 c = as_float _ _ c.before.enum-told4.given.1 c.reading.ensures
+returns-in-Reading : tie.Need-returns-in-Reading
+returns-in-Reading c = as_float _ _ c.in-Reading.is c.reading.ensures
 
-pub tell-float-spec : {M : Type 1} → statement M
-tell-float-spec =
+pub tell_float_spec : {M : Type 1} → statement M
+tell_float_spec =
     tie.close
     (tie.spec
-    enum_told
+    enum_told-1
     sz-requires
-    enum-told-2
-    is-f32-requires
-    enum-told-3
-    float-value-requires
-    enum-told-4
+    enum_told-in-IsF32
+    is_f32-requires
+    enum_told-in-Value
+    float_value-requires
+    enum_told-in-Reading
     reading-requires
-    returns
-    returns-2
-    returns-3
-    returns-4)
+    returns-in-Sz
+    returns-in-IsF32
+    returns-in-Value
+    returns-in-Reading)

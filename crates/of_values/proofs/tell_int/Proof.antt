@@ -6,55 +6,55 @@ use borrow.Author.Rules.{rules}
 use Rattle.of_values.proofs.tell_int.Statement.{statement}
 use Rattle.of_values.proofs.tell_int.Tie as tie
 
-enum_told : tie.Need-enum-told
-enum_told c = search rules
+enum_told-1 : tie.Need-enum_told-1
+enum_told-1 c = search rules
 
 min-requires : tie.Need-min-requires
 min-requires c κs = search rules
 
-enum-told-2 : tie.Need-enum-told-2
-enum-told-2 c = search rules
+enum_told-in-Max : tie.Need-enum_told-in-Max
+enum_told-in-Max c = search rules
 
 max-requires : tie.Need-max-requires
 max-requires c κs = search rules
 
-enum-told-3 : tie.Need-enum-told-3
-enum-told-3 c = search rules
+enum_told-in-Value : tie.Need-enum_told-in-Value
+enum_told-in-Value c = search rules
 
 value-requires : tie.Need-value-requires
 value-requires c κs = search rules
 
-enum-told-4 : tie.Need-enum-told-4
-enum-told-4 c = search rules
+enum_told-in-Mask : tie.Need-enum_told-in-Mask
+enum_told-in-Mask c = search rules
 
 mask-requires : tie.Need-mask-requires
 mask-requires c κs = search rules
 
-returns : tie.Need-returns
-returns c = as_int _ _ c.before.enum_told.given.1 (ap signed_number c.min.ensures)
+returns-in-Min : tie.Need-returns-in-Min
+returns-in-Min c = as_int _ _ c.in-Min.is (ap signed_number c.min.ensures)
 
-returns-2 : tie.Need-returns-2
-returns-2 c = as_int _ _ c.before.enum-told2.given.1 (ap signed_number c.max.ensures)
+returns-in-Max : tie.Need-returns-in-Max
+returns-in-Max c = as_int _ _ c.in-Max.is (ap signed_number c.max.ensures)
 
-returns-3 : tie.Need-returns-3
-returns-3 c = as_int _ _ c.before.enum-told3.given.1 c.value.ensures
+returns-in-Value : tie.Need-returns-in-Value
+returns-in-Value c = as_int _ _ c.in-Value.is c.value.ensures
 
-returns-4 : tie.Need-returns-4
-returns-4 c = as_int _ _ c.before.enum-told4.given.1 (ap signed_number c.mask.ensures)
+returns-in-Mask : tie.Need-returns-in-Mask
+returns-in-Mask c = as_int _ _ c.in-Mask.is (ap signed_number c.mask.ensures)
 
-pub tell-int-spec : {M : Type 1} → statement M
-tell-int-spec =
+pub tell_int_spec : {M : Type 1} → statement M
+tell_int_spec =
     tie.close
     (tie.spec
-    enum_told
+    enum_told-1
     min-requires
-    enum-told-2
+    enum_told-in-Max
     max-requires
-    enum-told-3
+    enum_told-in-Value
     value-requires
-    enum-told-4
+    enum_told-in-Mask
     mask-requires
-    returns
-    returns-2
-    returns-3
-    returns-4)
+    returns-in-Min
+    returns-in-Max
+    returns-in-Value
+    returns-in-Mask)

@@ -4,17 +4,17 @@ use borrow.Author.Rules.{rules}
 use Rattle.of_values.proofs.value.Statement.{statement}
 use Rattle.of_values.proofs.value.Tie as tie
 
-min-requires : tie.Need-min-requires
-min-requires c κs = search rules
+min-low-requires : tie.Need-min-low-requires
+min-low-requires c κs = search rules
 
 max-requires : tie.Need-max-requires
 max-requires c κs = search rules
 
-returns : tie.Need-returns
-returns c = search one_value
+returns-then-low-max : tie.Need-returns-then-low-max
+returns-then-low-max c = search one_value
 
-returns-2 : tie.Need-returns-2
-returns-2 c = search no_value
+returns : tie.Need-returns
+returns c = search no_value
 
 pub value_spec : {M : Type 1} → statement M
-value_spec = tie.close (tie.spec min-requires max-requires returns returns-2)
+value_spec = tie.close (tie.spec min-low-requires max-requires returns-then-low-max returns)

@@ -4,20 +4,20 @@ use borrow.Author.Rules.{rules}
 use Rattle.of_values.proofs.value_is.Statement.{statement}
 use Rattle.of_values.proofs.value_is.Tie as tie
 
-enum-known-r : tie.Need-enum-known-r
-enum-known-r c = search rules
+enum_known-r : tie.Need-enum_known-r
+enum_known-r c = search rules
 
-bits-of-requires : tie.Need-bits-of-requires
-bits-of-requires c κs = c.before.before.before.requires _ c.before.r.given.1
+bits_of-requires : tie.Need-bits_of-requires
+bits_of-requires c κs = c.requires _ c.in-Constant.is
 
-enum_told : tie.Need-enum-told
-enum_told c = search rules
+enum_told-1 : tie.Need-enum_told-1
+enum_told-1 c = search rules
 
-returns : tie.Need-returns
-returns c = search is_value
+returns-in-Constant : tie.Need-returns-in-Constant
+returns-in-Constant c = search is_value
 
-returns-2 : tie.Need-returns-2
-returns-2 c = search rules
+returns-in-Sized : tie.Need-returns-in-Sized
+returns-in-Sized c = search rules
 
-pub value-is-spec : {M : Type 1} → statement M
-value-is-spec = tie.close (tie.spec enum-known-r bits-of-requires enum_told returns returns-2)
+pub value_is_spec : {M : Type 1} → statement M
+value_is_spec = tie.close (tie.spec enum_known-r bits_of-requires enum_told-1 returns-in-Constant returns-in-Sized)
