@@ -4,24 +4,24 @@ use borrow.Author.Rules.{rules}
 use Rattle.memory_steps.proofs.forget.Statement.{statement}
 use Rattle.memory_steps.proofs.forget.Tie as tie
 
-enum_told : tie.Need-enum-told
-enum_told c = search rules
+enum_told-1 : tie.Need-enum_told-1
+enum_told-1 c = search rules
 
 clear-requires : tie.Need-clear-requires
 clear-requires c κs = search rules
 
-enum-told-2 : tie.Need-enum-told-2
-enum-told-2 c = search rules
+enum_told-in_default : tie.Need-enum_told-in_default
+enum_told-in_default c = search rules
 
-same_length : tie.Need-same-length
-same_length c = search rules
+shape_of-memory : tie.Need-shape_of-memory
+shape_of-memory c = search rules
 
-returns : tie.Need-returns
-returns c = forgot_all _ _ _ c.before.before.before.before.enum_told.given.1 c.before.before.clear.ensures
+returns-in-Full : tie.Need-returns-in-Full
+returns-in-Full c = forgot_all _ _ _ c.in-Full.is c.clear.ensures
 
-returns-2 : tie.Need-returns-2
-returns-2 c = forgot_none _ _ _ _ c.enum-told2.given.1
+returns-in_default : tie.Need-returns-in_default
+returns-in_default c = forgot_none _ _ _ _ c.in_default.is
 
-pub forget-spec : {M : Type 1} → statement M
-forget-spec =
-    tie.close (tie.spec enum_told clear-requires enum-told-2 same_length returns returns-2)
+pub forget_spec : {M : Type 1} → statement M
+forget_spec =
+    tie.close (tie.spec enum_told-1 clear-requires enum_told-in_default shape_of-memory returns-in-Full returns-in_default)

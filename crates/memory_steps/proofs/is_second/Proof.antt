@@ -4,17 +4,17 @@ use borrow.Author.Rules.{rules}
 use Rattle.memory_steps.proofs.is_second.Statement.{statement}
 use Rattle.memory_steps.proofs.is_second.Tie as tie
 
-enum-known-m : tie.Need-enum-known-m
-enum-known-m c = search rules
+enum_known-m : tie.Need-enum_known-m
+enum_known-m c = search rules
 
-enum_told : tie.Need-enum-told
-enum_told c = search rules
+enum_told-1 : tie.Need-enum_told-1
+enum_told-1 c = search rules
 
-returns : tie.Need-returns
-returns c = second_at _ _ _ _ c.before.m.given.1
+returns-in-At : tie.Need-returns-in-At
+returns-in-At c = second_at _ _ _ _ c.in-At.is
 
-returns-2 : tie.Need-returns-2
-returns-2 c = second_full _ _ c.enum_told.given.1
+returns-in-Full : tie.Need-returns-in-Full
+returns-in-Full c = second_full _ _ c.in-Full.is
 
-pub is-second-spec : {M : Type 1} → statement M
-is-second-spec = tie.close (tie.spec enum-known-m enum_told returns returns-2)
+pub is_second_spec : {M : Type 1} → statement M
+is_second_spec = tie.close (tie.spec enum_known-m enum_told-1 returns-in-At returns-in-Full)

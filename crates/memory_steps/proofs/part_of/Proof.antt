@@ -4,23 +4,23 @@ use borrow.Author.Rules.{rules}
 use Rattle.memory_steps.proofs.part_of.Statement.{statement}
 use Rattle.memory_steps.proofs.part_of.Tie as tie
 
-enum_told : tie.Need-enum-told
-enum_told c = search rules
+enum_told-1 : tie.Need-enum_told-1
+enum_told-1 c = search rules
 
-enum-told-2 : tie.Need-enum-told-2
-enum-told-2 c = search rules
+enum_told-in-Glb : tie.Need-enum_told-in-Glb
+enum_told-in-Glb c = search rules
 
-enum-told-3 : tie.Need-enum-told-3
-enum-told-3 c = search rules
+enum_told-in-Lub : tie.Need-enum_told-in-Lub
+enum_told-in-Lub c = search rules
 
-returns : tie.Need-returns
-returns c = dual_part _ c.enum_told.given.1
+returns-in-Dual : tie.Need-returns-in-Dual
+returns-in-Dual c = dual_part _ c.in-Dual.is
 
-returns-2 : tie.Need-returns-2
-returns-2 c = glb_part _ c.enum-told2.given.1
+returns-in-Glb : tie.Need-returns-in-Glb
+returns-in-Glb c = glb_part _ c.in-Glb.is
 
-returns-3 : tie.Need-returns-3
-returns-3 c = lub_part _ c.enum-told3.given.1
+returns-in-Lub : tie.Need-returns-in-Lub
+returns-in-Lub c = lub_part _ c.in-Lub.is
 
-pub part-of-spec : {M : Type 1} → statement M
-part-of-spec = tie.close (tie.spec enum_told enum-told-2 enum-told-3 returns returns-2 returns-3)
+pub part_of_spec : {M : Type 1} → statement M
+part_of_spec = tie.close (tie.spec enum_told-1 enum_told-in-Glb enum_told-in-Lub returns-in-Dual returns-in-Glb returns-in-Lub)
