@@ -6,127 +6,91 @@ use borrow.Author.Rules.{rules}
 use Rattle.arrays.proofs.array.Statement.{statement}
 use Rattle.arrays.proofs.array.Tie as tie
 
-intern-name-requires : tie.Need-intern-name-requires
-intern-name-requires c κs = (search rules, (search rules, search rules))
+intern_name-requires : tie.Need-intern_name-requires
+intern_name-requires c κs = (search rules, (search rules, search rules))
 
-enum-known-name : tie.Need-enum-known-name
-enum-known-name c = search rules
+enum_known-name : tie.Need-enum_known-name
+enum_known-name c = search rules
 
-enum_told : tie.Need-enum-told
-enum_told c = search rules
+enum_told-1 : tie.Need-enum_told-1
+enum_told-1 c = search rules
 
-same_length : tie.Need-same-length
-same_length c = search rules
+shape_of-new-in_default : tie.Need-shape_of-new-in_default
+shape_of-new-in_default c = search rules
 
-returns : tie.Need-returns
-returns c = search no_first
+returns-in_default : tie.Need-returns-in_default
+returns-in_default c = search no_first
 
-slice-aggregate-intern-name : tie.Need-slice-aggregate-intern-name
-slice-aggregate-intern-name c = search rules
+intern_name-requires-2 : tie.Need-intern_name-requires-2
+intern_name-requires-2 c κs =
+    let so = named c.requires.0 _ _ c.intern_name.ensures c.in-At.is in
+    (so.segments, (search rules, reached_covers so c.requires.1.1))
 
-intern-name-requires-2 : tie.Need-intern-name-requires-2
-intern-name-requires-2 c κs =
-    let n = c.before.before.before in
-    let n₀ = n.before.before.before.before in
-    let s = n₀.before.before.before.before.before.before in
-    let so = named s.requires.0 _ _ n₀.intern-name.ensures n.name.given.1 in
-    (so.segments, (search rules, reached_covers so s.requires.1.1))
+enum_known-l : tie.Need-enum_known-l
+enum_known-l c = search rules
 
-enum-known-l : tie.Need-enum-known-l
-enum-known-l c = search rules
+enum_told-in_default-intern_name : tie.Need-enum_told-in_default-intern_name
+enum_told-in_default-intern_name c = search rules
 
-enum-told-2 : tie.Need-enum-told-2
-enum-told-2 c = search rules
+shape_of-new-in_default-intern_name : tie.Need-shape_of-new-in_default-intern_name
+shape_of-new-in_default-intern_name c = search rules
 
-same-length-2 : tie.Need-same-length-2
-same-length-2 c = search rules
+returns-in_default-intern_name : tie.Need-returns-in_default-intern_name
+returns-in_default-intern_name c = search no_second
 
-returns-2 : tie.Need-returns-2
-returns-2 c = search no_second
+intern_name-requires-3 : tie.Need-intern_name-requires-3
+intern_name-requires-3 c κs =
+    let so = length_named c.requires.0 _ _ c.intern_name.ensures c.in-At.is _ c.intern_name-2.ensures c.in-At-intern_name.is in
+    (so.segments, (search rules, reached_covers so c.requires.1.1))
 
-slice-aggregate-intern-name-2 : tie.Need-slice-aggregate-intern-name-2
-slice-aggregate-intern-name-2 c = search rules
+enum_known-b : tie.Need-enum_known-b
+enum_known-b c = search rules
 
-intern-name-requires-3 : tie.Need-intern-name-requires-3
-intern-name-requires-3 c κs =
-    let l = c.before.before.before in
-    let l₀ = l.before.before.before.before in
-    let n = l₀.before.before.before.before in
-    let n₀ = n.before.before.before.before in
-    let s = n₀.before.before.before.before.before.before in
-    let so = length_named s.requires.0 _ _ n₀.intern-name.ensures n.name.given.1 _ l₀.intern-name2.ensures l.l.given.1 in
-    (so.segments, (search rules, reached_covers so s.requires.1.1))
+enum_told-in_default-intern_name-2 : tie.Need-enum_told-in_default-intern_name-2
+enum_told-in_default-intern_name-2 c = search rules
 
-enum-known-b : tie.Need-enum-known-b
-enum-known-b c = search rules
+shape_of-new-in_default-intern_name-2 : tie.Need-shape_of-new-in_default-intern_name-2
+shape_of-new-in_default-intern_name-2 c = search rules
 
-enum-told-3 : tie.Need-enum-told-3
-enum-told-3 c = search rules
+returns-in_default-intern_name-2 : tie.Need-returns-in_default-intern_name-2
+returns-in_default-intern_name-2 c =
+    no_third c.requires.0 _ _ c.intern_name.ensures c.in-At.is _ c.intern_name-2.ensures c.in-At-intern_name.is _ c.intern_name-3.ensures _ c.in_default-intern_name-2.is
 
-same-length-3 : tie.Need-same-length-3
-same-length-3 c = search rules
-
-returns-3 : tie.Need-returns-3
-returns-3 c =
-    let b₀ = c.before.before.before.before in
-    let l = b₀.before.before.before.before in
-    let l₀ = l.before.before.before.before in
-    let n = l₀.before.before.before.before in
-    let n₀ = n.before.before.before.before in
-    let s = n₀.before.before.before.before.before.before in
-    no_third s.requires.0 _ _ n₀.intern-name.ensures n.name.given.1 _ l₀.intern-name2.ensures l.l.given.1 _ b₀.intern-name3.ensures _ c.enum-told3.given.1
-
-slice-aggregate-structure : tie.Need-slice-aggregate-structure
-slice-aggregate-structure c = search rules
+slice_bounds-structure-end : tie.Need-slice_bounds-structure-end
+slice_bounds-structure-end c = search rules
 
 structure-requires : tie.Need-structure-requires
 structure-requires c κs =
-    let b = c.before.before.before in
-    let b₀ = b.before.before.before.before in
-    let l = b₀.before.before.before.before in
-    let l₀ = l.before.before.before.before in
-    let n = l₀.before.before.before.before in
-    let n₀ = n.before.before.before.before in
-    let s = n₀.before.before.before.before.before.before in
-    let so = body_named s.requires.0 _ _ n₀.intern-name.ensures n.name.given.1 _ l₀.intern-name2.ensures l.l.given.1 _ b₀.intern-name3.ensures b.b.given.1 in
-    (so.segments, ((search rules, fields_fit s.requires.1.0.1 s.requires.1.0.2), reached_covers so s.requires.1.1))
+    let so = body_named c.requires.0 _ _ c.intern_name.ensures c.in-At.is _ c.intern_name-2.ensures c.in-At-intern_name.is _ c.intern_name-3.ensures c.in-At-intern_name-2.is in
+    (so.segments, ((search rules, fields_fit c.requires.1.0.1 c.requires.1.0.2), reached_covers so c.requires.1.1))
 
-same-length-4 : tie.Need-same-length-4
-same-length-4 c = omega (arith, c.before.before.structure.auto.1.0, c.before.before.before.before.before.before.before.before.before.before.intern-name3.auto.1.0, c.before.before.before.before.before.before.before.before.before.before.before.before.before.before.before.before.before.before.intern-name2.auto.1.0, c.before.before.before.before.before.before.before.before.before.before.before.before.before.before.before.before.before.before.before.before.before.before.before.before.before.before.intern-name.auto.1.0)
+shape_of-new : tie.Need-shape_of-new
+shape_of-new c = omega (arith, c.structure.auto.new, c.intern_name-3.auto.new, c.intern_name-2.auto.new, c.intern_name.auto.new)
 
-returns-4 : tie.Need-returns-4
-returns-4 c =
-    let b = c.before.before.before.before.before.before in
-    let b₀ = b.before.before.before.before in
-    let l = b₀.before.before.before.before in
-    let l₀ = l.before.before.before.before in
-    let n = l₀.before.before.before.before in
-    let n₀ = n.before.before.before.before in
-    let s = n₀.before.before.before.before.before.before in
-    made s.requires.0 _ _ n₀.intern-name.ensures n.name.given.1 _ l₀.intern-name2.ensures l.l.given.1 _ b₀.intern-name3.ensures b.b.given.1 _ _ _ _ _ c.before.before.structure.ensures
+returns : tie.Need-returns
+returns c =
+    made c.requires.0 _ _ c.intern_name.ensures c.in-At.is _ c.intern_name-2.ensures c.in-At-intern_name.is _ c.intern_name-3.ensures c.in-At-intern_name-2.is _ _ _ _ _ c.structure.ensures
 
-pub array-spec : {M : Type 1} → statement M
-array-spec =
+pub array_spec : {M : Type 1} → statement M
+array_spec =
     tie.close
     (tie.spec
-    intern-name-requires
-    enum-known-name
-    enum_told
-    same_length
-    returns
-    slice-aggregate-intern-name
-    intern-name-requires-2
-    enum-known-l
-    enum-told-2
-    same-length-2
-    returns-2
-    slice-aggregate-intern-name-2
-    intern-name-requires-3
-    enum-known-b
-    enum-told-3
-    same-length-3
-    returns-3
-    slice-aggregate-structure
+    intern_name-requires
+    enum_known-name
+    enum_told-1
+    shape_of-new-in_default
+    returns-in_default
+    intern_name-requires-2
+    enum_known-l
+    enum_told-in_default-intern_name
+    shape_of-new-in_default-intern_name
+    returns-in_default-intern_name
+    intern_name-requires-3
+    enum_known-b
+    enum_told-in_default-intern_name-2
+    shape_of-new-in_default-intern_name-2
+    returns-in_default-intern_name-2
+    slice_bounds-structure-end
     structure-requires
-    same-length-4
-    returns-4)
+    shape_of-new
+    returns)
