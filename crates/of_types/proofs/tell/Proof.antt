@@ -65,19 +65,19 @@ returns-in-MakeZero : tie.Need-returns-in-MakeZero
 returns-in-MakeZero c = as_told c.in-MakeZero.is _ _ (ap handle c.make_zero.ensures)
 
 returns-in-IsHigh : tie.Need-returns-in-IsHigh
-returns-in-IsHigh c = as_told c.in-IsHigh.is _ _ (ap flag (c.is_high_is.ensures ∙ ap is_high c.side_of.ensures))
+returns-in-IsHigh c = as_told c.in-IsHigh.is _ _ (ap flag (c.is_high.ensures ∙ ap is_high c.side_of.ensures))
 
 returns-in-IsHighOrConstant : tie.Need-returns-in-IsHighOrConstant
-returns-in-IsHighOrConstant c = as_told c.in-IsHighOrConstant.is _ _ (ap flag (c.is_high_or_constant_is.ensures ∙ ap is_high_or_constant c.side_of-in-IsHighOrConstant.ensures))
+returns-in-IsHighOrConstant c = as_told c.in-IsHighOrConstant.is _ _ (ap flag (c.is_high_or_constant.ensures ∙ ap is_high_or_constant c.side_of-in-IsHighOrConstant.ensures))
 
 returns-in-IsConstant : tie.Need-returns-in-IsConstant
-returns-in-IsConstant c = as_told c.in-IsConstant.is _ _ (ap flag (c.is_constant_is.ensures ∙ ap is_constant c.side_of-in-IsConstant.ensures))
+returns-in-IsConstant c = as_told c.in-IsConstant.is _ _ (ap flag (c.is_constant.ensures ∙ ap is_constant c.side_of-in-IsConstant.ensures))
 
 returns-in-IsFref : tie.Need-returns-in-IsFref
-returns-in-IsFref c = as_told c.in-IsFref.is _ _ (ap flag c.is_fref_is.ensures)
+returns-in-IsFref c = as_told c.in-IsFref.is _ _ (ap flag c.is_fref.ensures)
 
 returns-in-LogSize : tie.Need-returns-in-LogSize
-returns-in-LogSize c = as_told c.in-LogSize.is _ _ (ap number c.log_size_is.ensures)
+returns-in-LogSize c = as_told c.in-LogSize.is _ _ (ap number c.log_size.ensures)
 
 pub tell_spec : {M : Type 1} → statement M
 tell_spec =

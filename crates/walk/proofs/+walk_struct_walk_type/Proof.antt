@@ -139,7 +139,7 @@ walk_struct-loop-i-preserved t c =
     let l = c.loop-i.invariant in
     let i = c.loop-i-test.true in
     let G = part_turn _ 3 3 _ _ _ _ _ c.loop-i.new _ _ _ l.8 i _ _ (omega arith) c.word-x.ensures c.walk_type-m.ensures.0 _ _ c.in-At.is (omega (arith, l.1, l.2, i)) in
-    (search rules, l.1, simp length-set l.2, grew_long G.turn.grew, grew_high G.turn.grew, grew_up G.turn.grew, l.6, l.7, G, c.walk_type-m.ensures.1.is _ _ c.in-At.is, omega (arith, l.10, c.walk_type-m.auto.1))
+    (search rules, l.1, simp length-set l.2, grew_long G.turn.grew, grew_high G.turn.grew, grew_up G.turn.grew, l.6, l.7, G, c.walk_type-m.ensures.1.is _ _ c.in-At.is, omega (arith, l.10, c.walk_type-m.auto))
 
 walk_struct-slice_bounds-types-end : (t : ℕ) → walk_struct_lts.Need-slice_bounds-types-end (walk_struct_K t) (walk_struct_at t) walk-struct.Post walk_struct-invariant-loop-i walk_struct-decreases-loop-i
 walk_struct-slice_bounds-types-end t c = search rules
@@ -368,7 +368,7 @@ walk_type-loop-i-preserved t c =
     let l = c.loop-i.invariant in
     let i = c.loop-i-test.true in
     let G = part_turn _ 1 1 _ _ _ _ _ c.loop-i.new _ _ _ l.8 i _ _ (omega arith) c.word-x-in-loop-i.ensures c.walk_type-m-in-loop-i.ensures.0 _ _ c.in-At-m-2.is (omega (arith, l.1, l.2, i)) in
-    (search rules, l.1, simp length-set l.2, grew_long G.turn.grew, grew_high G.turn.grew, grew_up G.turn.grew, l.6, l.7, G, c.walk_type-m-in-loop-i.ensures.1.is _ _ c.in-At-m-2.is, omega (arith, l.10, c.walk_type-m-in-loop-i.auto.1))
+    (search rules, l.1, simp length-set l.2, grew_long G.turn.grew, grew_high G.turn.grew, grew_up G.turn.grew, l.6, l.7, G, c.walk_type-m-in-loop-i.ensures.1.is _ _ c.in-At-m-2.is, omega (arith, l.10, c.walk_type-m-in-loop-i.auto))
 
 walk_type-slice_bounds-parts-end : (t : ℕ) → walk_type_lts.Need-slice_bounds-parts-end (walk_type_K t) (walk_type_at t) walk-type.Post walk_type-invariant-loop-i walk_type-decreases-loop-i
 walk_type-slice_bounds-parts-end t c = search rules
@@ -401,7 +401,7 @@ walk_type-shape_of-memo-in-AnInt : (t : ℕ) → walk_type_lts.Need-shape_of-mem
 walk_type-shape_of-memo-in-AnInt t c = search rules
 
 walk_type-returns-in-AnInt : (t : ℕ) → walk_type_lts.Need-returns-in-AnInt (walk_type_K t) (walk_type_at t) walk-type.Post walk_type-invariant-loop-i walk_type-decreases-loop-i
-walk_type-returns-in-AnInt t c = walked_ints _ _ _ _ _ c.requires.1.0 _ c.form_of-form.ensures _ c.requires.1.1.0 c.in-AnInt.is _ _ c.Int-of.ensures
+walk_type-returns-in-AnInt t c = walked_ints _ _ _ _ _ c.requires.1.0 _ c.form_of-form.ensures _ c.requires.1.1.0 c.in-AnInt.is _ _ c.int_of.ensures
 
 walk_type-shape_of-new-in-AFloat : (t : ℕ) → walk_type_lts.Need-shape_of-new-in-AFloat (walk_type_K t) (walk_type_at t) walk-type.Post walk_type-invariant-loop-i walk_type-decreases-loop-i
 walk_type-shape_of-new-in-AFloat t c = search rules
