@@ -3,11 +3,11 @@ use Rattle.value_rows.proofs.Rows.{no_flag, a_flag}
 use Rattle.value_rows.proofs.bool_rows.Statement.{statement}
 use Rattle.value_rows.proofs.bool_rows.Tie as tie
 
+returns-then-value-gt-LARGEST_FLAG : tie.Need-returns-then-value-gt-LARGEST_FLAG
+returns-then-value-gt-LARGEST_FLAG c = no_flag _ c.if-value-gt-LARGEST_FLAG.true
+
 returns : tie.Need-returns
-returns c = no_flag _ c.if1.true
+returns c = a_flag _ c.if-value-gt-LARGEST_FLAG.false
 
-returns-2 : tie.Need-returns-2
-returns-2 c = a_flag _ c.if1.false
-
-pub bool-rows-spec : {M : Type 1} → statement M
-bool-rows-spec = tie.close (tie.spec returns returns-2)
+pub bool_rows_spec : {M : Type 1} → statement M
+bool_rows_spec = tie.close (tie.spec returns-then-value-gt-LARGEST_FLAG returns)

@@ -1,21 +1,23 @@
 -- `value_rows::float_rows` meets its contract.
+use mathlib.Core.Bool.{not}
+use mathlib.Core.Path.{ap}
 use Rattle.value_rows.proofs.Rows.{no_float, a_float}
 use Rattle.std.proofs.Common.{rules}
 use Rattle.value_rows.proofs.float_rows.Statement.{statement}
 use Rattle.value_rows.proofs.float_rows.Tie as tie
 
-wrapping-add-u64-requires : tie.Need-wrapping-add-u64-requires
-wrapping-add-u64-requires c κs = search rules
+wrapping_add_u64-size-requires : tie.Need-wrapping_add_u64-size-requires
+wrapping_add_u64-size-requires c κs = search rules
 
-float-ok-requires : tie.Need-float-ok-requires
-float-ok-requires c κs = search rules
+float_ok-requires : tie.Need-float_ok-requires
+float_ok-requires c κs = search rules
+
+returns-then-not-float_ok : tie.Need-returns-then-not-float_ok
+returns-then-not-float_ok c = no_float _ _ _ c.wrapping_add_u64-size.ensures _ c.float_ok.ensures (ap not c.if-not-float_ok.true)
 
 returns : tie.Need-returns
-returns c = no_float _ _ _ c.before.before.wrapping-add-u64.ensures _ c.before.float_ok.ensures c.if1.true
+returns c = a_float _ _ _ c.wrapping_add_u64-size.ensures _ c.float_ok.ensures (ap not c.if-not-float_ok.false)
 
-returns-2 : tie.Need-returns-2
-returns-2 c = a_float _ _ _ c.before.before.wrapping-add-u64.ensures _ c.before.float_ok.ensures c.if1.false
-
-pub float-rows-spec : {M : Type 1} → statement M
-float-rows-spec =
-    tie.close (tie.spec wrapping-add-u64-requires float-ok-requires returns returns-2)
+pub float_rows_spec : {M : Type 1} → statement M
+float_rows_spec =
+    tie.close (tie.spec wrapping_add_u64-size-requires float_ok-requires returns-then-not-float_ok returns)

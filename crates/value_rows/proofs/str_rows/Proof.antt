@@ -3,11 +3,11 @@ use Rattle.value_rows.proofs.Rows.{long_name, short_name}
 use Rattle.value_rows.proofs.str_rows.Statement.{statement}
 use Rattle.value_rows.proofs.str_rows.Tie as tie
 
+returns-then-text-gt-MOST_COUNTED : tie.Need-returns-then-text-gt-MOST_COUNTED
+returns-then-text-gt-MOST_COUNTED c = long_name _ c.if-text-gt-MOST_COUNTED.true
+
 returns : tie.Need-returns
-returns c = long_name _ c.if1.true
+returns c = short_name _ c.if-text-gt-MOST_COUNTED.false
 
-returns-2 : tie.Need-returns-2
-returns-2 c = short_name _ c.if1.false
-
-pub str-rows-spec : {M : Type 1} → statement M
-str-rows-spec = tie.close (tie.spec returns returns-2)
+pub str_rows_spec : {M : Type 1} → statement M
+str_rows_spec = tie.close (tie.spec returns-then-text-gt-MOST_COUNTED returns)
