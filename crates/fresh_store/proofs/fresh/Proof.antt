@@ -5,36 +5,32 @@ use borrow.Author.Rules.{rules}
 use Rattle.fresh_store.proofs.fresh.Statement.{statement}
 use Rattle.fresh_store.proofs.fresh.Tie as tie
 
-returns : tie.Need-returns
-returns c = search fresh_short
+returns-then-words-lt-FRESH_LENGTH : tie.Need-returns-then-words-lt-FRESH_LENGTH
+returns-then-words-lt-FRESH_LENGTH c = search fresh_short
 
-returns-2 : tie.Need-returns-2
-returns-2 c = search fresh_long
+returns-then-words-gt-LONGEST : tie.Need-returns-then-words-gt-LONGEST
+returns-then-words-gt-LONGEST c = search fresh_long
 
 clear-requires : tie.Need-clear-requires
 clear-requires c κs = search rules
 
-slice-aggregate-headed : tie.Need-slice-aggregate-headed
-slice-aggregate-headed c = search rules
-
 headed-requires : tie.Need-headed-requires
 headed-requires c κs = search rules
 
-same_length : tie.Need-same-length
-same_length c = search rules
+shape_of-words : tie.Need-shape_of-words
+shape_of-words c = search rules
 
-returns-3 : tie.Need-returns-3
+returns : tie.Need-returns
 unfolding fresh_words
-returns-3 c = search fresh_filled
+returns c = search fresh_filled
 
-pub fresh-spec : {M : Type 1} → statement M
-fresh-spec =
+pub fresh_spec : {M : Type 1} → statement M
+fresh_spec =
     tie.close
     (tie.spec
-    returns
-    returns-2
+    returns-then-words-lt-FRESH_LENGTH
+    returns-then-words-gt-LONGEST
     clear-requires
-    slice-aggregate-headed
     headed-requires
-    same_length
-    returns-3)
+    shape_of-words
+    returns)
