@@ -81,7 +81,7 @@ returns-3 : tie.Need-returns-3
 returns-3 c = as_told c.before.before.before.of2.given.1 _ _ (c.place2.ensures ∙ ap placed c.before.find_alias.ensures)
 
 returns-4 : tie.Need-returns-4
-returns-4 c = as_told c.before.enum-told2.given.1 _ _ (ap flag c.is_ary_is.ensures)
+returns-4 c = as_told c.before.enum-told2.given.1 _ _ (ap flag c.is_ary.ensures)
 
 returns-5 : tie.Need-returns-5
 returns-5 c = as_told c.before.before.of3.given.1 _ _ (ap number c.offset.ensures)
@@ -90,7 +90,7 @@ returns-6 : tie.Need-returns-6
 returns-6 c = as_told c.before.enum-told3.given.1 _ _ (ap number c.offset2.ensures)
 
 returns-7 : tie.Need-returns-7
-returns-7 c = as_told c.before.enum-told4.given.1 _ _ (ap number c.ary_scale_is.ensures)
+returns-7 c = as_told c.before.enum-told4.given.1 _ _ (ap number c.ary_scale.ensures)
 
 returns-8 : tie.Need-returns-8
 returns-8 c = as_told c.before.before.of4.given.1 _ _ (ap number c.filled.ensures)
