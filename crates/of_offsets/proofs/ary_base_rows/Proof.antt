@@ -5,21 +5,21 @@ use borrow.Author.Rules.{rules}
 use Rattle.of_offsets.proofs.ary_base_rows.Statement.{statement}
 use Rattle.of_offsets.proofs.ary_base_rows.Tie as tie
 
-array-rows-requires : tie.Need-array-rows-requires
-array-rows-requires c κs = search rules
+array_rows-no-requires : tie.Need-array_rows-no-requires
+array_rows-no-requires c κs = search rules
+
+returns-then-no-ne0 : tie.Need-returns-then-no-ne0
+returns-then-no-ne0 c = search first_rows
+
+unsized_field-requires : tie.Need-unsized_field-requires
+unsized_field-requires c κs = (search rules, search array_inside)
+
+returns-then-unsized_field : tie.Need-returns-then-unsized_field
+returns-then-unsized_field c = search base_9
 
 returns : tie.Need-returns
-returns c = search first_rows
+returns c = search base_0
 
-unsized-field-requires : tie.Need-unsized-field-requires
-unsized-field-requires c κs = (search rules, search array_inside)
-
-returns-2 : tie.Need-returns-2
-returns-2 c = search base_9
-
-returns-3 : tie.Need-returns-3
-returns-3 c = search base_0
-
-pub ary-base-rows-spec : {M : Type 1} → statement M
-ary-base-rows-spec =
-    tie.close (tie.spec array-rows-requires returns unsized-field-requires returns-2 returns-3)
+pub ary_base_rows_spec : {M : Type 1} → statement M
+ary_base_rows_spec =
+    tie.close (tie.spec array_rows-no-requires returns-then-no-ne0 unsized_field-requires returns-then-unsized_field returns)

@@ -4,21 +4,21 @@ use borrow.Author.Rules.{rules}
 use Rattle.of_offsets.proofs.ary_scale.Statement.{statement}
 use Rattle.of_offsets.proofs.ary_scale.Tie as tie
 
-slice-aggregate-word : tie.Need-slice-aggregate-word
-slice-aggregate-word c = search rules
+slice_bounds-word-end : tie.Need-slice_bounds-word-end
+slice_bounds-word-end c = search rules
 
-add-word : tie.Need-overflow-add-word
-add-word c = search rules
+overflow_add-s : tie.Need-overflow_add-s
+overflow_add-s c = search rules
 
-word-requires : tie.Need-word-requires
-word-requires c κs = search rules
+word-t-requires : tie.Need-word-t-requires
+word-t-requires c κs = search rules
 
-log-size-requires : tie.Need-log-size-requires
-log-size-requires c κs = search rules
+log_size-requires : tie.Need-log_size-requires
+log_size-requires c κs = search rules
 
 returns : tie.Need-returns
 returns c = search read_scale
 
-pub ary-scale-spec : {M : Type 1} → statement M
-ary-scale-spec =
-    tie.close (tie.spec slice-aggregate-word add-word word-requires log-size-requires returns)
+pub ary_scale_spec : {M : Type 1} → statement M
+ary_scale_spec =
+    tie.close (tie.spec slice_bounds-word-end overflow_add-s word-t-requires log_size-requires returns)

@@ -5,21 +5,21 @@ use borrow.Author.Rules.{rules}
 use Rattle.of_offsets.proofs.ary_scale_rows.Statement.{statement}
 use Rattle.of_offsets.proofs.ary_scale_rows.Tie as tie
 
-array-rows-requires : tie.Need-array-rows-requires
-array-rows-requires c κs = search rules
+array_rows-no-requires : tie.Need-array_rows-no-requires
+array_rows-no-requires c κs = search rules
+
+returns-then-no-ne0 : tie.Need-returns-then-no-ne0
+returns-then-no-ne0 c = search first_rows
+
+ary_scale-requires : tie.Need-ary_scale-requires
+ary_scale-requires c κs = (search rules, search array_inside)
+
+returns-then-ary_scale-ge-NO_LOG_SIZE : tie.Need-returns-then-ary_scale-ge-NO_LOG_SIZE
+returns-then-ary_scale-ge-NO_LOG_SIZE c = search scale_9
 
 returns : tie.Need-returns
-returns c = search first_rows
+returns c = search scale_0
 
-ary-scale-requires : tie.Need-ary-scale-requires
-ary-scale-requires c κs = (search rules, search array_inside)
-
-returns-2 : tie.Need-returns-2
-returns-2 c = search scale_9
-
-returns-3 : tie.Need-returns-3
-returns-3 c = search scale_0
-
-pub ary-scale-rows-spec : {M : Type 1} → statement M
-ary-scale-rows-spec =
-    tie.close (tie.spec array-rows-requires returns ary-scale-requires returns-2 returns-3)
+pub ary_scale_rows_spec : {M : Type 1} → statement M
+ary_scale_rows_spec =
+    tie.close (tie.spec array_rows-no-requires returns-then-no-ne0 ary_scale-requires returns-then-ary_scale-ge-NO_LOG_SIZE returns)

@@ -9,71 +9,71 @@ use borrow.Author.Rules.{rules}
 use Rattle.of_offsets.proofs.fill_logs.Statement.{statement}
 use Rattle.of_offsets.proofs.fill_logs.Tie as tie
 
-abbrev invariant-loop : tie.invariant-loop
-invariant-loop words used s n output₀ none i₀ output i = (i ≤ n) × (length output ≡ length output₀) × (output ≡ front (log_sizes_on (take used words) s) i output₀)
+abbrev invariant-loop-i : tie.invariant-loop-i
+invariant-loop-i words used s n output₀ none i₀ output i = (i ≤ n) × (length output ≡ length output₀) × (output ≡ front (log_sizes_on (take used words) s) i output₀)
 
-abbrev decreases-loop : tie.decreases-loop
-decreases-loop words used s n output₀ none i₀ output i = n - i
+abbrev decreases-loop-i : tie.decreases-loop-i
+decreases-loop-i words used s n output₀ none i₀ output i = n - i
 
-loop-holds : tie.Need-loop-init invariant-loop decreases-loop
-loop-holds c = (search rules, refl, search logs_begin)
+loop-i-init : tie.Need-loop-i-init invariant-loop-i decreases-loop-i
+loop-i-init c = (search rules, refl, search logs_begin)
 
-slice-aggregate-word : tie.Need-slice-aggregate-word invariant-loop decreases-loop
-slice-aggregate-word c = search rules
+slice_bounds-word-end : tie.Need-slice_bounds-word-end invariant-loop-i decreases-loop-i
+slice_bounds-word-end c = search rules
 
-add-word : tie.Need-overflow-add-word invariant-loop decreases-loop
-add-word c = search rules
+overflow_add-s : tie.Need-overflow_add-s invariant-loop-i decreases-loop-i
+overflow_add-s c = search rules
 
-mul-word : tie.Need-overflow-mul-word invariant-loop decreases-loop
-mul-word c = search rules
+overflow_mul-i : tie.Need-overflow_mul-i invariant-loop-i decreases-loop-i
+overflow_mul-i c = search rules
 
-add-word-2 : tie.Need-overflow-add-word-2 invariant-loop decreases-loop
-add-word-2 c = search rules
+overflow_add-s-in-loop-i : tie.Need-overflow_add-s-in-loop-i invariant-loop-i decreases-loop-i
+overflow_add-s-in-loop-i c = search rules
 
-word-requires : tie.Need-word-requires invariant-loop decreases-loop
-word-requires c κs = search rules
+word-t-requires : tie.Need-word-t-requires invariant-loop-i decreases-loop-i
+word-t-requires c κs = search rules
 
-log-size-requires : tie.Need-log-size-requires invariant-loop decreases-loop
-log-size-requires c κs = search rules
+log_size-requires : tie.Need-log_size-requires invariant-loop-i decreases-loop-i
+log_size-requires c κs = search rules
 
-mul-output : tie.Need-overflow-mul-output invariant-loop decreases-loop
-mul-output c = search rules
+offset_bounds-output-i : tie.Need-offset_bounds-output-i invariant-loop-i decreases-loop-i
+offset_bounds-output-i c = search rules
 
-slice-write-output : tie.Need-slice-write-output invariant-loop decreases-loop
-slice-write-output c = search rules
+bounds-output-i : tie.Need-bounds-output-i invariant-loop-i decreases-loop-i
+bounds-output-i c = search rules
 
-add-i : tie.Need-overflow-add-i invariant-loop decreases-loop
-add-i c = search rules
+overflow_add-i : tie.Need-overflow_add-i invariant-loop-i decreases-loop-i
+overflow_add-i c = search rules
 
-loop-less : tie.Need-loop-smaller invariant-loop decreases-loop
-loop-less c = search rules
+loop-i-smaller : tie.Need-loop-i-smaller invariant-loop-i decreases-loop-i
+loop-i-smaller c = search rules
 
-loop-again : tie.Need-loop-preserved invariant-loop decreases-loop
-loop-again c = (search rules, simp length-set (search rules), search logs_on)
+loop-i-preserved : tie.Need-loop-i-preserved invariant-loop-i decreases-loop-i
+loop-i-preserved c = (search rules, simp length-set (search rules), search logs_on)
 
-same_length : tie.Need-same-length invariant-loop decreases-loop
-same_length c = search rules
+shape_of-output : tie.Need-shape_of-output invariant-loop-i decreases-loop-i
+shape_of-output c = search rules
 
-returns : tie.Need-returns invariant-loop decreases-loop
+returns : tie.Need-returns invariant-loop-i decreases-loop-i
 returns c = search logs_all
 
-pub fill-logs-spec : {M : Type 1} → statement M
-fill-logs-spec =
+pub fill_logs_spec : {M : Type 1} → statement M
+fill_logs_spec =
     tie.close
     (tie.spec
-    invariant-loop
-    decreases-loop
-    loop-holds
-    slice-aggregate-word
-    add-word
-    mul-word
-    add-word-2
-    word-requires
-    log-size-requires
-    mul-output
-    slice-write-output
-    add-i
-    loop-less
-    loop-again
-    same_length
+    invariant-loop-i
+    decreases-loop-i
+    loop-i-init
+    slice_bounds-word-end
+    overflow_add-s
+    overflow_mul-i
+    overflow_add-s-in-loop-i
+    word-t-requires
+    log_size-requires
+    offset_bounds-output-i
+    bounds-output-i
+    overflow_add-i
+    loop-i-smaller
+    loop-i-preserved
+    shape_of-output
     returns)

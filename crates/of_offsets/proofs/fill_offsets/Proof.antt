@@ -4,47 +4,44 @@ use borrow.Author.Rules.{rules}
 use Rattle.of_offsets.proofs.fill_offsets.Statement.{statement}
 use Rattle.of_offsets.proofs.fill_offsets.Tie as tie
 
-slice-aggregate-word : tie.Need-slice-aggregate-word
-slice-aggregate-word c = search rules
+slice_bounds-word-end : tie.Need-slice_bounds-word-end
+slice_bounds-word-end c = search rules
 
 word-requires : tie.Need-word-requires
 word-requires c κs = search rules
 
-fill-logs-requires : tie.Need-fill-logs-requires
-fill-logs-requires c κs = search rules
+fill_logs-requires : tie.Need-fill_logs-requires
+fill_logs-requires c κs = search rules
 
-add-lay-out : tie.Need-overflow-add-lay-out
-add-lay-out c = search rules
+overflow_add-n : tie.Need-overflow_add-n
+overflow_add-n c = search rules
 
-slice-relend-prefix-lay-out : tie.Need-slice-relend-prefix-lay-out
-slice-relend-prefix-lay-out c = search rules
+slice_bounds-lay_out-end : tie.Need-slice_bounds-lay_out-end
+slice_bounds-lay_out-end c = search rules
 
-slice-aggregate-lay-out : tie.Need-slice-aggregate-lay-out
-slice-aggregate-lay-out c = search part_size_is
+slice_bounds-lay_out-end-2 : tie.Need-slice_bounds-lay_out-end-2
+slice_bounds-lay_out-end-2 c = search part_size_is
 
-lay-out-requires : tie.Need-lay-out-requires
-lay-out-requires c κs =
-    let logs = c.before.before.before in
-    let count = logs.before.before in
-    let a = count.before.before.before.before in
-    part_fits _ _ _ count.word.ensures _ _ logs.fill-logs.ensures a.requires.0.3 a.requires.0.2 a.requires.1
+lay_out-requires : tie.Need-lay_out-requires
+lay_out-requires c κs =
+    part_fits _ _ _ c.word.ensures _ _ c.fill_logs.ensures c.requires.0.3 c.requires.0.2 c.requires.1
 
-same_length : tie.Need-same-length
-same_length c = search rules
+shape_of-output : tie.Need-shape_of-output
+shape_of-output c = search rules
 
 returns : tie.Need-returns
 returns c = search laid
 
-pub fill-offsets-spec : {M : Type 1} → statement M
-fill-offsets-spec =
+pub fill_offsets_spec : {M : Type 1} → statement M
+fill_offsets_spec =
     tie.close
     (tie.spec
-    slice-aggregate-word
+    slice_bounds-word-end
     word-requires
-    fill-logs-requires
-    add-lay-out
-    slice-relend-prefix-lay-out
-    slice-aggregate-lay-out
-    lay-out-requires
-    same_length
+    fill_logs-requires
+    overflow_add-n
+    slice_bounds-lay_out-end
+    slice_bounds-lay_out-end-2
+    lay_out-requires
+    shape_of-output
     returns)

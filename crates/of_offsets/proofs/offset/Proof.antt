@@ -4,27 +4,27 @@ use borrow.Author.Rules.{rules}
 use Rattle.of_offsets.proofs.offset.Statement.{statement}
 use Rattle.of_offsets.proofs.offset.Tie as tie
 
-slice-aggregate-fill-offsets : tie.Need-slice-aggregate-fill-offsets
-slice-aggregate-fill-offsets c = search rules
+slice_bounds-fill_offsets-end : tie.Need-slice_bounds-fill_offsets-end
+slice_bounds-fill_offsets-end c = search rules
 
-fill-offsets-requires : tie.Need-fill-offsets-requires
-fill-offsets-requires c κs = search rules
+fill_offsets-requires : tie.Need-fill_offsets-requires
+fill_offsets-requires c κs = search rules
 
-mul-result : tie.Need-overflow-mul-result
-mul-result c = search rules
+offset_bounds-places-i : tie.Need-offset_bounds-places-i
+offset_bounds-places-i c = search rules
 
-array-read-result : tie.Need-array-read-result
-array-read-result c = search rules
+bounds-places-i : tie.Need-bounds-places-i
+bounds-places-i c = search rules
 
 returns : tie.Need-returns
 returns c = search read_offset
 
-pub offset-spec : {M : Type 1} → statement M
-offset-spec =
+pub offset_spec : {M : Type 1} → statement M
+offset_spec =
     tie.close
     (tie.spec
-    slice-aggregate-fill-offsets
-    fill-offsets-requires
-    mul-result
-    array-read-result
+    slice_bounds-fill_offsets-end
+    fill_offsets-requires
+    offset_bounds-places-i
+    bounds-places-i
     returns)

@@ -5,39 +5,39 @@ use borrow.Author.Rules.{rules}
 use Rattle.of_offsets.proofs.offset_rows.Statement.{statement}
 use Rattle.of_offsets.proofs.offset_rows.Tie as tie
 
-fields-rows-requires : tie.Need-fields-rows-requires
-fields-rows-requires c κs = search rules
+fields_rows-no-requires : tie.Need-fields_rows-no-requires
+fields_rows-no-requires c κs = search rules
 
-returns : tie.Need-returns
-returns c = search first_rows
+returns-then-no-ne0 : tie.Need-returns-then-no-ne0
+returns-then-no-ne0 c = search first_rows
 
-slice-aggregate-word : tie.Need-slice-aggregate-word
-slice-aggregate-word c = search rules
+slice_bounds-word-end : tie.Need-slice_bounds-word-end
+slice_bounds-word-end c = search rules
 
 word-requires : tie.Need-word-requires
 word-requires c κs = search rules
 
-returns-2 : tie.Need-returns-2
-returns-2 c = search offset_8
+returns-then-word-i : tie.Need-returns-then-word-i
+returns-then-word-i c = search offset_8
 
-unsized-field-requires : tie.Need-unsized-field-requires
-unsized-field-requires c κs = (search rules, search fields_inside)
+unsized_field-requires : tie.Need-unsized_field-requires
+unsized_field-requires c κs = (search rules, search fields_inside)
 
-returns-3 : tie.Need-returns-3
-returns-3 c = search offset_9
+returns-then-unsized_field : tie.Need-returns-then-unsized_field
+returns-then-unsized_field c = search offset_9
 
-returns-4 : tie.Need-returns-4
-returns-4 c = search offset_0
+returns : tie.Need-returns
+returns c = search offset_0
 
-pub offset-rows-spec : {M : Type 1} → statement M
-offset-rows-spec =
+pub offset_rows_spec : {M : Type 1} → statement M
+offset_rows_spec =
     tie.close
     (tie.spec
-    fields-rows-requires
-    returns
-    slice-aggregate-word
+    fields_rows-no-requires
+    returns-then-no-ne0
+    slice_bounds-word-end
     word-requires
-    returns-2
-    unsized-field-requires
-    returns-3
-    returns-4)
+    returns-then-word-i
+    unsized_field-requires
+    returns-then-unsized_field
+    returns)

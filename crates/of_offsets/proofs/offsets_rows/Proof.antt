@@ -5,21 +5,21 @@ use borrow.Author.Rules.{rules}
 use Rattle.of_offsets.proofs.offsets_rows.Statement.{statement}
 use Rattle.of_offsets.proofs.offsets_rows.Tie as tie
 
-fields-rows-requires : tie.Need-fields-rows-requires
-fields-rows-requires c κs = search rules
+fields_rows-no-requires : tie.Need-fields_rows-no-requires
+fields_rows-no-requires c κs = search rules
+
+returns-then-no-ne0 : tie.Need-returns-then-no-ne0
+returns-then-no-ne0 c = search first_rows
+
+unsized_field-requires : tie.Need-unsized_field-requires
+unsized_field-requires c κs = (search rules, search fields_inside)
+
+returns-then-unsized_field : tie.Need-returns-then-unsized_field
+returns-then-unsized_field c = search offsets_9
 
 returns : tie.Need-returns
-returns c = search first_rows
+returns c = search offsets_0
 
-unsized-field-requires : tie.Need-unsized-field-requires
-unsized-field-requires c κs = (search rules, search fields_inside)
-
-returns-2 : tie.Need-returns-2
-returns-2 c = search offsets_9
-
-returns-3 : tie.Need-returns-3
-returns-3 c = search offsets_0
-
-pub offsets-rows-spec : {M : Type 1} → statement M
-offsets-rows-spec =
-    tie.close (tie.spec fields-rows-requires returns unsized-field-requires returns-2 returns-3)
+pub offsets_rows_spec : {M : Type 1} → statement M
+offsets_rows_spec =
+    tie.close (tie.spec fields_rows-no-requires returns-then-no-ne0 unsized_field-requires returns-then-unsized_field returns)

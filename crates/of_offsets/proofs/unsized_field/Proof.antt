@@ -10,72 +10,70 @@ use borrow.Author.Rules.{rules}
 use Rattle.of_offsets.proofs.unsized_field.Statement.{statement}
 use Rattle.of_offsets.proofs.unsized_field.Tie as tie
 
-abbrev invariant-loop : tie.invariant-loop
-invariant-loop words used s none at₀ j₀ at j =
+abbrev invariant-loop-j : tie.invariant-loop-j
+invariant-loop-j words used s none at₀ j₀ at j =
     let u = take used words in
     (at + 3 * j ≤ s + 3 + 3 * count_on u s) × (all (has_log_size u) (field_types_on u s) ≡ all (has_log_size u) (every 3 j at u))
 
-abbrev decreases-loop : tie.decreases-loop
-decreases-loop words used s none at₀ j₀ at j = j
+abbrev decreases-loop-j : tie.decreases-loop-j
+decreases-loop-j words used s none at₀ j₀ at j = j
 
-add_at : tie.Need-overflow-add-at invariant-loop decreases-loop
-add_at c = search rules
+overflow_add-at : tie.Need-overflow_add-at invariant-loop-j decreases-loop-j
+overflow_add-at c = search rules
 
-slice-aggregate-word : tie.Need-slice-aggregate-word invariant-loop decreases-loop
-slice-aggregate-word c = search rules
+slice_bounds-word-end : tie.Need-slice_bounds-word-end invariant-loop-j decreases-loop-j
+slice_bounds-word-end c = search rules
 
-word-requires : tie.Need-word-requires invariant-loop decreases-loop
+word-requires : tie.Need-word-requires invariant-loop-j decreases-loop-j
 word-requires c κs = search rules
 
-loop-holds : tie.Need-loop-init invariant-loop decreases-loop
-loop-holds c = (search rules, search sized_begin)
+loop-j-init : tie.Need-loop-j-init invariant-loop-j decreases-loop-j
+loop-j-init c = (search rules, search sized_begin)
 
-slice-aggregate-word-2 : tie.Need-slice-aggregate-word-2 invariant-loop decreases-loop
-slice-aggregate-word-2 c = search rules
+slice_bounds-word-end-in-loop-j : tie.Need-slice_bounds-word-end-in-loop-j invariant-loop-j decreases-loop-j
+slice_bounds-word-end-in-loop-j c = search rules
 
-word-requires-2 : tie.Need-word-requires-2 invariant-loop decreases-loop
-word-requires-2 c κs = search rules
+word-t-requires : tie.Need-word-t-requires invariant-loop-j decreases-loop-j
+word-t-requires c κs = search rules
 
-log-size-requires : tie.Need-log-size-requires invariant-loop decreases-loop
-log-size-requires c κs = search rules
+log_size-requires : tie.Need-log_size-requires invariant-loop-j decreases-loop-j
+log_size-requires c κs = search rules
 
-returns : tie.Need-returns invariant-loop decreases-loop
-returns c = search one_unsized
+returns-then-log_size-ge-NO_LOG_SIZE : tie.Need-returns-then-log_size-ge-NO_LOG_SIZE invariant-loop-j decreases-loop-j
+returns-then-log_size-ge-NO_LOG_SIZE c = search one_unsized
 
-add-at-2 : tie.Need-overflow-add-at-2 invariant-loop decreases-loop
-add-at-2 c = search rules
+overflow_add-at-in-loop-j : tie.Need-overflow_add-at-in-loop-j invariant-loop-j decreases-loop-j
+overflow_add-at-in-loop-j c = search rules
 
-sub-j : tie.Need-overflow-sub-j invariant-loop decreases-loop
-sub-j c = search rules
+overflow_sub-j : tie.Need-overflow_sub-j invariant-loop-j decreases-loop-j
+overflow_sub-j c = search rules
 
-loop-less : tie.Need-loop-smaller invariant-loop decreases-loop
-loop-less c = search rules
+loop-j-smaller : tie.Need-loop-j-smaller invariant-loop-j decreases-loop-j
+loop-j-smaller c = search rules
 
-loop-again : tie.Need-loop-preserved invariant-loop decreases-loop
-loop-again c =
-    let read = c.before.before in
-    let turn = read.before.before in
-    (search rules, one_sized _ _ _ _ turn.before.loop.invariant.1 turn.loop-test.true _ read.word2.ensures _ c.before.log_size_is.ensures c.if1.false)
+loop-j-preserved : tie.Need-loop-j-preserved invariant-loop-j decreases-loop-j
+loop-j-preserved c =
+    (search rules, one_sized _ _ _ _ c.loop-j.invariant.1 c.loop-j-test.true _ c.word-t.ensures _ c.log_size_is.ensures c.if-log_size-ge-NO_LOG_SIZE.false)
 
-returns-2 : tie.Need-returns-2 invariant-loop decreases-loop
-returns-2 c = search all_sized
+returns : tie.Need-returns invariant-loop-j decreases-loop-j
+returns c = search all_sized
 
-pub unsized-field-spec : {M : Type 1} → statement M
-unsized-field-spec =
+pub unsized_field_spec : {M : Type 1} → statement M
+unsized_field_spec =
     tie.close
     (tie.spec
-    invariant-loop
-    decreases-loop
-    add_at
-    slice-aggregate-word
+    invariant-loop-j
+    decreases-loop-j
+    overflow_add-at
+    slice_bounds-word-end
     word-requires
-    loop-holds
-    slice-aggregate-word-2
-    word-requires-2
-    log-size-requires
-    returns
-    add-at-2
-    sub-j
-    loop-less
-    loop-again
-    returns-2)
+    loop-j-init
+    slice_bounds-word-end-in-loop-j
+    word-t-requires
+    log_size-requires
+    returns-then-log_size-ge-NO_LOG_SIZE
+    overflow_add-at-in-loop-j
+    overflow_sub-j
+    loop-j-smaller
+    loop-j-preserved
+    returns)
