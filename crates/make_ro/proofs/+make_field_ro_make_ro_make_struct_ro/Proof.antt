@@ -18,13 +18,13 @@ use borrow.Fn.Kinds.{In}
 use borrow.Fn.PlainCycle.{Measures, is, falls, and}
 use Rattle.make_ro.proofs.make_field_ro.Reads as make-field-ro
 use Rattle.make_ro.proofs.make_field_ro.Kinds as make-field-ro-kinds
-use Rattle.make_ro.proofs.+make_field_ro_make_ro_make_struct_ro.Lts-make_field_ro as make-field-ro-lts
+use Rattle.make_ro.proofs.+make_field_ro_make_ro_make_struct_ro.Lts-make_field_ro as make_field_ro_lts
 use Rattle.make_ro.proofs.make_ro.Reads as make_ro
 use Rattle.make_ro.proofs.make_ro.Kinds as make-ro-kinds
-use Rattle.make_ro.proofs.+make_field_ro_make_ro_make_struct_ro.Lts-make_ro as make-ro-lts
+use Rattle.make_ro.proofs.+make_field_ro_make_ro_make_struct_ro.Lts-make_ro as make_ro_lts
 use Rattle.make_ro.proofs.make_struct_ro.Reads as make-struct-ro
 use Rattle.make_ro.proofs.make_struct_ro.Kinds as make-struct-ro-kinds
-use Rattle.make_ro.proofs.+make_field_ro_make_ro_make_struct_ro.Lts-make_struct_ro as make-struct-ro-lts
+use Rattle.make_ro.proofs.+make_field_ro_make_ro_make_struct_ro.Lts-make_struct_ro as make_struct_ro_lts
 use Rattle.finals.proofs.is_final.Reads as is-final-reads
 use Rattle.make_ro.proofs.made_final.Reads as made-final-reads
 use Rattle.make_ro.proofs.ro_key.Reads as ro-key-reads
@@ -35,404 +35,404 @@ use Rattle.words.proofs.word.Reads as word-reads
 use Rattle.make_ro.proofs.+make_field_ro_make_ro_make_struct_ro.{statement}
 use Rattle.make_ro.proofs.+make_field_ro_make_ro_make_struct_ro.Tie.{close}
 
-abbrev μ-make-field-ro : Measures 5 make-field-ro-kinds.ps ℕ
-μ-make-field-ro κs a = 3 * a.1.1.1.1.0 + 2
+abbrev μ_make_field_ro : Measures 5 make-field-ro-kinds.ps ℕ
+μ_make_field_ro κs a = 3 * a.1.1.1.1.0 + 2
 
-abbrev μ-make-ro : Measures 5 make-ro-kinds.ps ℕ
-μ-make-ro κs a = 3 * a.1.1.1.0 + 1
+abbrev μ_make_ro : Measures 5 make-ro-kinds.ps ℕ
+μ_make_ro κs a = 3 * a.1.1.1.0 + 1
 
-abbrev μ-make-struct-ro : Measures 5 make-struct-ro-kinds.ps ℕ
-μ-make-struct-ro κs a = 3 * a.1.1.1.0
+abbrev μ_make_struct_ro : Measures 5 make-struct-ro-kinds.ps ℕ
+μ_make_struct_ro κs a = 3 * a.1.1.1.0
 
-abbrev make-field-ro-at : ℕ → In 5 make-field-ro-kinds.ps
-make-field-ro-at t =
-    and 5 make-field-ro-kinds.ps (is 5 make-field-ro-kinds.ps μ-make-field-ro t) make-field-ro.Pre
+abbrev make_field_ro_at : ℕ → In 5 make-field-ro-kinds.ps
+make_field_ro_at t =
+    and 5 make-field-ro-kinds.ps (is 5 make-field-ro-kinds.ps μ_make_field_ro t) make-field-ro.Pre
 
-abbrev make-field-ro-below : ℕ → In 5 make-field-ro-kinds.ps
-make-field-ro-below t =
+abbrev make_field_ro_below : ℕ → In 5 make-field-ro-kinds.ps
+make_field_ro_below t =
     and
     5
     make-field-ro-kinds.ps
-    (falls 5 make-field-ro-kinds.ps ◌<◌ μ-make-field-ro t)
+    (falls 5 make-field-ro-kinds.ps ◌<◌ μ_make_field_ro t)
     make-field-ro.Pre
 
-abbrev make-ro-at : ℕ → In 5 make-ro-kinds.ps
-make-ro-at t = and 5 make-ro-kinds.ps (is 5 make-ro-kinds.ps μ-make-ro t) make_ro.Pre
+abbrev make_ro_at : ℕ → In 5 make-ro-kinds.ps
+make_ro_at t = and 5 make-ro-kinds.ps (is 5 make-ro-kinds.ps μ_make_ro t) make_ro.Pre
 
-abbrev make-ro-below : ℕ → In 5 make-ro-kinds.ps
-make-ro-below t = and 5 make-ro-kinds.ps (falls 5 make-ro-kinds.ps ◌<◌ μ-make-ro t) make_ro.Pre
+abbrev make_ro_below : ℕ → In 5 make-ro-kinds.ps
+make_ro_below t = and 5 make-ro-kinds.ps (falls 5 make-ro-kinds.ps ◌<◌ μ_make_ro t) make_ro.Pre
 
-abbrev make-struct-ro-at : ℕ → In 5 make-struct-ro-kinds.ps
-make-struct-ro-at t =
+abbrev make_struct_ro_at : ℕ → In 5 make-struct-ro-kinds.ps
+make_struct_ro_at t =
     and
     5
     make-struct-ro-kinds.ps
-    (is 5 make-struct-ro-kinds.ps μ-make-struct-ro t)
+    (is 5 make-struct-ro-kinds.ps μ_make_struct_ro t)
     make-struct-ro.Pre
 
-abbrev make-struct-ro-below : ℕ → In 5 make-struct-ro-kinds.ps
-make-struct-ro-below t = and 5 make-struct-ro-kinds.ps (falls 5 make-struct-ro-kinds.ps ◌<◌ μ-make-struct-ro t) make-struct-ro.Pre
+abbrev make_struct_ro_below : ℕ → In 5 make-struct-ro-kinds.ps
+make_struct_ro_below t = and 5 make-struct-ro-kinds.ps (falls 5 make-struct-ro-kinds.ps ◌<◌ μ_make_struct_ro t) make-struct-ro.Pre
 
-abbrev make-field-ro-K : ℕ → make-field-ro-lts.Claims
-make-field-ro-K t = (make-ro-below t, make_ro.Post)
+abbrev make_field_ro_K : ℕ → make_field_ro_lts.Claims
+make_field_ro_K t = (make_ro_below t, make_ro.Post)
 
-abbrev make-ro-K : ℕ → make-ro-lts.Claims
-make-ro-K t = (word-reads.Asked, word-reads.Learnt, ro-key-reads.Asked, ro-key-reads.Learnt, recall-reads.Asked, recall-reads.Learnt, make-ro-below t, make_ro.Post, noted-reads.Asked, noted-reads.Learnt, pointer-reads.Asked, pointer-reads.Learnt, is-final-reads.Asked, is-final-reads.Learnt, make-struct-ro-below t, make-struct-ro.Post)
+abbrev make_ro_K : ℕ → make_ro_lts.Claims
+make_ro_K t = (word-reads.Asked, word-reads.Learnt, ro-key-reads.Asked, ro-key-reads.Learnt, recall-reads.Asked, recall-reads.Learnt, make_ro_below t, make_ro.Post, noted-reads.Asked, noted-reads.Learnt, pointer-reads.Asked, pointer-reads.Learnt, is-final-reads.Asked, is-final-reads.Learnt, make_struct_ro_below t, make-struct-ro.Post)
 
-abbrev make-struct-ro-K : ℕ → make-struct-ro-lts.Claims
-make-struct-ro-K t = (word-reads.Asked, word-reads.Learnt, make-field-ro-below t, make-field-ro.Post, made-final-reads.Asked, made-final-reads.Learnt)
+abbrev make_struct_ro_K : ℕ → make_struct_ro_lts.Claims
+make_struct_ro_K t = (word-reads.Asked, word-reads.Learnt, make_field_ro_below t, make-field-ro.Post, made-final-reads.Asked, made-final-reads.Learnt)
 
-make-field-ro-returns : (t : ℕ) → make-field-ro-lts.Need-returns (make-field-ro-K t) (make-field-ro-at t) make-field-ro.Post
-make-field-ro-returns t c = (field_stays _ _ _ _ _ c.before.before.before.before.before.before.requires.1.0 c.if1.true, remembered_same c.before.before.before.before.before.before.requires.1.1.0)
+make_field_ro-returns-then-value-eq1 : (t : ℕ) → make_field_ro_lts.Need-returns-then-value-eq1 (make_field_ro_K t) (make_field_ro_at t) make-field-ro.Post
+make_field_ro-returns-then-value-eq1 t c = (field_stays _ _ _ _ _ c.requires.1.0 c.if-value-eq1.true, remembered_same c.requires.1.1.0)
 
-make-field-ro-make-ro-requires : (t : ℕ) → make-field-ro-lts.Need-make-ro-requires (make-field-ro-K t) (make-field-ro-at t) make-field-ro.Post
-make-field-ro-make-ro-requires t c κs = (search rules, c.before.before.before.before.before.before.before.before.before.requires.1)
+make_field_ro-make_ro-requires : (t : ℕ) → make_field_ro_lts.Need-make_ro-requires (make_field_ro_K t) (make_field_ro_at t) make-field-ro.Post
+make_field_ro-make_ro-requires t c κs = (search rules, c.requires.1)
 
-make-field-ro-same-length : (t : ℕ) → make-field-ro-lts.Need-same-length (make-field-ro-K t) (make-field-ro-at t) make-field-ro.Post
-make-field-ro-same-length t c = search rules
+make_field_ro-shape_of-new : (t : ℕ) → make_field_ro_lts.Need-shape_of-new (make_field_ro_K t) (make_field_ro_at t) make-field-ro.Post
+make_field_ro-shape_of-new t c = search rules
 
-make-field-ro-same-length-2 : (t : ℕ) → make-field-ro-lts.Need-same-length-2 (make-field-ro-K t) (make-field-ro-at t) make-field-ro.Post
-make-field-ro-same-length-2 t c = search rules
+make_field_ro-shape_of-memo : (t : ℕ) → make_field_ro_lts.Need-shape_of-memo (make_field_ro_K t) (make_field_ro_at t) make-field-ro.Post
+make_field_ro-shape_of-memo t c = search rules
 
-make-field-ro-same-length-3 : (t : ℕ) → make-field-ro-lts.Need-same-length-3 (make-field-ro-K t) (make-field-ro-at t) make-field-ro.Post
-make-field-ro-same-length-3 t c = search rules
+make_field_ro-shape_of-known : (t : ℕ) → make_field_ro_lts.Need-shape_of-known (make_field_ro_K t) (make_field_ro_at t) make-field-ro.Post
+make_field_ro-shape_of-known t c = search rules
 
-make-field-ro-returns-2 : (t : ℕ) → make-field-ro-lts.Need-returns-2 (make-field-ro-K t) (make-field-ro-at t) make-field-ro.Post
-make-field-ro-returns-2 t c = (field_made _ _ _ _ _ c.before.before.before.before.before.before.before.before.before.before.if1.false _ _ c.before.before.before.before.before.before.make_ro.ensures.0, c.before.before.before.before.before.before.make_ro.ensures.1)
+make_field_ro-returns : (t : ℕ) → make_field_ro_lts.Need-returns (make_field_ro_K t) (make_field_ro_at t) make-field-ro.Post
+make_field_ro-returns t c = (field_made _ _ _ _ _ c.if-value-eq1.false _ _ c.make_ro.ensures.0, c.make_ro.ensures.1)
 
-make-ro-word-requires : (t : ℕ) → make-ro-lts.Need-word-requires (make-ro-K t) (make-ro-at t) make_ro.Post
-make-ro-word-requires t c κs = search rules
+make_ro-word-kind-requires : (t : ℕ) → make_ro_lts.Need-word-kind-requires (make_ro_K t) (make_ro_at t) make_ro.Post
+make_ro-word-kind-requires t c κs = search rules
 
-make-ro-ro-key-requires : (t : ℕ) → make-ro-lts.Need-ro-key-requires (make-ro-K t) (make-ro-at t) make_ro.Post
-make-ro-ro-key-requires t c κs = search rules
+make_ro-ro_key-key-requires : (t : ℕ) → make_ro_lts.Need-ro_key-key-requires (make_ro_K t) (make_ro_at t) make_ro.Post
+make_ro-ro_key-key-requires t c κs = search rules
 
-make-ro-recall-requires : (t : ℕ) → make-ro-lts.Need-recall-requires (make-ro-K t) (make-ro-at t) make_ro.Post
-make-ro-recall-requires t c κs = search rules
+make_ro-recall-line-requires : (t : ℕ) → make_ro_lts.Need-recall-line-requires (make_ro_K t) (make_ro_at t) make_ro.Post
+make_ro-recall-line-requires t c κs = search rules
 
-make-ro-enum-known-line : (t : ℕ) → make-ro-lts.Need-enum-known-line (make-ro-K t) (make-ro-at t) make_ro.Post
-make-ro-enum-known-line t c = search rules
+make_ro-enum_known-line : (t : ℕ) → make_ro_lts.Need-enum_known-line (make_ro_K t) (make_ro_at t) make_ro.Post
+make_ro-enum_known-line t c = search rules
 
-make-ro-same-length : (t : ℕ) → make-ro-lts.Need-same-length (make-ro-K t) (make-ro-at t) make_ro.Post
-make-ro-same-length t c = search rules
+make_ro-shape_of-new-in-Is : (t : ℕ) → make_ro_lts.Need-shape_of-new-in-Is (make_ro_K t) (make_ro_at t) make_ro.Post
+make_ro-shape_of-new-in-Is t c = search rules
 
-make-ro-same-length-2 : (t : ℕ) → make-ro-lts.Need-same-length-2 (make-ro-K t) (make-ro-at t) make_ro.Post
-make-ro-same-length-2 t c = search rules
+make_ro-shape_of-memo-in-Is : (t : ℕ) → make_ro_lts.Need-shape_of-memo-in-Is (make_ro_K t) (make_ro_at t) make_ro.Post
+make_ro-shape_of-memo-in-Is t c = search rules
 
-make-ro-returns : (t : ℕ) → make-ro-lts.Need-returns (make-ro-K t) (make-ro-at t) make_ro.Post
-make-ro-returns t c = made_known c.before.before.before.before.before.before.before.before.before.before.before.before.before.requires.1.0 c.before.before.before.before.before.ro-key.ensures c.before.before.before.before.before.before.before.before.before.before.before.before.before.requires.1.1.0 c.before.before.before.recall.ensures _ c.before.line.given.1
+make_ro-returns-in-Is : (t : ℕ) → make_ro_lts.Need-returns-in-Is (make_ro_K t) (make_ro_at t) make_ro.Post
+make_ro-returns-in-Is t c = made_known c.requires.1.0 c.ro_key-key.ensures c.requires.1.1.0 c.recall-line.ensures _ c.in-Is.is
 
-make-ro-enum-told : (t : ℕ) → make-ro-lts.Need-enum-told (make-ro-K t) (make-ro-at t) make_ro.Post
-make-ro-enum-told t c = search rules
+make_ro-enum_told-1 : (t : ℕ) → make_ro_lts.Need-enum_told-1 (make_ro_K t) (make_ro_at t) make_ro.Post
+make_ro-enum_told-1 t c = search rules
 
-make-ro-add-word : (t : ℕ) → make-ro-lts.Need-overflow-add-word (make-ro-K t) (make-ro-at t) make_ro.Post
-make-ro-add-word t c = search rules
+make_ro-overflow_add-a : (t : ℕ) → make_ro_lts.Need-overflow_add-a (make_ro_K t) (make_ro_at t) make_ro.Post
+make_ro-overflow_add-a t c = search rules
 
-make-ro-word-requires-2 : (t : ℕ) → make-ro-lts.Need-word-requires-2 (make-ro-K t) (make-ro-at t) make_ro.Post
-make-ro-word-requires-2 t c κs = search rules
+make_ro-word-to-requires : (t : ℕ) → make_ro_lts.Need-word-to-requires (make_ro_K t) (make_ro_at t) make_ro.Post
+make_ro-word-to-requires t c κs = search rules
 
-make-ro-add-word-2 : (t : ℕ) → make-ro-lts.Need-overflow-add-word-2 (make-ro-K t) (make-ro-at t) make_ro.Post
-make-ro-add-word-2 t c = search rules
+make_ro-overflow_add-a-then-kind-eq-MEM_PTR : (t : ℕ) → make_ro_lts.Need-overflow_add-a-then-kind-eq-MEM_PTR (make_ro_K t) (make_ro_at t) make_ro.Post
+make_ro-overflow_add-a-then-kind-eq-MEM_PTR t c = search rules
 
-make-ro-word-requires-3 : (t : ℕ) → make-ro-lts.Need-word-requires-3 (make-ro-K t) (make-ro-at t) make_ro.Post
-make-ro-word-requires-3 t c κs = search rules
+make_ro-word-nil-requires : (t : ℕ) → make_ro_lts.Need-word-nil-requires (make_ro_K t) (make_ro_at t) make_ro.Post
+make_ro-word-nil-requires t c κs = search rules
 
-make-ro-make-ro-requires : (t : ℕ) → make-ro-lts.Need-make-ro-requires (make-ro-K t) (make-ro-at t) make_ro.Post
-make-ro-make-ro-requires t c κs =
-    let n = pointer_next _ _ _ _ c.before.before.before.before.before.before.before.before.before.before.before.before.before.before.before.before.before.before.before.before.requires.1.0 _ c.before.before.before.before.before.before.before.before.before.before.before.before.before.word.ensures c.before.before.before.before.before.before.before.if1.true _ c.before.before.before.before.before.word2.ensures in
-    (omega (arith, n.0), (n.1, (c.before.before.before.before.before.before.before.before.before.before.before.before.before.before.before.before.before.before.before.before.requires.1.1.0, c.before.before.before.before.before.before.before.before.before.before.before.before.before.before.before.before.before.before.before.before.requires.1.1.1)))
+make_ro-make_ro-m-requires : (t : ℕ) → make_ro_lts.Need-make_ro-m-requires (make_ro_K t) (make_ro_at t) make_ro.Post
+make_ro-make_ro-m-requires t c κs =
+    let n = pointer_next _ _ _ _ c.requires.1.0 _ c.word-kind.ensures c.if-kind-eq-MEM_PTR.true _ c.word-to.ensures in
+    (omega (arith, n.0), (n.1, (c.requires.1.1.0, c.requires.1.1.1)))
 
-make-ro-enum-known-m : (t : ℕ) → make-ro-lts.Need-enum-known-m (make-ro-K t) (make-ro-at t) make_ro.Post
-make-ro-enum-known-m t c = search rules
+make_ro-enum_known-m : (t : ℕ) → make_ro_lts.Need-enum_known-m (make_ro_K t) (make_ro_at t) make_ro.Post
+make_ro-enum_known-m t c = search rules
 
-make-ro-noted-requires : (t : ℕ) → make-ro-lts.Need-noted-requires (make-ro-K t) (make-ro-at t) make_ro.Post
-make-ro-noted-requires t c κs = search rules
+make_ro-noted-requires : (t : ℕ) → make_ro_lts.Need-noted-requires (make_ro_K t) (make_ro_at t) make_ro.Post
+make_ro-noted-requires t c κs = search rules
 
-make-ro-same-length-3 : (t : ℕ) → make-ro-lts.Need-same-length-3 (make-ro-K t) (make-ro-at t) make_ro.Post
-make-ro-same-length-3 t c = search rules
+make_ro-shape_of-new-then-h-to : (t : ℕ) → make_ro_lts.Need-shape_of-new-then-h-to (make_ro_K t) (make_ro_at t) make_ro.Post
+make_ro-shape_of-new-then-h-to t c = search rules
 
-make-ro-same-length-4 : (t : ℕ) → make-ro-lts.Need-same-length-4 (make-ro-K t) (make-ro-at t) make_ro.Post
-make-ro-same-length-4 t c = search rules
+make_ro-shape_of-memo-then-h-to : (t : ℕ) → make_ro_lts.Need-shape_of-memo-then-h-to (make_ro_K t) (make_ro_at t) make_ro.Post
+make_ro-shape_of-memo-then-h-to t c = search rules
 
-make-ro-same-length-5 : (t : ℕ) → make-ro-lts.Need-same-length-5 (make-ro-K t) (make-ro-at t) make_ro.Post
-make-ro-same-length-5 t c = search rules
+make_ro-shape_of-known-then-h-to : (t : ℕ) → make_ro_lts.Need-shape_of-known-then-h-to (make_ro_K t) (make_ro_at t) make_ro.Post
+make_ro-shape_of-known-then-h-to t c = search rules
 
-make-ro-returns-2 : (t : ℕ) → make-ro-lts.Need-returns-2 (make-ro-K t) (make-ro-at t) make_ro.Post
-make-ro-returns-2 t c = made_noted c.before.before.before.before.before.before.before.before.before.before.before.before.before.before.before.before.before.before.before.before.before.before.before.before.before.before.before.before.before.before.before.before.before.before.before.requires.1.0 c.before.before.before.before.before.before.before.before.before.before.before.before.before.before.before.before.before.before.before.before.before.before.before.before.before.before.before.ro-key.ensures (pointer_stays _ _ _ _ c.before.before.before.before.before.before.before.before.before.before.before.before.before.before.before.before.before.before.before.before.before.before.before.before.before.before.before.before.before.before.before.before.before.before.before.requires.1.0 _ c.before.before.before.before.before.before.before.before.before.before.before.before.before.before.before.before.before.before.before.before.before.before.before.before.before.before.before.before.word.ensures c.before.before.before.before.before.before.before.before.before.before.before.before.before.before.before.before.before.before.before.before.before.before.if1.true _ c.before.before.before.before.before.before.before.before.before.before.before.before.before.before.before.before.before.before.before.before.word2.ensures _ _ c.before.before.before.before.before.before.before.before.before.before.before.before.before.before.make_ro.ensures.0 _ _ c.before.before.before.before.before.before.m.given.1 c.before.before.before.before.if2.true) (remembered_same (c.before.before.before.before.before.before.before.before.before.before.before.before.before.before.make_ro.ensures.1.is _ _ c.before.before.before.before.before.before.m.given.1)) c.before.before.noted.ensures.1 _ c.before.before.noted.ensures.0
+make_ro-returns-then-h-to : (t : ℕ) → make_ro_lts.Need-returns-then-h-to (make_ro_K t) (make_ro_at t) make_ro.Post
+make_ro-returns-then-h-to t c = made_noted c.requires.1.0 c.ro_key-key.ensures (pointer_stays _ _ _ _ c.requires.1.0 _ c.word-kind.ensures c.if-kind-eq-MEM_PTR.true _ c.word-to.ensures _ _ c.make_ro-m.ensures.0 _ _ c.in-At.is c.if-h-to.true) (remembered_same (c.make_ro-m.ensures.1.is _ _ c.in-At.is)) c.noted.ensures.1 _ c.noted.ensures.0
 
-make-ro-pointer-requires : (t : ℕ) → make-ro-lts.Need-pointer-requires (make-ro-K t) (make-ro-at t) make_ro.Post
-make-ro-pointer-requires t c κs = pointer_required _ _ _ _ c.before.before.before.before.before.before.before.before.before.before.before.before.before.before.before.before.before.before.before.before.before.before.before.before.before.before.before.before.before.before.before.before.requires.1.0 _ c.before.before.before.before.before.before.before.before.before.before.before.before.before.before.before.before.before.before.before.before.before.before.before.before.before.word.ensures c.before.before.before.before.before.before.before.before.before.before.before.before.before.before.before.before.before.before.before.if1.true _ c.before.before.before.before.before.before.before.before.before.before.before.before.before.before.before.before.before.word2.ensures _ _ c.before.before.before.before.before.before.before.before.before.before.before.make_ro.ensures.0 _ _ c.before.before.before.m.given.1 c.before.before.before.before.before.before.before.before.before.before.before.before.before.before.before.before.before.before.before.before.before.before.before.before.before.before.before.before.before.before.before.before.requires.1.1.1
+make_ro-pointer-r-requires : (t : ℕ) → make_ro_lts.Need-pointer-r-requires (make_ro_K t) (make_ro_at t) make_ro.Post
+make_ro-pointer-r-requires t c κs = pointer_required _ _ _ _ c.requires.1.0 _ c.word-kind.ensures c.if-kind-eq-MEM_PTR.true _ c.word-to.ensures _ _ c.make_ro-m.ensures.0 _ _ c.in-At.is c.requires.1.1.1
 
-make-ro-noted-requires-2 : (t : ℕ) → make-ro-lts.Need-noted-requires-2 (make-ro-K t) (make-ro-at t) make_ro.Post
-make-ro-noted-requires-2 t c κs = search rules
+make_ro-noted-requires-in-At : (t : ℕ) → make_ro_lts.Need-noted-requires-in-At (make_ro_K t) (make_ro_at t) make_ro.Post
+make_ro-noted-requires-in-At t c κs = search rules
 
-make-ro-same-length-6 : (t : ℕ) → make-ro-lts.Need-same-length-6 (make-ro-K t) (make-ro-at t) make_ro.Post
-make-ro-same-length-6 t c = search rules
+make_ro-shape_of-new-in-At : (t : ℕ) → make_ro_lts.Need-shape_of-new-in-At (make_ro_K t) (make_ro_at t) make_ro.Post
+make_ro-shape_of-new-in-At t c = search rules
 
-make-ro-same-length-7 : (t : ℕ) → make-ro-lts.Need-same-length-7 (make-ro-K t) (make-ro-at t) make_ro.Post
-make-ro-same-length-7 t c = search rules
+make_ro-shape_of-memo-in-At : (t : ℕ) → make_ro_lts.Need-shape_of-memo-in-At (make_ro_K t) (make_ro_at t) make_ro.Post
+make_ro-shape_of-memo-in-At t c = search rules
 
-make-ro-same-length-8 : (t : ℕ) → make-ro-lts.Need-same-length-8 (make-ro-K t) (make-ro-at t) make_ro.Post
-make-ro-same-length-8 t c = search rules
+make_ro-shape_of-known-in-At : (t : ℕ) → make_ro_lts.Need-shape_of-known-in-At (make_ro_K t) (make_ro_at t) make_ro.Post
+make_ro-shape_of-known-in-At t c = search rules
 
-make-ro-returns-3 : (t : ℕ) → make-ro-lts.Need-returns-3 (make-ro-K t) (make-ro-at t) make_ro.Post
-make-ro-returns-3 t c = made_noted c.before.before.before.before.before.before.before.before.before.before.before.before.before.before.before.before.before.before.before.before.before.before.before.before.before.before.before.before.before.before.before.before.before.before.before.before.before.before.before.requires.1.0 c.before.before.before.before.before.before.before.before.before.before.before.before.before.before.before.before.before.before.before.before.before.before.before.before.before.before.before.before.before.before.before.ro-key.ensures (pointer_made _ _ _ _ c.before.before.before.before.before.before.before.before.before.before.before.before.before.before.before.before.before.before.before.before.before.before.before.before.before.before.before.before.before.before.before.before.before.before.before.before.before.before.before.requires.1.0 _ c.before.before.before.before.before.before.before.before.before.before.before.before.before.before.before.before.before.before.before.before.before.before.before.before.before.before.before.before.before.before.before.before.word.ensures c.before.before.before.before.before.before.before.before.before.before.before.before.before.before.before.before.before.before.before.before.before.before.before.before.before.before.if1.true _ c.before.before.before.before.before.before.before.before.before.before.before.before.before.before.before.before.before.before.before.before.before.before.before.before.word2.ensures _ _ c.before.before.before.before.before.before.before.before.before.before.before.before.before.before.before.before.before.before.make_ro.ensures.0 _ _ c.before.before.before.before.before.before.before.before.before.before.m.given.1 c.before.before.before.before.before.before.before.before.if2.false _ c.before.before.before.before.before.before.before.before.before.before.before.before.before.before.before.before.before.before.before.before.before.before.word3.ensures _ _ c.before.before.before.before.before.before.pointer.ensures) (remembered_pointer (pointer_segments _ _ _ _ c.before.before.before.before.before.before.before.before.before.before.before.before.before.before.before.before.before.before.before.before.before.before.before.before.before.before.before.before.before.before.before.before.before.before.before.before.before.before.before.requires.1.0 _ c.before.before.before.before.before.before.before.before.before.before.before.before.before.before.before.before.before.before.before.before.before.before.before.before.before.before.before.before.before.before.before.before.word.ensures c.before.before.before.before.before.before.before.before.before.before.before.before.before.before.before.before.before.before.before.before.before.before.before.before.before.before.if1.true _ c.before.before.before.before.before.before.before.before.before.before.before.before.before.before.before.before.before.before.before.before.before.before.before.before.word2.ensures _ _ c.before.before.before.before.before.before.before.before.before.before.before.before.before.before.before.before.before.before.make_ro.ensures.0 _ _ c.before.before.before.before.before.before.before.before.before.before.m.given.1) (c.before.before.before.before.before.before.before.before.before.before.before.before.before.before.before.before.before.before.make_ro.ensures.1.is _ _ c.before.before.before.before.before.before.before.before.before.before.m.given.1) _ _ c.before.before.before.before.before.before.pointer.ensures) c.before.before.noted2.ensures.1 _ c.before.before.noted2.ensures.0
+make_ro-returns-in-At : (t : ℕ) → make_ro_lts.Need-returns-in-At (make_ro_K t) (make_ro_at t) make_ro.Post
+make_ro-returns-in-At t c = made_noted c.requires.1.0 c.ro_key-key.ensures (pointer_made _ _ _ _ c.requires.1.0 _ c.word-kind.ensures c.if-kind-eq-MEM_PTR.true _ c.word-to.ensures _ _ c.make_ro-m.ensures.0 _ _ c.in-At.is c.if-h-to.false _ c.word-nil.ensures _ _ c.pointer-r.ensures) (remembered_pointer (pointer_segments _ _ _ _ c.requires.1.0 _ c.word-kind.ensures c.if-kind-eq-MEM_PTR.true _ c.word-to.ensures _ _ c.make_ro-m.ensures.0 _ _ c.in-At.is) (c.make_ro-m.ensures.1.is _ _ c.in-At.is) _ _ c.pointer-r.ensures) c.noted-in-At.ensures.1 _ c.noted-in-At.ensures.0
 
-make-ro-enum-told-2 : (t : ℕ) → make-ro-lts.Need-enum-told-2 (make-ro-K t) (make-ro-at t) make_ro.Post
-make-ro-enum-told-2 t c = search rules
+make_ro-enum_told-in-Full : (t : ℕ) → make_ro_lts.Need-enum_told-in-Full (make_ro_K t) (make_ro_at t) make_ro.Post
+make_ro-enum_told-in-Full t c = search rules
 
-make-ro-same-length-9 : (t : ℕ) → make-ro-lts.Need-same-length-9 (make-ro-K t) (make-ro-at t) make_ro.Post
-make-ro-same-length-9 t c = search rules
+make_ro-shape_of-new-in-Full : (t : ℕ) → make_ro_lts.Need-shape_of-new-in-Full (make_ro_K t) (make_ro_at t) make_ro.Post
+make_ro-shape_of-new-in-Full t c = search rules
 
-make-ro-same-length-10 : (t : ℕ) → make-ro-lts.Need-same-length-10 (make-ro-K t) (make-ro-at t) make_ro.Post
-make-ro-same-length-10 t c = search rules
+make_ro-shape_of-memo-in-Full : (t : ℕ) → make_ro_lts.Need-shape_of-memo-in-Full (make_ro_K t) (make_ro_at t) make_ro.Post
+make_ro-shape_of-memo-in-Full t c = search rules
 
-make-ro-same-length-11 : (t : ℕ) → make-ro-lts.Need-same-length-11 (make-ro-K t) (make-ro-at t) make_ro.Post
-make-ro-same-length-11 t c = search rules
+make_ro-shape_of-known-in-Full : (t : ℕ) → make_ro_lts.Need-shape_of-known-in-Full (make_ro_K t) (make_ro_at t) make_ro.Post
+make_ro-shape_of-known-in-Full t c = search rules
 
-make-ro-returns-4 : (t : ℕ) → make-ro-lts.Need-returns-4 (make-ro-K t) (make-ro-at t) make_ro.Post
-make-ro-returns-4 t c = (pointer_full _ _ _ _ c.before.before.before.before.before.before.before.before.before.before.before.before.before.before.before.before.before.before.before.before.before.before.before.before.before.before.before.before.before.requires.1.0 _ c.before.before.before.before.before.before.before.before.before.before.before.before.before.before.before.before.before.before.before.before.before.before.word.ensures c.before.before.before.before.before.before.before.before.before.before.before.before.before.before.before.before.if1.true _ c.before.before.before.before.before.before.before.before.before.before.before.before.before.before.word2.ensures _ _ c.before.before.before.before.before.before.before.before.make_ro.ensures.0 c.enum-told2.given.1, remembered_full)
+make_ro-returns-in-Full : (t : ℕ) → make_ro_lts.Need-returns-in-Full (make_ro_K t) (make_ro_at t) make_ro.Post
+make_ro-returns-in-Full t c = (pointer_full _ _ _ _ c.requires.1.0 _ c.word-kind.ensures c.if-kind-eq-MEM_PTR.true _ c.word-to.ensures _ _ c.make_ro-m.ensures.0 c.in-Full.is, remembered_full)
 
-make-ro-same-length-12 : (t : ℕ) → make-ro-lts.Need-same-length-12 (make-ro-K t) (make-ro-at t) make_ro.Post
-make-ro-same-length-12 t c = search rules
+make_ro-shape_of-new-then-kind-ne-STRUCT : (t : ℕ) → make_ro_lts.Need-shape_of-new-then-kind-ne-STRUCT (make_ro_K t) (make_ro_at t) make_ro.Post
+make_ro-shape_of-new-then-kind-ne-STRUCT t c = search rules
 
-make-ro-same-length-13 : (t : ℕ) → make-ro-lts.Need-same-length-13 (make-ro-K t) (make-ro-at t) make_ro.Post
-make-ro-same-length-13 t c = search rules
+make_ro-shape_of-memo-then-kind-ne-STRUCT : (t : ℕ) → make_ro_lts.Need-shape_of-memo-then-kind-ne-STRUCT (make_ro_K t) (make_ro_at t) make_ro.Post
+make_ro-shape_of-memo-then-kind-ne-STRUCT t c = search rules
 
-make-ro-returns-5 : (t : ℕ) → make-ro-lts.Need-returns-5 (make-ro-K t) (make-ro-at t) make_ro.Post
-make-ro-returns-5 t c = (other_stays _ _ _ _ c.before.before.before.before.before.before.before.before.before.before.before.before.before.before.requires.1.0 _ c.before.before.before.before.before.before.before.word.ensures c.before.if1.false (λ e. omega (arith, c.if3.true)), remembered_same c.before.before.before.before.before.before.before.before.before.before.before.before.before.before.requires.1.1.0)
+make_ro-returns-then-kind-ne-STRUCT : (t : ℕ) → make_ro_lts.Need-returns-then-kind-ne-STRUCT (make_ro_K t) (make_ro_at t) make_ro.Post
+make_ro-returns-then-kind-ne-STRUCT t c = (other_stays _ _ _ _ c.requires.1.0 _ c.word-kind.ensures c.if-kind-eq-MEM_PTR.false (λ e. omega (arith, c.if-kind-ne-STRUCT.true)), remembered_same c.requires.1.1.0)
 
-make-ro-is-final-requires : (t : ℕ) → make-ro-lts.Need-is-final-requires (make-ro-K t) (make-ro-at t) make_ro.Post
-make-ro-is-final-requires t c κs = (c.before.before.before.before.before.before.before.before.before.before.before.before.before.before.before.before.requires.1.0, c.before.before.before.before.before.before.before.before.before.before.before.before.before.before.before.before.requires.1.1.0.finals)
+make_ro-is_final-requires : (t : ℕ) → make_ro_lts.Need-is_final-requires (make_ro_K t) (make_ro_at t) make_ro.Post
+make_ro-is_final-requires t c κs = (c.requires.1.0, c.requires.1.1.0.finals)
 
-make-ro-same-length-14 : (t : ℕ) → make-ro-lts.Need-same-length-14 (make-ro-K t) (make-ro-at t) make_ro.Post
-make-ro-same-length-14 t c = search rules
+make_ro-shape_of-new-then-is_final : (t : ℕ) → make_ro_lts.Need-shape_of-new-then-is_final (make_ro_K t) (make_ro_at t) make_ro.Post
+make_ro-shape_of-new-then-is_final t c = search rules
 
-make-ro-same-length-15 : (t : ℕ) → make-ro-lts.Need-same-length-15 (make-ro-K t) (make-ro-at t) make_ro.Post
-make-ro-same-length-15 t c = search rules
+make_ro-shape_of-memo-then-is_final : (t : ℕ) → make_ro_lts.Need-shape_of-memo-then-is_final (make_ro_K t) (make_ro_at t) make_ro.Post
+make_ro-shape_of-memo-then-is_final t c = search rules
 
-make-ro-same-length-16 : (t : ℕ) → make-ro-lts.Need-same-length-16 (make-ro-K t) (make-ro-at t) make_ro.Post
-make-ro-same-length-16 t c = search rules
+make_ro-shape_of-known-then-is_final : (t : ℕ) → make_ro_lts.Need-shape_of-known-then-is_final (make_ro_K t) (make_ro_at t) make_ro.Post
+make_ro-shape_of-known-then-is_final t c = search rules
 
-make-ro-returns-6 : (t : ℕ) → make-ro-lts.Need-returns-6 (make-ro-K t) (make-ro-at t) make_ro.Post
-make-ro-returns-6 t c = (final_stays _ _ _ _ c.before.before.before.before.before.before.before.before.before.before.before.before.before.before.before.before.before.before.before.before.requires.1.0 _ c.before.before.before.before.before.before.before.before.before.before.before.before.before.word.ensures c.before.before.before.before.before.before.before.if1.false (omega (arith, c.before.before.before.before.before.before.if3.false)) _ c.before.before.before.is_final.ensures.0 c.if4.true, remembered_same (remembers_finals c.before.before.before.before.before.before.before.before.before.before.before.before.before.before.before.before.before.before.before.before.requires.1.1.0 c.before.before.before.is_final.ensures.1))
+make_ro-returns-then-is_final : (t : ℕ) → make_ro_lts.Need-returns-then-is_final (make_ro_K t) (make_ro_at t) make_ro.Post
+make_ro-returns-then-is_final t c = (final_stays _ _ _ _ c.requires.1.0 _ c.word-kind.ensures c.if-kind-eq-MEM_PTR.false (omega (arith, c.if-kind-ne-STRUCT.false)) _ c.is_final.ensures.0 c.if-is_final.true, remembered_same (remembers_finals c.requires.1.1.0 c.is_final.ensures.1))
 
-make-ro-make-struct-ro-requires : (t : ℕ) → make-ro-lts.Need-make-struct-ro-requires (make-ro-K t) (make-ro-at t) make_ro.Post
-make-ro-make-struct-ro-requires t c κs = (search rules, (c.before.before.before.before.before.before.before.before.before.before.before.before.before.before.before.before.before.before.before.before.before.before.before.requires.1.0, (remembers_finals c.before.before.before.before.before.before.before.before.before.before.before.before.before.before.before.before.before.before.before.before.before.before.before.requires.1.1.0 c.before.before.before.before.before.before.is_final.ensures.1, (not_final _ _ _ _ c.before.before.before.before.before.before.before.before.before.before.before.before.before.before.before.before.before.before.before.before.before.before.before.requires.1.0 _ c.before.before.before.before.before.before.before.before.before.before.before.before.before.before.before.before.word.ensures c.before.before.before.before.before.before.before.before.before.before.if1.false (omega (arith, c.before.before.before.before.before.before.before.before.before.if3.false)) _ c.before.before.before.before.before.before.is_final.ensures.0 c.before.before.before.if4.false, c.before.before.before.before.before.before.before.before.before.before.before.before.before.before.before.before.before.before.before.before.before.before.before.requires.1.1.1))))
+make_ro-make_struct_ro-r-requires : (t : ℕ) → make_ro_lts.Need-make_struct_ro-r-requires (make_ro_K t) (make_ro_at t) make_ro.Post
+make_ro-make_struct_ro-r-requires t c κs = (search rules, (c.requires.1.0, (remembers_finals c.requires.1.1.0 c.is_final.ensures.1, (not_final _ _ _ _ c.requires.1.0 _ c.word-kind.ensures c.if-kind-eq-MEM_PTR.false (omega (arith, c.if-kind-ne-STRUCT.false)) _ c.is_final.ensures.0 c.if-is_final.false, c.requires.1.1.1))))
 
-make-ro-noted-requires-3 : (t : ℕ) → make-ro-lts.Need-noted-requires-3 (make-ro-K t) (make-ro-at t) make_ro.Post
-make-ro-noted-requires-3 t c κs = search rules
+make_ro-noted-requires-2 : (t : ℕ) → make_ro_lts.Need-noted-requires-2 (make_ro_K t) (make_ro_at t) make_ro.Post
+make_ro-noted-requires-2 t c κs = search rules
 
-make-ro-same-length-17 : (t : ℕ) → make-ro-lts.Need-same-length-17 (make-ro-K t) (make-ro-at t) make_ro.Post
-make-ro-same-length-17 t c = search rules
+make_ro-shape_of-new : (t : ℕ) → make_ro_lts.Need-shape_of-new (make_ro_K t) (make_ro_at t) make_ro.Post
+make_ro-shape_of-new t c = search rules
 
-make-ro-same-length-18 : (t : ℕ) → make-ro-lts.Need-same-length-18 (make-ro-K t) (make-ro-at t) make_ro.Post
-make-ro-same-length-18 t c = search rules
+make_ro-shape_of-memo : (t : ℕ) → make_ro_lts.Need-shape_of-memo (make_ro_K t) (make_ro_at t) make_ro.Post
+make_ro-shape_of-memo t c = search rules
 
-make-ro-same-length-19 : (t : ℕ) → make-ro-lts.Need-same-length-19 (make-ro-K t) (make-ro-at t) make_ro.Post
-make-ro-same-length-19 t c = search rules
+make_ro-shape_of-known : (t : ℕ) → make_ro_lts.Need-shape_of-known (make_ro_K t) (make_ro_at t) make_ro.Post
+make_ro-shape_of-known t c = search rules
 
-make-ro-returns-7 : (t : ℕ) → make-ro-lts.Need-returns-7 (make-ro-K t) (make-ro-at t) make_ro.Post
-make-ro-returns-7 t c = made_noted c.before.before.before.before.before.before.before.before.before.before.before.before.before.before.before.before.before.before.before.before.before.before.before.before.before.before.before.before.before.before.before.before.before.before.requires.1.0 c.before.before.before.before.before.before.before.before.before.before.before.before.before.before.before.before.before.before.before.before.before.before.before.before.before.before.ro-key.ensures c.before.before.before.before.before.before.before.before.before.before.make-struct-ro.ensures.0 c.before.before.before.before.before.before.before.before.before.before.make-struct-ro.ensures.1 c.before.before.noted3.ensures.1 _ c.before.before.noted3.ensures.0
+make_ro-returns : (t : ℕ) → make_ro_lts.Need-returns (make_ro_K t) (make_ro_at t) make_ro.Post
+make_ro-returns t c = made_noted c.requires.1.0 c.ro_key-key.ensures c.make_struct_ro-r.ensures.0 c.make_struct_ro-r.ensures.1 c.noted-2.ensures.1 _ c.noted-2.ensures.0
 
-abbrev make-struct-ro-Inv-loop : make-struct-ro-lts.invariant-loop
-make-struct-ro-Inv-loop old new₀ used a memo₀ known₀ index n types₀ v₀ i₀ new memo known types v i = (i ≤ n) × (n ≤ 255) × (length types ≡ 255) × (length new ≡ length new₀) × (v ≤ length old + length new₀) × (used ≤ v) × (length old ≤ used) × (a < 1048576) × GoingRo old new₀ used a n new types v i × Remembers (take v (old ++ new)) memo known × (length memo ≡ length memo₀) × (length known ≡ length known₀)
+abbrev make_struct_ro-invariant-loop-i : make_struct_ro_lts.invariant-loop-i
+make_struct_ro-invariant-loop-i old new₀ used a memo₀ known₀ index n types₀ v₀ i₀ new memo known types v i = (i ≤ n) × (n ≤ 255) × (length types ≡ 255) × (length new ≡ length new₀) × (v ≤ length old + length new₀) × (used ≤ v) × (length old ≤ used) × (a < 1048576) × GoingRo old new₀ used a n new types v i × Remembers (take v (old ++ new)) memo known × (length memo ≡ length memo₀) × (length known ≡ length known₀)
 
-abbrev make-struct-ro-μ-loop : make-struct-ro-lts.decreases-loop
-make-struct-ro-μ-loop old new₀ used a memo₀ known₀ index n types₀ v₀ i₀ new memo known types v i = n - i
+abbrev make_struct_ro-decreases-loop-i : make_struct_ro_lts.decreases-loop-i
+make_struct_ro-decreases-loop-i old new₀ used a memo₀ known₀ index n types₀ v₀ i₀ new memo known types v i = n - i
 
-make-struct-ro-word-requires : (t : ℕ) → make-struct-ro-lts.Need-word-requires (make-struct-ro-K t) (make-struct-ro-at t) make-struct-ro.Post make-struct-ro-Inv-loop make-struct-ro-μ-loop
-make-struct-ro-word-requires t c κs = search rules
+make_struct_ro-word-requires : (t : ℕ) → make_struct_ro_lts.Need-word-requires (make_struct_ro_K t) (make_struct_ro_at t) make-struct-ro.Post make_struct_ro-invariant-loop-i make_struct_ro-decreases-loop-i
+make_struct_ro-word-requires t c κs = search rules
 
-make-struct-ro-loop-holds : (t : ℕ) → make-struct-ro-lts.Need-loop-init (make-struct-ro-K t) (make-struct-ro-at t) make-struct-ro.Post make-struct-ro-Inv-loop make-struct-ro-μ-loop
-make-struct-ro-loop-holds t c =
-    let P = c.before.before.before.before.before.before.before.requires.1 in
+make_struct_ro-loop-i-init : (t : ℕ) → make_struct_ro_lts.Need-loop-i-init (make_struct_ro_K t) (make_struct_ro_at t) make-struct-ro.Post make_struct_ro-invariant-loop-i make_struct_ro-decreases-loop-i
+make_struct_ro-loop-i-init t c =
+    let P = c.requires.1 in
     let x = c.word.ensures in
     (search rules, struct_few P.0.good P.0.first _ x, search rules, refl, P.0.within, search rules, P.0.over, omega (arith, P.0.near, P.0.within, P.0.small), struct_begin _ _ _ _ P.0 _ x P.1.1.0.0 P.1.1.0.1 _, P.1.0, refl, refl)
 
-make-struct-ro-add-p : (t : ℕ) → make-struct-ro-lts.Need-overflow-add-p (make-struct-ro-K t) (make-struct-ro-at t) make-struct-ro.Post make-struct-ro-Inv-loop make-struct-ro-μ-loop
-make-struct-ro-add-p t c = search rules
+make_struct_ro-overflow_add-p : (t : ℕ) → make_struct_ro_lts.Need-overflow_add-p (make_struct_ro_K t) (make_struct_ro_at t) make-struct-ro.Post make_struct_ro-invariant-loop-i make_struct_ro-decreases-loop-i
+make_struct_ro-overflow_add-p t c = search rules
 
-make-struct-ro-mul-p : (t : ℕ) → make-struct-ro-lts.Need-overflow-mul-p (make-struct-ro-K t) (make-struct-ro-at t) make-struct-ro.Post make-struct-ro-Inv-loop make-struct-ro-μ-loop
-make-struct-ro-mul-p t c = search rules
+make_struct_ro-overflow_mul-p : (t : ℕ) → make_struct_ro_lts.Need-overflow_mul-p (make_struct_ro_K t) (make_struct_ro_at t) make-struct-ro.Post make_struct_ro-invariant-loop-i make_struct_ro-decreases-loop-i
+make_struct_ro-overflow_mul-p t c = search rules
 
-make-struct-ro-add-p-2 : (t : ℕ) → make-struct-ro-lts.Need-overflow-add-p-2 (make-struct-ro-K t) (make-struct-ro-at t) make-struct-ro.Post make-struct-ro-Inv-loop make-struct-ro-μ-loop
-make-struct-ro-add-p-2 t c = search rules
+make_struct_ro-overflow_add-p-in-loop-i : (t : ℕ) → make_struct_ro_lts.Need-overflow_add-p-in-loop-i (make_struct_ro_K t) (make_struct_ro_at t) make-struct-ro.Post make_struct_ro-invariant-loop-i make_struct_ro-decreases-loop-i
+make_struct_ro-overflow_add-p-in-loop-i t c = search rules
 
-make-struct-ro-word-requires-2 : (t : ℕ) → make-struct-ro-lts.Need-word-requires-2 (make-struct-ro-K t) (make-struct-ro-at t) make-struct-ro.Post make-struct-ro-Inv-loop make-struct-ro-μ-loop
-make-struct-ro-word-requires-2 t c κs = search rules
+make_struct_ro-word-t-requires : (t : ℕ) → make_struct_ro_lts.Need-word-t-requires (make_struct_ro_K t) (make_struct_ro_at t) make-struct-ro.Post make_struct_ro-invariant-loop-i make_struct_ro-decreases-loop-i
+make_struct_ro-word-t-requires t c κs = search rules
 
-make-struct-ro-add-word : (t : ℕ) → make-struct-ro-lts.Need-overflow-add-word (make-struct-ro-K t) (make-struct-ro-at t) make-struct-ro.Post make-struct-ro-Inv-loop make-struct-ro-μ-loop
-make-struct-ro-add-word t c = search rules
+make_struct_ro-overflow_add-p-in-loop-i-2 : (t : ℕ) → make_struct_ro_lts.Need-overflow_add-p-in-loop-i-2 (make_struct_ro_K t) (make_struct_ro_at t) make-struct-ro.Post make_struct_ro-invariant-loop-i make_struct_ro-decreases-loop-i
+make_struct_ro-overflow_add-p-in-loop-i-2 t c = search rules
 
-make-struct-ro-word-requires-3 : (t : ℕ) → make-struct-ro-lts.Need-word-requires-3 (make-struct-ro-K t) (make-struct-ro-at t) make-struct-ro.Post make-struct-ro-Inv-loop make-struct-ro-μ-loop
-make-struct-ro-word-requires-3 t c κs = search rules
+make_struct_ro-word-value-requires : (t : ℕ) → make_struct_ro_lts.Need-word-value-requires (make_struct_ro_K t) (make_struct_ro_at t) make-struct-ro.Post make_struct_ro-invariant-loop-i make_struct_ro-decreases-loop-i
+make_struct_ro-word-value-requires t c κs = search rules
 
-make-struct-ro-make-field-ro-requires : (t : ℕ) → make-struct-ro-lts.Need-make-field-ro-requires (make-struct-ro-K t) (make-struct-ro-at t) make-struct-ro.Post make-struct-ro-Inv-loop make-struct-ro-μ-loop
-make-struct-ro-make-field-ro-requires t c κs =
-    let n = going_next c.before.before.before.before.before.before.before.before.loop.invariant.8 c.before.before.before.before.before.before.before.loop-test.true _ _ c.before.before.before.before.before.word2.ensures c.before.before.before.word3.ensures in
-    (omega (arith, n.0), (n.1, (c.before.before.before.before.before.before.before.before.loop.invariant.9, grew_covers c.before.before.before.before.before.before.before.before.loop.invariant.8.turn.grew c.before.before.before.before.before.before.before.before.before.before.before.before.before.before.before.before.requires.1.1.1.1)))
+make_struct_ro-make_field_ro-m-requires : (t : ℕ) → make_struct_ro_lts.Need-make_field_ro-m-requires (make_struct_ro_K t) (make_struct_ro_at t) make-struct-ro.Post make_struct_ro-invariant-loop-i make_struct_ro-decreases-loop-i
+make_struct_ro-make_field_ro-m-requires t c κs =
+    let n = going_next c.loop-i.invariant.8 c.loop-i-test.true _ _ c.word-t.ensures c.word-value.ensures in
+    (omega (arith, n.0), (n.1, (c.loop-i.invariant.9, grew_covers c.loop-i.invariant.8.turn.grew c.requires.1.1.1.1)))
 
-make-struct-ro-enum-known-m : (t : ℕ) → make-struct-ro-lts.Need-enum-known-m (make-struct-ro-K t) (make-struct-ro-at t) make-struct-ro.Post make-struct-ro-Inv-loop make-struct-ro-μ-loop
-make-struct-ro-enum-known-m t c = search rules
+make_struct_ro-enum_known-m : (t : ℕ) → make_struct_ro_lts.Need-enum_known-m (make_struct_ro_K t) (make_struct_ro_at t) make-struct-ro.Post make_struct_ro-invariant-loop-i make_struct_ro-decreases-loop-i
+make_struct_ro-enum_known-m t c = search rules
 
-make-struct-ro-cast-types : (t : ℕ) → make-struct-ro-lts.Need-overflow-cast-types (make-struct-ro-K t) (make-struct-ro-at t) make-struct-ro.Post make-struct-ro-Inv-loop make-struct-ro-μ-loop
-make-struct-ro-cast-types t c =
-    let l = c.before.before.before.before.before.before.before.before.before.before.before.before.before.before.before.before.before.before.loop.invariant in
-    let i = c.before.before.before.before.before.before.before.before.before.before.before.before.before.before.before.before.before.loop-test.true in
-    omega (arith, going_small l.8 i _ _ c.before.before.before.before.before.before.before.before.before.before.before.before.before.before.before.word2.ensures c.before.before.before.before.before.before.before.before.before.before.before.before.before.word3.ensures c.before.before.before.before.before.before.before.before.before.make-field-ro.ensures.0 _ _ c.before.m.given.1)
+make_struct_ro-overflow_cast-types : (t : ℕ) → make_struct_ro_lts.Need-overflow_cast-types (make_struct_ro_K t) (make_struct_ro_at t) make-struct-ro.Post make_struct_ro-invariant-loop-i make_struct_ro-decreases-loop-i
+make_struct_ro-overflow_cast-types t c =
+    let l = c.loop-i.invariant in
+    let i = c.loop-i-test.true in
+    omega (arith, going_small l.8 i _ _ c.word-t.ensures c.word-value.ensures c.make_field_ro-m.ensures.0 _ _ c.in-At.is)
 
-make-struct-ro-mul-types : (t : ℕ) → make-struct-ro-lts.Need-overflow-mul-types (make-struct-ro-K t) (make-struct-ro-at t) make-struct-ro.Post make-struct-ro-Inv-loop make-struct-ro-μ-loop
-make-struct-ro-mul-types t c = search rules
+make_struct_ro-offset_bounds-types-i : (t : ℕ) → make_struct_ro_lts.Need-offset_bounds-types-i (make_struct_ro_K t) (make_struct_ro_at t) make-struct-ro.Post make_struct_ro-invariant-loop-i make_struct_ro-decreases-loop-i
+make_struct_ro-offset_bounds-types-i t c = search rules
 
-make-struct-ro-array-write-types : (t : ℕ) → make-struct-ro-lts.Need-array-write-types (make-struct-ro-K t) (make-struct-ro-at t) make-struct-ro.Post make-struct-ro-Inv-loop make-struct-ro-μ-loop
-make-struct-ro-array-write-types t c = search rules
+make_struct_ro-bounds-types-i : (t : ℕ) → make_struct_ro_lts.Need-bounds-types-i (make_struct_ro_K t) (make_struct_ro_at t) make-struct-ro.Post make_struct_ro-invariant-loop-i make_struct_ro-decreases-loop-i
+make_struct_ro-bounds-types-i t c = search rules
 
-make-struct-ro-enum-told : (t : ℕ) → make-struct-ro-lts.Need-enum-told (make-struct-ro-K t) (make-struct-ro-at t) make-struct-ro.Post make-struct-ro-Inv-loop make-struct-ro-μ-loop
-make-struct-ro-enum-told t c = search rules
+make_struct_ro-enum_told-1 : (t : ℕ) → make_struct_ro_lts.Need-enum_told-1 (make_struct_ro_K t) (make_struct_ro_at t) make-struct-ro.Post make_struct_ro-invariant-loop-i make_struct_ro-decreases-loop-i
+make_struct_ro-enum_told-1 t c = search rules
 
-make-struct-ro-same-length : (t : ℕ) → make-struct-ro-lts.Need-same-length (make-struct-ro-K t) (make-struct-ro-at t) make-struct-ro.Post make-struct-ro-Inv-loop make-struct-ro-μ-loop
-make-struct-ro-same-length t c = search rules
+make_struct_ro-shape_of-new-in-Full : (t : ℕ) → make_struct_ro_lts.Need-shape_of-new-in-Full (make_struct_ro_K t) (make_struct_ro_at t) make-struct-ro.Post make_struct_ro-invariant-loop-i make_struct_ro-decreases-loop-i
+make_struct_ro-shape_of-new-in-Full t c = search rules
 
-make-struct-ro-same-length-2 : (t : ℕ) → make-struct-ro-lts.Need-same-length-2 (make-struct-ro-K t) (make-struct-ro-at t) make-struct-ro.Post make-struct-ro-Inv-loop make-struct-ro-μ-loop
-make-struct-ro-same-length-2 t c = search rules
+make_struct_ro-shape_of-memo-in-Full : (t : ℕ) → make_struct_ro_lts.Need-shape_of-memo-in-Full (make_struct_ro_K t) (make_struct_ro_at t) make-struct-ro.Post make_struct_ro-invariant-loop-i make_struct_ro-decreases-loop-i
+make_struct_ro-shape_of-memo-in-Full t c = search rules
 
-make-struct-ro-same-length-3 : (t : ℕ) → make-struct-ro-lts.Need-same-length-3 (make-struct-ro-K t) (make-struct-ro-at t) make-struct-ro.Post make-struct-ro-Inv-loop make-struct-ro-μ-loop
-make-struct-ro-same-length-3 t c = search rules
+make_struct_ro-shape_of-known-in-Full : (t : ℕ) → make_struct_ro_lts.Need-shape_of-known-in-Full (make_struct_ro_K t) (make_struct_ro_at t) make-struct-ro.Post make_struct_ro-invariant-loop-i make_struct_ro-decreases-loop-i
+make_struct_ro-shape_of-known-in-Full t c = search rules
 
-make-struct-ro-returns : (t : ℕ) → make-struct-ro-lts.Need-returns (make-struct-ro-K t) (make-struct-ro-at t) make-struct-ro.Post make-struct-ro-Inv-loop make-struct-ro-μ-loop
-make-struct-ro-returns t c =
-    let P = c.before.before.before.before.before.before.before.before.before.before.before.before.before.before.before.before.before.before.before.before.before.before.before.before.before.requires.1 in
-    (struct_stop _ _ _ _ P.0 _ c.before.before.before.before.before.before.before.before.before.before.before.before.before.before.before.before.before.before.word.ensures P.1.1.0.0 P.1.1.0.1 _ _ _ _ c.before.before.before.before.before.before.before.before.before.before.before.before.before.before.before.before.before.loop.invariant.8 c.before.before.before.before.before.before.before.before.before.before.before.before.before.before.before.before.loop-test.true _ _ c.before.before.before.before.before.before.before.before.before.before.before.before.before.before.word2.ensures c.before.before.before.before.before.before.before.before.before.before.before.before.word3.ensures _ _ c.before.before.before.before.before.before.before.before.make-field-ro.ensures.0 c.enum_told.given.1, remembered_full)
+make_struct_ro-returns-in-Full : (t : ℕ) → make_struct_ro_lts.Need-returns-in-Full (make_struct_ro_K t) (make_struct_ro_at t) make-struct-ro.Post make_struct_ro-invariant-loop-i make_struct_ro-decreases-loop-i
+make_struct_ro-returns-in-Full t c =
+    let P = c.requires.1 in
+    (struct_stop _ _ _ _ P.0 _ c.word.ensures P.1.1.0.0 P.1.1.0.1 _ _ _ _ c.loop-i.invariant.8 c.loop-i-test.true _ _ c.word-t.ensures c.word-value.ensures _ _ c.make_field_ro-m.ensures.0 c.in-Full.is, remembered_full)
 
-make-struct-ro-add-i : (t : ℕ) → make-struct-ro-lts.Need-overflow-add-i (make-struct-ro-K t) (make-struct-ro-at t) make-struct-ro.Post make-struct-ro-Inv-loop make-struct-ro-μ-loop
-make-struct-ro-add-i t c = search rules
+make_struct_ro-overflow_add-i : (t : ℕ) → make_struct_ro_lts.Need-overflow_add-i (make_struct_ro_K t) (make_struct_ro_at t) make-struct-ro.Post make_struct_ro-invariant-loop-i make_struct_ro-decreases-loop-i
+make_struct_ro-overflow_add-i t c = search rules
 
-make-struct-ro-loop-less : (t : ℕ) → make-struct-ro-lts.Need-loop-smaller (make-struct-ro-K t) (make-struct-ro-at t) make-struct-ro.Post make-struct-ro-Inv-loop make-struct-ro-μ-loop
-make-struct-ro-loop-less t c = search rules
+make_struct_ro-loop-i-smaller : (t : ℕ) → make_struct_ro_lts.Need-loop-i-smaller (make_struct_ro_K t) (make_struct_ro_at t) make-struct-ro.Post make_struct_ro-invariant-loop-i make_struct_ro-decreases-loop-i
+make_struct_ro-loop-i-smaller t c = search rules
 
-make-struct-ro-loop-again : (t : ℕ) → make-struct-ro-lts.Need-loop-preserved (make-struct-ro-K t) (make-struct-ro-at t) make-struct-ro.Post make-struct-ro-Inv-loop make-struct-ro-μ-loop
-make-struct-ro-loop-again t c =
-    let l = c.before.before.before.before.before.before.before.before.before.before.before.before.before.before.before.before.before.before.loop.invariant in
-    let i = c.before.before.before.before.before.before.before.before.before.before.before.before.before.before.before.before.before.loop-test.true in
-    let G = going_turn l.8 i _ _ c.before.before.before.before.before.before.before.before.before.before.before.before.before.before.before.word2.ensures c.before.before.before.before.before.before.before.before.before.before.before.before.before.word3.ensures c.before.before.before.before.before.before.before.before.before.make-field-ro.ensures.0 _ _ c.before.m.given.1 (omega (arith, l.1, l.2, i)) in
-    (search rules, l.1, simp length-set l.2, grew_long G.turn.grew, grew_high G.turn.grew, grew_up G.turn.grew, l.6, l.7, G, c.before.before.before.before.before.before.before.before.before.make-field-ro.ensures.1.is _ _ c.before.m.given.1, omega (arith, l.10, c.before.before.before.before.before.before.before.before.before.make-field-ro.auto.1), omega (arith, l.11, c.before.before.before.before.before.before.before.before.before.make-field-ro.auto.1))
+make_struct_ro-loop-i-preserved : (t : ℕ) → make_struct_ro_lts.Need-loop-i-preserved (make_struct_ro_K t) (make_struct_ro_at t) make-struct-ro.Post make_struct_ro-invariant-loop-i make_struct_ro-decreases-loop-i
+make_struct_ro-loop-i-preserved t c =
+    let l = c.loop-i.invariant in
+    let i = c.loop-i-test.true in
+    let G = going_turn l.8 i _ _ c.word-t.ensures c.word-value.ensures c.make_field_ro-m.ensures.0 _ _ c.in-At.is (omega (arith, l.1, l.2, i)) in
+    (search rules, l.1, simp length-set l.2, grew_long G.turn.grew, grew_high G.turn.grew, grew_up G.turn.grew, l.6, l.7, G, c.make_field_ro-m.ensures.1.is _ _ c.in-At.is, omega (arith, l.10, c.make_field_ro-m.auto), omega (arith, l.11, c.make_field_ro-m.auto))
 
-make-struct-ro-array-share-prefix-types : (t : ℕ) → make-struct-ro-lts.Need-array-share-prefix-types (make-struct-ro-K t) (make-struct-ro-at t) make-struct-ro.Post make-struct-ro-Inv-loop make-struct-ro-μ-loop
-make-struct-ro-array-share-prefix-types t c = search rules
+make_struct_ro-slice_bounds-types-end : (t : ℕ) → make_struct_ro_lts.Need-slice_bounds-types-end (make_struct_ro_K t) (make_struct_ro_at t) make-struct-ro.Post make_struct_ro-invariant-loop-i make_struct_ro-decreases-loop-i
+make_struct_ro-slice_bounds-types-end t c = search rules
 
-make-struct-ro-slice-aggregate-made-final : (t : ℕ) → make-struct-ro-lts.Need-slice-aggregate-made-final (make-struct-ro-K t) (make-struct-ro-at t) make-struct-ro.Post make-struct-ro-Inv-loop make-struct-ro-μ-loop
-make-struct-ro-slice-aggregate-made-final t c = sym (length-take-le _ c.before.before.before.loop.types (omega arith))
+make_struct_ro-slice_bounds-made_final-end : (t : ℕ) → make_struct_ro_lts.Need-slice_bounds-made_final-end (make_struct_ro_K t) (make_struct_ro_at t) make-struct-ro.Post make_struct_ro-invariant-loop-i make_struct_ro-decreases-loop-i
+make_struct_ro-slice_bounds-made_final-end t c = sym (length-take-le _ c.loop-i.types (omega arith))
 
-make-struct-ro-made-final-requires : (t : ℕ) → make-struct-ro-lts.Need-made-final-requires (make-struct-ro-K t) (make-struct-ro-at t) make-struct-ro.Post make-struct-ro-Inv-loop make-struct-ro-μ-loop
-make-struct-ro-made-final-requires t c κs =
-    let P = c.before.before.before.before.before.before.before.before.before.before.before.requires.1 in
-    let l = c.before.before.before.loop.invariant in
-    let n = length-take-le (c.before.before.before.before.word.result / 65536) c.before.before.before.loop.types (omega (arith, l.1, l.2)) in
-    (going_segments l.8, ((omega (arith, n, l.1), search rules, rw n (struct_values _ _ _ _ P.0 _ c.before.before.before.before.word.ensures P.1.1.0.0 P.1.1.0.1 _ _ _ _ l.8)), grew_covers l.8.turn.grew P.1.1.1))
+make_struct_ro-made_final-requires : (t : ℕ) → make_struct_ro_lts.Need-made_final-requires (make_struct_ro_K t) (make_struct_ro_at t) make-struct-ro.Post make_struct_ro-invariant-loop-i make_struct_ro-decreases-loop-i
+make_struct_ro-made_final-requires t c κs =
+    let P = c.requires.1 in
+    let l = c.loop-i.invariant in
+    let n = length-take-le (c.word.result / 65536) c.loop-i.types (omega (arith, l.1, l.2)) in
+    (going_segments l.8, ((omega (arith, n, l.1), search rules, rw n (struct_values _ _ _ _ P.0 _ c.word.ensures P.1.1.0.0 P.1.1.0.1 _ _ _ _ l.8)), grew_covers l.8.turn.grew P.1.1.1))
 
-make-struct-ro-same-length-4 : (t : ℕ) → make-struct-ro-lts.Need-same-length-4 (make-struct-ro-K t) (make-struct-ro-at t) make-struct-ro.Post make-struct-ro-Inv-loop make-struct-ro-μ-loop
-make-struct-ro-same-length-4 t c = search rules
+make_struct_ro-shape_of-new : (t : ℕ) → make_struct_ro_lts.Need-shape_of-new (make_struct_ro_K t) (make_struct_ro_at t) make-struct-ro.Post make_struct_ro-invariant-loop-i make_struct_ro-decreases-loop-i
+make_struct_ro-shape_of-new t c = search rules
 
-make-struct-ro-same-length-5 : (t : ℕ) → make-struct-ro-lts.Need-same-length-5 (make-struct-ro-K t) (make-struct-ro-at t) make-struct-ro.Post make-struct-ro-Inv-loop make-struct-ro-μ-loop
-make-struct-ro-same-length-5 t c = search rules
+make_struct_ro-shape_of-memo : (t : ℕ) → make_struct_ro_lts.Need-shape_of-memo (make_struct_ro_K t) (make_struct_ro_at t) make-struct-ro.Post make_struct_ro-invariant-loop-i make_struct_ro-decreases-loop-i
+make_struct_ro-shape_of-memo t c = search rules
 
-make-struct-ro-same-length-6 : (t : ℕ) → make-struct-ro-lts.Need-same-length-6 (make-struct-ro-K t) (make-struct-ro-at t) make-struct-ro.Post make-struct-ro-Inv-loop make-struct-ro-μ-loop
-make-struct-ro-same-length-6 t c = search rules
+make_struct_ro-shape_of-known : (t : ℕ) → make_struct_ro_lts.Need-shape_of-known (make_struct_ro_K t) (make_struct_ro_at t) make-struct-ro.Post make_struct_ro-invariant-loop-i make_struct_ro-decreases-loop-i
+make_struct_ro-shape_of-known t c = search rules
 
-make-struct-ro-returns-2 : (t : ℕ) → make-struct-ro-lts.Need-returns-2 (make-struct-ro-K t) (make-struct-ro-at t) make-struct-ro.Post make-struct-ro-Inv-loop make-struct-ro-μ-loop
-make-struct-ro-returns-2 t c =
-    let P = c.before.before.before.before.before.before.before.before.before.before.before.before.before.before.requires.1 in
-    let l = c.before.before.before.before.before.before.loop.invariant in
-    (struct_end _ _ _ _ P.0 _ c.before.before.before.before.before.before.before.word.ensures P.1.1.0.0 P.1.1.0.1 _ _ _ _ l.8 (omega arith) l.0 _ _ c.before.before.made_final.ensures, remembered_struct (going_segments l.8) l.9 _ _ c.before.before.made_final.ensures)
+make_struct_ro-returns : (t : ℕ) → make_struct_ro_lts.Need-returns (make_struct_ro_K t) (make_struct_ro_at t) make-struct-ro.Post make_struct_ro-invariant-loop-i make_struct_ro-decreases-loop-i
+make_struct_ro-returns t c =
+    let P = c.requires.1 in
+    let l = c.loop-i.invariant in
+    (struct_end _ _ _ _ P.0 _ c.word.ensures P.1.1.0.0 P.1.1.0.1 _ _ _ _ l.8 (omega arith) l.0 _ _ c.made_final.ensures, remembered_struct (going_segments l.8) l.9 _ _ c.made_final.ensures)
 
-pub +make-field-ro-make-ro-make-struct-ro-spec : {M : Type 1} → statement M
-+make-field-ro-make-ro-make-struct-ro-spec =
-    close μ-make-field-ro μ-make-ro μ-make-struct-ro (λ t. make-field-ro-lts.spec (make-field-ro-K t)
-    (make-field-ro-at t)
+pub +make_field_ro_make_ro_make_struct_ro_spec : {M : Type 1} → statement M
++make_field_ro_make_ro_make_struct_ro_spec =
+    close μ_make_field_ro μ_make_ro μ_make_struct_ro (λ t. make_field_ro_lts.spec (make_field_ro_K t)
+    (make_field_ro_at t)
     make-field-ro.Post
-    (make-field-ro-returns t)
-    (make-field-ro-make-ro-requires t)
-    (make-field-ro-same-length t)
-    (make-field-ro-same-length-2 t)
-    (make-field-ro-same-length-3 t)
-    (make-field-ro-returns-2 t))
-    (λ t. make-ro-lts.spec (make-ro-K t)
-    (make-ro-at t)
+    (make_field_ro-returns-then-value-eq1 t)
+    (make_field_ro-make_ro-requires t)
+    (make_field_ro-shape_of-new t)
+    (make_field_ro-shape_of-memo t)
+    (make_field_ro-shape_of-known t)
+    (make_field_ro-returns t))
+    (λ t. make_ro_lts.spec (make_ro_K t)
+    (make_ro_at t)
     make_ro.Post
-    (make-ro-word-requires t)
-    (make-ro-ro-key-requires t)
-    (make-ro-recall-requires t)
-    (make-ro-enum-known-line t)
-    (make-ro-same-length t)
-    (make-ro-same-length-2 t)
-    (make-ro-returns t)
-    (make-ro-enum-told t)
-    (make-ro-add-word t)
-    (make-ro-word-requires-2 t)
-    (make-ro-add-word-2 t)
-    (make-ro-word-requires-3 t)
-    (make-ro-make-ro-requires t)
-    (make-ro-enum-known-m t)
-    (make-ro-noted-requires t)
-    (make-ro-same-length-3 t)
-    (make-ro-same-length-4 t)
-    (make-ro-same-length-5 t)
-    (make-ro-returns-2 t)
-    (make-ro-pointer-requires t)
-    (make-ro-noted-requires-2 t)
-    (make-ro-same-length-6 t)
-    (make-ro-same-length-7 t)
-    (make-ro-same-length-8 t)
-    (make-ro-returns-3 t)
-    (make-ro-enum-told-2 t)
-    (make-ro-same-length-9 t)
-    (make-ro-same-length-10 t)
-    (make-ro-same-length-11 t)
-    (make-ro-returns-4 t)
-    (make-ro-same-length-12 t)
-    (make-ro-same-length-13 t)
-    (make-ro-returns-5 t)
-    (make-ro-is-final-requires t)
-    (make-ro-same-length-14 t)
-    (make-ro-same-length-15 t)
-    (make-ro-same-length-16 t)
-    (make-ro-returns-6 t)
-    (make-ro-make-struct-ro-requires t)
-    (make-ro-noted-requires-3 t)
-    (make-ro-same-length-17 t)
-    (make-ro-same-length-18 t)
-    (make-ro-same-length-19 t)
-    (make-ro-returns-7 t))
-    λ t. make-struct-ro-lts.spec (make-struct-ro-K t)
-    (make-struct-ro-at t)
+    (make_ro-word-kind-requires t)
+    (make_ro-ro_key-key-requires t)
+    (make_ro-recall-line-requires t)
+    (make_ro-enum_known-line t)
+    (make_ro-shape_of-new-in-Is t)
+    (make_ro-shape_of-memo-in-Is t)
+    (make_ro-returns-in-Is t)
+    (make_ro-enum_told-1 t)
+    (make_ro-overflow_add-a t)
+    (make_ro-word-to-requires t)
+    (make_ro-overflow_add-a-then-kind-eq-MEM_PTR t)
+    (make_ro-word-nil-requires t)
+    (make_ro-make_ro-m-requires t)
+    (make_ro-enum_known-m t)
+    (make_ro-noted-requires t)
+    (make_ro-shape_of-new-then-h-to t)
+    (make_ro-shape_of-memo-then-h-to t)
+    (make_ro-shape_of-known-then-h-to t)
+    (make_ro-returns-then-h-to t)
+    (make_ro-pointer-r-requires t)
+    (make_ro-noted-requires-in-At t)
+    (make_ro-shape_of-new-in-At t)
+    (make_ro-shape_of-memo-in-At t)
+    (make_ro-shape_of-known-in-At t)
+    (make_ro-returns-in-At t)
+    (make_ro-enum_told-in-Full t)
+    (make_ro-shape_of-new-in-Full t)
+    (make_ro-shape_of-memo-in-Full t)
+    (make_ro-shape_of-known-in-Full t)
+    (make_ro-returns-in-Full t)
+    (make_ro-shape_of-new-then-kind-ne-STRUCT t)
+    (make_ro-shape_of-memo-then-kind-ne-STRUCT t)
+    (make_ro-returns-then-kind-ne-STRUCT t)
+    (make_ro-is_final-requires t)
+    (make_ro-shape_of-new-then-is_final t)
+    (make_ro-shape_of-memo-then-is_final t)
+    (make_ro-shape_of-known-then-is_final t)
+    (make_ro-returns-then-is_final t)
+    (make_ro-make_struct_ro-r-requires t)
+    (make_ro-noted-requires-2 t)
+    (make_ro-shape_of-new t)
+    (make_ro-shape_of-memo t)
+    (make_ro-shape_of-known t)
+    (make_ro-returns t))
+    λ t. make_struct_ro_lts.spec (make_struct_ro_K t)
+    (make_struct_ro_at t)
     make-struct-ro.Post
-    make-struct-ro-Inv-loop
-    make-struct-ro-μ-loop
-    (make-struct-ro-word-requires t)
-    (make-struct-ro-loop-holds t)
-    (make-struct-ro-add-p t)
-    (make-struct-ro-mul-p t)
-    (make-struct-ro-add-p-2 t)
-    (make-struct-ro-word-requires-2 t)
-    (make-struct-ro-add-word t)
-    (make-struct-ro-word-requires-3 t)
-    (make-struct-ro-make-field-ro-requires t)
-    (make-struct-ro-enum-known-m t)
-    (make-struct-ro-cast-types t)
-    (make-struct-ro-mul-types t)
-    (make-struct-ro-array-write-types t)
-    (make-struct-ro-enum-told t)
-    (make-struct-ro-same-length t)
-    (make-struct-ro-same-length-2 t)
-    (make-struct-ro-same-length-3 t)
-    (make-struct-ro-returns t)
-    (make-struct-ro-add-i t)
-    (make-struct-ro-loop-less t)
-    (make-struct-ro-loop-again t)
-    (make-struct-ro-array-share-prefix-types t)
-    (make-struct-ro-slice-aggregate-made-final t)
-    (make-struct-ro-made-final-requires t)
-    (make-struct-ro-same-length-4 t)
-    (make-struct-ro-same-length-5 t)
-    (make-struct-ro-same-length-6 t)
-    (make-struct-ro-returns-2 t)
+    make_struct_ro-invariant-loop-i
+    make_struct_ro-decreases-loop-i
+    (make_struct_ro-word-requires t)
+    (make_struct_ro-loop-i-init t)
+    (make_struct_ro-overflow_add-p t)
+    (make_struct_ro-overflow_mul-p t)
+    (make_struct_ro-overflow_add-p-in-loop-i t)
+    (make_struct_ro-word-t-requires t)
+    (make_struct_ro-overflow_add-p-in-loop-i-2 t)
+    (make_struct_ro-word-value-requires t)
+    (make_struct_ro-make_field_ro-m-requires t)
+    (make_struct_ro-enum_known-m t)
+    (make_struct_ro-overflow_cast-types t)
+    (make_struct_ro-offset_bounds-types-i t)
+    (make_struct_ro-bounds-types-i t)
+    (make_struct_ro-enum_told-1 t)
+    (make_struct_ro-shape_of-new-in-Full t)
+    (make_struct_ro-shape_of-memo-in-Full t)
+    (make_struct_ro-shape_of-known-in-Full t)
+    (make_struct_ro-returns-in-Full t)
+    (make_struct_ro-overflow_add-i t)
+    (make_struct_ro-loop-i-smaller t)
+    (make_struct_ro-loop-i-preserved t)
+    (make_struct_ro-slice_bounds-types-end t)
+    (make_struct_ro-slice_bounds-made_final-end t)
+    (make_struct_ro-made_final-requires t)
+    (make_struct_ro-shape_of-new t)
+    (make_struct_ro-shape_of-memo t)
+    (make_struct_ro-shape_of-known t)
+    (make_struct_ro-returns t)

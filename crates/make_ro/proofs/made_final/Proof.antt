@@ -4,27 +4,27 @@ use borrow.Author.Rules.{rules}
 use Rattle.make_ro.proofs.made_final.Statement.{statement}
 use Rattle.make_ro.proofs.made_final.Tie as tie
 
-array-share-prefix-finals : tie.Need-array-share-prefix-finals
-array-share-prefix-finals c = search rules
+slice_bounds-finals-end : tie.Need-slice_bounds-finals-end
+slice_bounds-finals-end c = search rules
 
-slice-aggregate-made-again : tie.Need-slice-aggregate-made-preserved
-slice-aggregate-made-again c = search ones_many
+made_again-requires : tie.Need-made_again-requires
+made_again-requires c κs = (search rules, ((search rules, search ones_many, search rules), ((search rules, search ones_fit), search rules)))
 
-made-again-requires : tie.Need-made-again-requires
-made-again-requires c κs = (search rules, ((search rules, search ones_many, search rules), ((search rules, search ones_fit), search rules)))
-
-same_length : tie.Need-same-length
-same_length c = search rules
+shape_of-new : tie.Need-shape_of-new
+shape_of-new c = search rules
 
 returns : tie.Need-returns
 returns c = search made_final
 
-pub made-final-spec : {M : Type 1} → statement M
-made-final-spec =
+slice_bounds-made_again-end : tie.Need-slice_bounds-made_again-end
+slice_bounds-made_again-end c = search rules
+
+pub made_final_spec : {M : Type 1} → statement M
+made_final_spec =
     tie.close
     (tie.spec
-    array-share-prefix-finals
-    slice-aggregate-made-again
-    made-again-requires
-    same_length
+    slice_bounds-finals-end
+    slice_bounds-made_again-end
+    made_again-requires
+    shape_of-new
     returns)
