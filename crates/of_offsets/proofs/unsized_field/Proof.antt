@@ -53,7 +53,7 @@ loop-j-smaller c = search rules
 
 loop-j-preserved : tie.Need-loop-j-preserved invariant-loop-j decreases-loop-j
 loop-j-preserved c =
-    (search rules, one_sized _ _ _ _ c.loop-j.invariant.1 c.loop-j-test.true _ c.word-t.ensures _ c.log_size_is.ensures c.if-log_size-ge-NO_LOG_SIZE.false)
+    (search rules, one_sized _ _ _ _ c.loop-j.invariant.1 c.loop-j-test.true _ c.word-t.ensures _ c.log_size.ensures c.if-log_size-ge-NO_LOG_SIZE.false)
 
 returns : tie.Need-returns invariant-loop-j decreases-loop-j
 returns c = search all_sized
