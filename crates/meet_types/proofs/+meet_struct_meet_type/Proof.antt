@@ -75,7 +75,7 @@ meet_struct-decreases-loop-i old new₀ used a b memo₀ index key n types₀ v�
 
 meet_struct-struct_rule-rule-requires : (t : ℕ) → meet_struct_lts.Need-struct_rule-rule-requires (meet_struct_K t) (meet_struct_at t) meet-struct.Post meet_struct-invariant-loop-i meet_struct-decreases-loop-i
 meet_struct-struct_rule-rule-requires t c κs =
-    let P = c.before.before.before.before.before.requires.1.0 in
+    let P = c.requires.1.0 in
     ((P.over, P.within), names_below _ _ _ _ _ P)
 
 meet_struct-enum_told-1 : (t : ℕ) → meet_struct_lts.Need-enum_told-1 (meet_struct_K t) (meet_struct_at t) meet-struct.Post meet_struct-invariant-loop-i meet_struct-decreases-loop-i
@@ -92,7 +92,7 @@ meet_struct-enum_told-in-Fields t c = search rules
 
 meet_struct-pair_key-key-requires : (t : ℕ) → meet_struct_lts.Need-pair_key-key-requires (meet_struct_K t) (meet_struct_at t) meet-struct.Post meet_struct-invariant-loop-i meet_struct-decreases-loop-i
 meet_struct-pair_key-key-requires t c κs =
-    let P = c.before.before.before.before.before.before.before.before.requires.1.0 in
+    let P = c.requires.1.0 in
     (omega (arith, P.near, P.within, P.small), omega (arith, P.next, P.within, P.small))
 
 meet_struct-recall-line-requires : (t : ℕ) → meet_struct_lts.Need-recall-line-requires (meet_struct_K t) (meet_struct_at t) meet-struct.Post meet_struct-invariant-loop-i meet_struct-decreases-loop-i
@@ -108,7 +108,7 @@ meet_struct-shape_of-memo-in-Is : (t : ℕ) → meet_struct_lts.Need-shape_of-me
 meet_struct-shape_of-memo-in-Is t c = search rules
 
 meet_struct-returns-in-Is : (t : ℕ) → meet_struct_lts.Need-returns-in-Is (meet_struct_K t) (meet_struct_at t) meet-struct.Post meet_struct-invariant-loop-i meet_struct-decreases-loop-i
-meet_struct-returns-in-Is t c = (struct_known c.before.before.before.before.before.before.before.before.before.before.before.before.before.before.requires.1.0 _ c.before.before.before.before.before.pair_key-key.ensures c.before.before.before.before.before.before.before.before.before.before.before.before.before.before.requires.1.1.0 c.before.before.before.recall-line.ensures _ c.before.line-1.given.1, remembered_same c.before.before.before.before.before.before.before.before.before.before.before.before.before.before.requires.1.1.0)
+meet_struct-returns-in-Is t c = (struct_known c.requires.1.0 _ c.pair_key-key.ensures c.requires.1.1.0 c.recall-line.ensures _ c.in-Is.is, remembered_same c.requires.1.1.0)
 
 meet_struct-enum_told-in_default : (t : ℕ) → meet_struct_lts.Need-enum_told-in_default (meet_struct_K t) (meet_struct_at t) meet-struct.Post meet_struct-invariant-loop-i meet_struct-decreases-loop-i
 meet_struct-enum_told-in_default t c = search rules
@@ -118,11 +118,11 @@ meet_struct-word-requires t c κs = search rules
 
 meet_struct-loop-i-init : (t : ℕ) → meet_struct_lts.Need-loop-i-init (meet_struct_K t) (meet_struct_at t) meet-struct.Post meet_struct-invariant-loop-i meet_struct-decreases-loop-i
 meet_struct-loop-i-init t c =
-    let P = c.before.before.before.before.before.before.before.before.before.before.before.before.before.before.before.requires.1.0 in
-    let k = c.before.before.before.before.before.before.before.before.before.struct_rule-rule.ensures in
-    let e = c.before.before.before.before.before.before.before.enum_told-in-Fields-1.given.1 in
+    let P = c.requires.1.0 in
+    let k = c.struct_rule-rule.ensures in
+    let e = c.in-Fields.is in
     let x = c.word.ensures in
-    (search rules, struct_few _ _ _ _ _ P _ k e _ x, search rules, refl, P.within, search rules, P.over, omega (arith, P.near, P.within, P.small), omega (arith, P.next, P.within, P.small), struct_begin _ _ _ _ _ P _ k e _ x _, c.before.before.before.before.before.before.before.before.before.before.before.before.before.before.before.requires.1.1.0, refl)
+    (search rules, struct_few _ _ _ _ _ P _ k e _ x, search rules, refl, P.within, search rules, P.over, omega (arith, P.near, P.within, P.small), omega (arith, P.next, P.within, P.small), struct_begin _ _ _ _ _ P _ k e _ x _, c.requires.1.1.0, refl)
 
 meet_struct-overflow_add-a : (t : ℕ) → meet_struct_lts.Need-overflow_add-a (meet_struct_K t) (meet_struct_at t) meet-struct.Post meet_struct-invariant-loop-i meet_struct-decreases-loop-i
 meet_struct-overflow_add-a t c = search rules
@@ -150,17 +150,17 @@ meet_struct-word-y-requires t c κs = search rules
 
 meet_struct-meet_type-m-requires : (t : ℕ) → meet_struct_lts.Need-meet_type-m-requires (meet_struct_K t) (meet_struct_at t) meet-struct.Post meet_struct-invariant-loop-i meet_struct-decreases-loop-i
 meet_struct-meet_type-m-requires t c κs =
-    let n = struct_next _ _ _ _ _ _ c.before.before.before.before.before.before.before.loop-i.new _ _ _ c.before.before.before.before.before.before.before.loop-i.invariant.9 c.before.before.before.before.before.before.loop-i-test.true _ _ c.before.before.before.before.word-x.ensures c.before.before.word-y.ensures in
-    (omega (arith, n.0, n.1, c.before.before.before.before.before.before.before.before.before.before.before.before.before.before.before.before.before.before.before.before.before.before.before.requires.0), (n.2, (c.before.before.before.before.before.before.before.loop-i.invariant.10, grew_covers c.before.before.before.before.before.before.before.loop-i.invariant.9.turn.grew c.before.before.before.before.before.before.before.before.before.before.before.before.before.before.before.before.before.before.before.before.before.before.before.requires.1.1.1)))
+    let n = struct_next _ _ _ _ _ _ c.loop-i.new _ _ _ c.loop-i.invariant.9 c.loop-i-test.true _ _ c.word-x.ensures c.word-y.ensures in
+    (omega (arith, n.0, n.1, c.requires.0), (n.2, (c.loop-i.invariant.10, grew_covers c.loop-i.invariant.9.turn.grew c.requires.1.1.1)))
 
 meet_struct-enum_known-m : (t : ℕ) → meet_struct_lts.Need-enum_known-m (meet_struct_K t) (meet_struct_at t) meet-struct.Post meet_struct-invariant-loop-i meet_struct-decreases-loop-i
 meet_struct-enum_known-m t c = search rules
 
 meet_struct-overflow_cast-types : (t : ℕ) → meet_struct_lts.Need-overflow_cast-types (meet_struct_K t) (meet_struct_at t) meet-struct.Post meet_struct-invariant-loop-i meet_struct-decreases-loop-i
 meet_struct-overflow_cast-types t c =
-    let l = c.before.before.before.before.before.before.before.before.before.before.before.before.before.before.before.loop-i.invariant in
-    let i = c.before.before.before.before.before.before.before.before.before.before.before.before.before.before.loop-i-test.true in
-    omega (arith, struct_small _ _ _ _ _ _ c.before.before.before.before.before.before.before.before.before.before.before.before.before.before.before.loop-i.new _ _ _ l.9 i _ _ c.before.before.before.before.before.before.before.before.before.before.before.before.word-x.ensures c.before.before.before.before.before.before.before.before.before.before.word-y.ensures c.before.before.before.before.before.before.before.meet_type-m.ensures.0 _ _ c.before.m-1.given.1)
+    let l = c.loop-i.invariant in
+    let i = c.loop-i-test.true in
+    omega (arith, struct_small _ _ _ _ _ _ c.loop-i.new _ _ _ l.9 i _ _ c.word-x.ensures c.word-y.ensures c.meet_type-m.ensures.0 _ _ c.in-At.is)
 
 meet_struct-offset_bounds-types-i : (t : ℕ) → meet_struct_lts.Need-offset_bounds-types-i (meet_struct_K t) (meet_struct_at t) meet-struct.Post meet_struct-invariant-loop-i meet_struct-decreases-loop-i
 meet_struct-offset_bounds-types-i t c = search rules
@@ -178,7 +178,7 @@ meet_struct-shape_of-memo-in-Full : (t : ℕ) → meet_struct_lts.Need-shape_of-
 meet_struct-shape_of-memo-in-Full t c = search rules
 
 meet_struct-returns-in-Full : (t : ℕ) → meet_struct_lts.Need-returns-in-Full (meet_struct_K t) (meet_struct_at t) meet-struct.Post meet_struct-invariant-loop-i meet_struct-decreases-loop-i
-meet_struct-returns-in-Full t c = (struct_stop _ _ _ _ _ c.before.before.before.before.before.before.before.before.before.before.before.before.before.before.before.before.before.before.before.before.before.before.before.before.before.before.before.before.before.before.requires.1.0 _ c.before.before.before.before.before.before.before.before.before.before.before.before.before.before.before.before.before.before.before.before.before.before.before.before.struct_rule-rule.ensures c.before.before.before.before.before.before.before.before.before.before.before.before.before.before.before.before.before.before.before.before.before.before.enum_told-in-Fields-1.given.1 _ c.before.before.before.before.before.before.before.before.before.before.before.before.before.before.before.word.ensures _ _ _ _ c.before.before.before.before.before.before.before.before.before.before.before.before.before.before.loop-i.invariant.9 c.before.before.before.before.before.before.before.before.before.before.before.before.before.loop-i-test.true _ _ c.before.before.before.before.before.before.before.before.before.before.before.word-x.ensures c.before.before.before.before.before.before.before.before.before.word-y.ensures _ _ c.before.before.before.before.before.before.meet_type-m.ensures.0 c.enum_told-in-Full-1.given.1, remembered_full c.enum_told-in-Full-1.given.1 c.before.before.before.before.before.before.meet_type-m.ensures.1)
+meet_struct-returns-in-Full t c = (struct_stop _ _ _ _ _ c.requires.1.0 _ c.struct_rule-rule.ensures c.in-Fields.is _ c.word.ensures _ _ _ _ c.loop-i.invariant.9 c.loop-i-test.true _ _ c.word-x.ensures c.word-y.ensures _ _ c.meet_type-m.ensures.0 c.in-Full.is, remembered_full c.in-Full.is c.meet_type-m.ensures.1)
 
 meet_struct-overflow_add-i : (t : ℕ) → meet_struct_lts.Need-overflow_add-i (meet_struct_K t) (meet_struct_at t) meet-struct.Post meet_struct-invariant-loop-i meet_struct-decreases-loop-i
 meet_struct-overflow_add-i t c = search rules
@@ -188,26 +188,26 @@ meet_struct-loop-i-smaller t c = search rules
 
 meet_struct-loop-i-preserved : (t : ℕ) → meet_struct_lts.Need-loop-i-preserved (meet_struct_K t) (meet_struct_at t) meet-struct.Post meet_struct-invariant-loop-i meet_struct-decreases-loop-i
 meet_struct-loop-i-preserved t c =
-    let l = c.before.before.before.before.before.before.before.before.before.before.before.before.before.before.before.loop-i.invariant in
-    let i = c.before.before.before.before.before.before.before.before.before.before.before.before.before.before.loop-i-test.true in
-    let G = struct_turn _ _ _ _ _ _ c.before.before.before.before.before.before.before.before.before.before.before.before.before.before.before.loop-i.new _ _ _ l.9 i _ _ c.before.before.before.before.before.before.before.before.before.before.before.before.word-x.ensures c.before.before.before.before.before.before.before.before.before.before.word-y.ensures c.before.before.before.before.before.before.before.meet_type-m.ensures.0 _ _ c.before.m-1.given.1 (omega (arith, l.1, l.2, i)) in
-    (search rules, l.1, simp length-set l.2, grew_long G.turn.grew, grew_high G.turn.grew, grew_up G.turn.grew, l.6, l.7, l.8, G, c.before.before.before.before.before.before.before.meet_type-m.ensures.1.after.is _ _ c.before.m-1.given.1, omega (arith, l.11, c.before.before.before.before.before.before.before.meet_type-m.auto.1))
+    let l = c.loop-i.invariant in
+    let i = c.loop-i-test.true in
+    let G = struct_turn _ _ _ _ _ _ c.loop-i.new _ _ _ l.9 i _ _ c.word-x.ensures c.word-y.ensures c.meet_type-m.ensures.0 _ _ c.in-At.is (omega (arith, l.1, l.2, i)) in
+    (search rules, l.1, simp length-set l.2, grew_long G.turn.grew, grew_high G.turn.grew, grew_up G.turn.grew, l.6, l.7, l.8, G, c.meet_type-m.ensures.1.after.is _ _ c.in-At.is, omega (arith, l.11, c.meet_type-m.auto))
 
 meet_struct-slice_bounds-types-end : (t : ℕ) → meet_struct_lts.Need-slice_bounds-types-end (meet_struct_K t) (meet_struct_at t) meet-struct.Post meet_struct-invariant-loop-i meet_struct-decreases-loop-i
 meet_struct-slice_bounds-types-end t c = search rules
 
 meet_struct-slice_bounds-meet_fields-end : (t : ℕ) → meet_struct_lts.Need-slice_bounds-meet_fields-end (meet_struct_K t) (meet_struct_at t) meet-struct.Post meet_struct-invariant-loop-i meet_struct-decreases-loop-i
-meet_struct-slice_bounds-meet_fields-end t c = sym (length-take-le _ c.before.before.before.loop-i.types (omega arith))
+meet_struct-slice_bounds-meet_fields-end t c = sym (length-take-le _ c.loop-i.types (omega arith))
 
 meet_struct-meet_fields-fields-requires : (t : ℕ) → meet_struct_lts.Need-meet_fields-fields-requires (meet_struct_K t) (meet_struct_at t) meet-struct.Post meet_struct-invariant-loop-i meet_struct-decreases-loop-i
 meet_struct-meet_fields-fields-requires t c κs =
-    let l = c.before.before.before.loop-i.invariant in
-    let P = c.before.before.before.before.before.before.before.before.before.before.before.before.before.before.before.before.before.before.before.requires.1.0 in
-    let k = c.before.before.before.before.before.before.before.before.before.before.before.before.before.struct_rule-rule.ensures in
-    let e = c.before.before.before.before.before.before.before.before.before.before.before.enum_told-in-Fields-1.given.1 in
-    let x = c.before.before.before.before.word.ensures in
-    let n = length-take-le (c.before.before.before.before.word.result / 65536) c.before.before.before.loop-i.types (omega (arith, l.1, l.2)) in
-    (going_segments l.9, ((omega (arith, n, l.1), l.7, l.8, rw n (struct_values _ _ _ _ _ P _ k e _ x _ _ _ _ l.9)), grew_covers l.9.turn.grew c.before.before.before.before.before.before.before.before.before.before.before.before.before.before.before.before.before.before.before.requires.1.1.1))
+    let l = c.loop-i.invariant in
+    let P = c.requires.1.0 in
+    let k = c.struct_rule-rule.ensures in
+    let e = c.in-Fields.is in
+    let x = c.word.ensures in
+    let n = length-take-le (c.word.result / 65536) c.loop-i.types (omega (arith, l.1, l.2)) in
+    (going_segments l.9, ((omega (arith, n, l.1), l.7, l.8, rw n (struct_values _ _ _ _ _ P _ k e _ x _ _ _ _ l.9)), grew_covers l.9.turn.grew c.requires.1.1.1))
 
 meet_struct-noted-requires : (t : ℕ) → meet_struct_lts.Need-noted-requires (meet_struct_K t) (meet_struct_at t) meet-struct.Post meet_struct-invariant-loop-i meet_struct-decreases-loop-i
 meet_struct-noted-requires t c κs = search rules
@@ -216,19 +216,19 @@ meet_struct-shape_of-new-in-Former : (t : ℕ) → meet_struct_lts.Need-shape_of
 meet_struct-shape_of-new-in-Former t c = search rules
 
 meet_struct-returns-in-Former : (t : ℕ) → meet_struct_lts.Need-returns-in-Former (meet_struct_K t) (meet_struct_at t) meet-struct.Post meet_struct-invariant-loop-i meet_struct-decreases-loop-i
-meet_struct-returns-in-Former t c = (met_former _ _ _ _ _ c.before.before.before.before.before.before.before.before.requires.1.0 _ c.before.before.struct_rule-rule.ensures c.enum_told-1.given.1, remembered_same c.before.before.before.before.before.before.before.before.requires.1.1.0)
+meet_struct-returns-in-Former t c = (met_former _ _ _ _ _ c.requires.1.0 _ c.struct_rule-rule.ensures c.in-Former.is, remembered_same c.requires.1.1.0)
 
 meet_struct-shape_of-new-in-Latter : (t : ℕ) → meet_struct_lts.Need-shape_of-new-in-Latter (meet_struct_K t) (meet_struct_at t) meet-struct.Post meet_struct-invariant-loop-i meet_struct-decreases-loop-i
 meet_struct-shape_of-new-in-Latter t c = search rules
 
 meet_struct-returns-in-Latter : (t : ℕ) → meet_struct_lts.Need-returns-in-Latter (meet_struct_K t) (meet_struct_at t) meet-struct.Post meet_struct-invariant-loop-i meet_struct-decreases-loop-i
-meet_struct-returns-in-Latter t c = (met_latter _ _ _ _ _ c.before.before.before.before.before.before.before.before.requires.1.0 _ c.before.before.struct_rule-rule.ensures c.enum_told-in-Latter-1.given.1, remembered_same c.before.before.before.before.before.before.before.before.requires.1.1.0)
+meet_struct-returns-in-Latter t c = (met_latter _ _ _ _ _ c.requires.1.0 _ c.struct_rule-rule.ensures c.in-Latter.is, remembered_same c.requires.1.1.0)
 
 meet_struct-shape_of-new-in-Lowest : (t : ℕ) → meet_struct_lts.Need-shape_of-new-in-Lowest (meet_struct_K t) (meet_struct_at t) meet-struct.Post meet_struct-invariant-loop-i meet_struct-decreases-loop-i
 meet_struct-shape_of-new-in-Lowest t c = search rules
 
 meet_struct-returns-in-Lowest : (t : ℕ) → meet_struct_lts.Need-returns-in-Lowest (meet_struct_K t) (meet_struct_at t) meet-struct.Post meet_struct-invariant-loop-i meet_struct-decreases-loop-i
-meet_struct-returns-in-Lowest t c = (met_lowest _ _ _ _ _ c.before.before.before.before.before.before.before.before.requires.1.0 _ c.before.before.struct_rule-rule.ensures c.enum_told-in-Lowest-1.given.1, remembered_same c.before.before.before.before.before.before.before.before.requires.1.1.0)
+meet_struct-returns-in-Lowest t c = (met_lowest _ _ _ _ _ c.requires.1.0 _ c.struct_rule-rule.ensures c.in-Lowest.is, remembered_same c.requires.1.1.0)
 
 meet_struct-shape_of-new-after-loop-i : (t : ℕ) → meet_struct_lts.Need-shape_of-new-after-loop-i (meet_struct_K t) (meet_struct_at t) meet-struct.Post meet_struct-invariant-loop-i meet_struct-decreases-loop-i
 meet_struct-shape_of-new-after-loop-i t c = search rules
@@ -238,9 +238,9 @@ meet_struct-shape_of-memo t c = search rules
 
 meet_struct-returns-after-loop-i : (t : ℕ) → meet_struct_lts.Need-returns-after-loop-i (meet_struct_K t) (meet_struct_at t) meet-struct.Post meet_struct-invariant-loop-i meet_struct-decreases-loop-i
 meet_struct-returns-after-loop-i t c =
-    let t = struct_end _ _ _ _ _ c.before.before.before.before.before.before.before.before.before.before.before.before.before.before.before.before.before.before.before.before.before.before.before.before.before.before.requires.1.0 _ c.before.before.before.before.before.before.before.before.before.before.before.before.before.before.before.before.before.before.before.before.struct_rule-rule.ensures c.before.before.before.before.before.before.before.before.before.before.before.before.before.before.before.before.before.before.enum_told-in-Fields-1.given.1 _ c.before.before.before.before.before.before.before.before.before.before.before.word.ensures _ _ _ _ c.before.before.before.before.before.before.before.before.before.before.loop-i.invariant.9 (omega arith) c.before.before.before.before.before.before.before.before.before.before.loop-i.invariant.0 _ _ c.before.before.before.before.before.before.meet_fields-fields.ensures in
-    let m = remembered_fields (going_segments c.before.before.before.before.before.before.before.before.before.before.loop-i.invariant.9) c.before.before.before.before.before.before.before.before.before.before.loop-i.invariant.10 _ _ _ c.before.before.before.before.before.before.meet_fields-fields.ensures in
-    struct_noted c.before.before.before.before.before.before.before.before.before.before.before.before.before.before.before.before.before.before.before.before.before.before.before.before.before.before.requires.1.0 _ c.before.before.before.before.before.before.before.before.before.before.before.before.before.before.before.before.before.pair_key-key.ensures t m c.before.before.noted.ensures.0 c.before.before.noted.ensures.1
+    let t = struct_end _ _ _ _ _ c.requires.1.0 _ c.struct_rule-rule.ensures c.in-Fields.is _ c.word.ensures _ _ _ _ c.loop-i.invariant.9 (omega arith) c.loop-i.invariant.0 _ _ c.meet_fields-fields.ensures in
+    let m = remembered_fields (going_segments c.loop-i.invariant.9) c.loop-i.invariant.10 _ _ _ c.meet_fields-fields.ensures in
+    struct_noted c.requires.1.0 _ c.pair_key-key.ensures t m c.noted.ensures.0 c.noted.ensures.1
 
 abbrev meet_type-invariant-loop-i : meet_type_lts.invariant-loop-i
 meet_type-invariant-loop-i old new₀ used a b memo₀ index key n parts₀ v₀ i₀ new memo parts v i = (i ≤ n) × (n ≤ 255) × (length parts ≡ 255) × (length new ≡ length new₀) × (v ≤ length old + length new₀) × (used ≤ v) × (length old ≤ used) × (a < 1048576) × (b < 1048576) × Going 1 old new₀ used a b n (a + 1) (b + 1) new parts v i × Remembers (take v (old ++ new)) memo × (length memo ≡ length memo₀)
@@ -253,7 +253,7 @@ meet_type-type_rule-rule-requires t c κs = search rules
 
 meet_type-meet_key-key-requires : (t : ℕ) → meet_type_lts.Need-meet_key-key-requires (meet_type_K t) (meet_type_at t) meet-type.Post meet_type-invariant-loop-i meet_type-decreases-loop-i
 meet_type-meet_key-key-requires t c κs =
-    let P = c.before.before.before.before.before.before.requires.1.0 in
+    let P = c.requires.1.0 in
     (omega (arith, P.near, P.within, P.small), omega (arith, P.next, P.within, P.small))
 
 meet_type-recall-line-requires : (t : ℕ) → meet_type_lts.Need-recall-line-requires (meet_type_K t) (meet_type_at t) meet-type.Post meet_type-invariant-loop-i meet_type-decreases-loop-i
@@ -269,7 +269,7 @@ meet_type-shape_of-memo-in-Is : (t : ℕ) → meet_type_lts.Need-shape_of-memo-i
 meet_type-shape_of-memo-in-Is t c = search rules
 
 meet_type-returns-in-Is : (t : ℕ) → meet_type_lts.Need-returns-in-Is (meet_type_K t) (meet_type_at t) meet-type.Post meet_type-invariant-loop-i meet_type-decreases-loop-i
-meet_type-returns-in-Is t c = (met_known c.before.before.before.before.before.before.before.before.before.before.before.before.requires.1.0 _ c.before.before.before.before.before.meet-key.ensures c.before.before.before.before.before.before.before.before.before.before.before.before.requires.1.1.0 c.before.before.before.recall-line.ensures _ c.before.line-1.given.1, remembered_same c.before.before.before.before.before.before.before.before.before.before.before.before.requires.1.1.0)
+meet_type-returns-in-Is t c = (met_known c.requires.1.0 _ c.meet_key-key.ensures c.requires.1.1.0 c.recall-line.ensures _ c.in-Is.is, remembered_same c.requires.1.1.0)
 
 meet_type-enum_told-1 : (t : ℕ) → meet_type_lts.Need-enum_told-1 (meet_type_K t) (meet_type_at t) meet-type.Post meet_type-invariant-loop-i meet_type-decreases-loop-i
 meet_type-enum_told-1 t c = search rules
@@ -288,22 +288,22 @@ meet_type-enum_told-in-Ints t c = search rules
 
 meet_type-meet_int-requires : (t : ℕ) → meet_type_lts.Need-meet_int-requires (meet_type_K t) (meet_type_at t) meet-type.Post meet_type-invariant-loop-i meet_type-decreases-loop-i
 meet_type-meet_int-requires t c κs =
-    let P = c.before.before.before.before.before.before.before.before.before.before.before.before.before.before.requires.1.0 in
-    (ready_segments P, ((omega (arith, P.near, P.within, P.small), omega (arith, P.next, P.within, P.small)), c.before.before.before.before.before.before.before.before.before.before.before.before.before.before.requires.1.1.1))
+    let P = c.requires.1.0 in
+    (ready_segments P, ((omega (arith, P.near, P.within, P.small), omega (arith, P.next, P.within, P.small)), c.requires.1.1.1))
 
 meet_type-enum_told-in-Floats : (t : ℕ) → meet_type_lts.Need-enum_told-in-Floats (meet_type_K t) (meet_type_at t) meet-type.Post meet_type-invariant-loop-i meet_type-decreases-loop-i
 meet_type-enum_told-in-Floats t c = search rules
 
 meet_type-meet_float-requires : (t : ℕ) → meet_type_lts.Need-meet_float-requires (meet_type_K t) (meet_type_at t) meet-type.Post meet_type-invariant-loop-i meet_type-decreases-loop-i
 meet_type-meet_float-requires t c κs =
-    let P = c.before.before.before.before.before.before.before.before.before.before.before.before.before.before.requires.1.0 in
-    ((P.over, P.within, omega (arith, P.near, P.within, P.small), omega (arith, P.next, P.within, P.small)), float_sizes _ _ _ _ _ P _ c.before.before.before.before.before.before.before.before.type-rule.ensures c.before.enum_told-in-Full-1.given.1)
+    let P = c.requires.1.0 in
+    ((P.over, P.within, omega (arith, P.near, P.within, P.small), omega (arith, P.next, P.within, P.small)), float_sizes _ _ _ _ _ P _ c.type_rule-rule.ensures c.in-Floats.is)
 
 meet_type-enum_told-in-Structs : (t : ℕ) → meet_type_lts.Need-enum_told-in-Structs (meet_type_K t) (meet_type_at t) meet-type.Post meet_type-invariant-loop-i meet_type-decreases-loop-i
 meet_type-enum_told-in-Structs t c = search rules
 
 meet_type-meet_struct-requires : (t : ℕ) → meet_type_lts.Need-meet_struct-requires (meet_type_K t) (meet_type_at t) meet-type.Post meet_type-invariant-loop-i meet_type-decreases-loop-i
-meet_type-meet_struct-requires t c κs = (search rules, (ready_structs _ _ _ _ _ c.before.before.before.before.before.before.before.before.before.before.before.before.before.before.before.requires.1.0 _ c.before.before.before.before.before.before.before.before.before.type-rule.ensures c.before.before.enum-told7.given.1, (c.before.before.before.before.before.before.before.before.before.before.before.before.before.before.before.requires.1.1.0, c.before.before.before.before.before.before.before.before.before.before.before.before.before.before.before.requires.1.1.1)))
+meet_type-meet_struct-requires t c κs = (search rules, (ready_structs _ _ _ _ _ c.requires.1.0 _ c.type_rule-rule.ensures c.in-Structs.is, (c.requires.1.1.0, c.requires.1.1.1)))
 
 meet_type-enum_told-in-Pointers : (t : ℕ) → meet_type_lts.Need-enum_told-in-Pointers (meet_type_K t) (meet_type_at t) meet-type.Post meet_type-invariant-loop-i meet_type-decreases-loop-i
 meet_type-enum_told-in-Pointers t c = search rules
@@ -337,14 +337,14 @@ meet_type-larger-nil-requires t c κs = search rules
 
 meet_type-meet_struct-m-requires : (t : ℕ) → meet_type_lts.Need-meet_struct-m-requires (meet_type_K t) (meet_type_at t) meet-type.Post meet_type-invariant-loop-i meet_type-decreases-loop-i
 meet_type-meet_struct-m-requires t c κs =
-    let n = pointer_next _ _ _ _ _ c.before.before.before.before.before.before.before.before.before.before.before.before.before.before.before.before.before.before.before.before.before.before.before.before.requires.1.0 _ c.before.before.before.before.before.before.before.before.before.before.before.before.before.before.before.before.before.before.type-rule.ensures c.before.before.before.before.before.before.before.before.before.before.before.enum-told8.given.1 _ _ c.before.before.before.before.before.before.before.before.before.word.ensures c.before.before.before.before.before.before.before.word-x.ensures in
-    (omega (arith, n.0, n.1, c.before.before.before.before.before.before.before.before.before.before.before.before.before.before.before.before.before.before.before.before.before.before.before.before.requires.0), (n.2, (c.before.before.before.before.before.before.before.before.before.before.before.before.before.before.before.before.before.before.before.before.before.before.before.before.requires.1.1.0, c.before.before.before.before.before.before.before.before.before.before.before.before.before.before.before.before.before.before.before.before.before.before.before.before.requires.1.1.1)))
+    let n = pointer_next _ _ _ _ _ c.requires.1.0 _ c.type_rule-rule.ensures c.in-Pointers.is _ _ c.word-x.ensures c.word-y.ensures in
+    (omega (arith, n.0, n.1, c.requires.0), (n.2, (c.requires.1.1.0, c.requires.1.1.1)))
 
 meet_type-enum_known-m : (t : ℕ) → meet_type_lts.Need-enum_known-m (meet_type_K t) (meet_type_at t) meet-type.Post meet_type-invariant-loop-i meet_type-decreases-loop-i
 meet_type-enum_known-m t c = search rules
 
 meet_type-pointer-pointer-requires : (t : ℕ) → meet_type_lts.Need-pointer-pointer-requires (meet_type_K t) (meet_type_at t) meet-type.Post meet_type-invariant-loop-i meet_type-decreases-loop-i
-meet_type-pointer-pointer-requires t c κs = pointer_required _ _ _ _ _ c.before.before.before.before.before.before.before.before.before.before.before.before.before.before.before.before.before.before.before.before.before.before.before.before.before.before.before.before.before.before.before.before.before.requires.1.0 _ c.before.before.before.before.before.before.before.before.before.before.before.before.before.before.before.before.before.before.before.before.before.before.before.before.before.before.before.type-rule.ensures c.before.before.before.before.before.before.before.before.before.before.before.before.before.before.before.before.before.before.before.before.enum-told8.given.1 _ _ c.before.before.before.before.before.before.before.before.before.before.before.before.before.before.before.before.before.before.word.ensures c.before.before.before.before.before.before.before.before.before.before.before.before.before.before.before.before.word-x.ensures _ _ c.before.before.before.before.before.before.before.before.meet-struct2.ensures.0 _ _ c.before.before.m-1.given.1 c.before.before.before.before.before.before.before.before.before.before.before.before.before.before.before.before.before.before.before.before.before.before.before.before.before.before.before.before.before.before.before.before.before.requires.1.1.1
+meet_type-pointer-pointer-requires t c κs = pointer_required _ _ _ _ _ c.requires.1.0 _ c.type_rule-rule.ensures c.in-Pointers.is _ _ c.word-x.ensures c.word-y.ensures _ _ c.meet_struct-m.ensures.0 _ _ c.in-At.is c.requires.1.1.1
 
 meet_type-noted-requires : (t : ℕ) → meet_type_lts.Need-noted-requires (meet_type_K t) (meet_type_at t) meet-type.Post meet_type-invariant-loop-i meet_type-decreases-loop-i
 meet_type-noted-requires t c κs = search rules
@@ -377,21 +377,21 @@ meet_type-word-x-requires-in-Memories : (t : ℕ) → meet_type_lts.Need-word-x-
 meet_type-word-x-requires-in-Memories t c κs = search rules
 
 meet_type-overflow_add-b-in-Memories-2 : (t : ℕ) → meet_type_lts.Need-overflow_add-b-in-Memories-2 (meet_type_K t) (meet_type_at t) meet-type.Post meet_type-invariant-loop-i meet_type-decreases-loop-i
-meet_type-overflow_add-b-in-Memories-2 t c = let P = c.before.before.before.before.before.before.before.before.before.before.before.before.before.before.before.before.before.before.before.before.before.requires.1.0 in omega (arith, P.next, P.within, P.small)
+meet_type-overflow_add-b-in-Memories-2 t c = let P = c.requires.1.0 in omega (arith, P.next, P.within, P.small)
 
 meet_type-word-y-requires-in-Memories : (t : ℕ) → meet_type_lts.Need-word-y-requires-in-Memories (meet_type_K t) (meet_type_at t) meet-type.Post meet_type-invariant-loop-i meet_type-decreases-loop-i
-meet_type-word-y-requires-in-Memories t c κs = (c.before.before.before.before.before.before.before.before.before.before.before.before.before.before.before.before.before.before.before.before.before.requires.1.0.over, c.before.before.before.before.before.before.before.before.before.before.before.before.before.before.before.before.before.before.before.before.before.requires.1.0.within)
+meet_type-word-y-requires-in-Memories t c κs = (c.requires.1.0.over, c.requires.1.0.within)
 
 meet_type-meet_type-m-requires : (t : ℕ) → meet_type_lts.Need-meet_type-m-requires (meet_type_K t) (meet_type_at t) meet-type.Post meet_type-invariant-loop-i meet_type-decreases-loop-i
 meet_type-meet_type-m-requires t c κs =
-    let n = memory_next _ _ _ _ _ c.before.before.before.before.before.before.before.before.before.before.before.before.before.before.before.before.before.before.before.before.before.before.before.before.requires.1.0 _ c.before.before.before.before.before.before.before.before.before.before.before.before.before.before.before.before.before.before.type-rule.ensures c.before.before.before.before.before.before.before.before.before.before.before.enum-told10.given.1 _ _ c.before.before.before.before.word7.ensures c.before.before.word8.ensures in
-    (omega (arith, n.0, n.1, c.before.before.before.before.before.before.before.before.before.before.before.before.before.before.before.before.before.before.before.before.before.before.before.before.requires.0), (n.2, (c.before.before.before.before.before.before.before.before.before.before.before.before.before.before.before.before.before.before.before.before.before.before.before.before.requires.1.1.0, c.before.before.before.before.before.before.before.before.before.before.before.before.before.before.before.before.before.before.before.before.before.before.before.before.requires.1.1.1)))
+    let n = memory_next _ _ _ _ _ c.requires.1.0 _ c.type_rule-rule.ensures c.in-Memories.is _ _ c.word-x-in-Memories.ensures c.word-y-in-Memories.ensures in
+    (omega (arith, n.0, n.1, c.requires.0), (n.2, (c.requires.1.1.0, c.requires.1.1.1)))
 
 meet_type-enum_known-m-in-At-m-2 : (t : ℕ) → meet_type_lts.Need-enum_known-m-in-At-m-2 (meet_type_K t) (meet_type_at t) meet-type.Post meet_type-invariant-loop-i meet_type-decreases-loop-i
 meet_type-enum_known-m-in-At-m-2 t c = search rules
 
 meet_type-memory-memory-requires : (t : ℕ) → meet_type_lts.Need-memory-memory-requires (meet_type_K t) (meet_type_at t) meet-type.Post meet_type-invariant-loop-i meet_type-decreases-loop-i
-meet_type-memory-memory-requires t c κs = memory_required _ _ _ _ _ c.before.before.before.before.before.before.before.before.before.before.before.before.before.before.before.before.before.before.before.before.before.before.before.before.before.before.before.before.before.before.before.before.before.requires.1.0 _ c.before.before.before.before.before.before.before.before.before.before.before.before.before.before.before.before.before.before.before.before.before.before.before.before.before.before.before.type-rule.ensures c.before.before.before.before.before.before.before.before.before.before.before.before.before.before.before.before.before.before.before.before.enum-told10.given.1 _ _ c.before.before.before.before.before.before.before.before.before.before.before.before.before.word7.ensures c.before.before.before.before.before.before.before.before.before.before.before.word8.ensures _ _ c.before.before.before.before.before.before.before.before.meet_type-m.ensures.0 _ _ c.before.before.m2.given.1 c.before.before.before.before.before.before.before.before.before.before.before.before.before.before.before.before.before.before.before.before.before.before.before.before.before.before.before.before.before.before.before.before.before.requires.1.1.1
+meet_type-memory-memory-requires t c κs = memory_required _ _ _ _ _ c.requires.1.0 _ c.type_rule-rule.ensures c.in-Memories.is _ _ c.word-x-in-Memories.ensures c.word-y-in-Memories.ensures _ _ c.meet_type-m.ensures.0 _ _ c.in-At-m.is c.requires.1.1.1
 
 meet_type-noted-requires-in-At-m : (t : ℕ) → meet_type_lts.Need-noted-requires-in-At-m (meet_type_K t) (meet_type_at t) meet-type.Post meet_type-invariant-loop-i meet_type-decreases-loop-i
 meet_type-noted-requires-in-At-m t c κs = search rules
@@ -407,11 +407,11 @@ meet_type-word-requires-in-Tuples t c κs = search rules
 
 meet_type-loop-i-init : (t : ℕ) → meet_type_lts.Need-loop-i-init (meet_type_K t) (meet_type_at t) meet-type.Post meet_type-invariant-loop-i meet_type-decreases-loop-i
 meet_type-loop-i-init t c =
-    let P = c.before.before.before.before.before.before.before.before.before.before.before.before.before.before.before.requires.1.0 in
-    let k = c.before.before.before.before.before.before.before.before.before.type-rule.ensures in
-    let e = c.before.before.enum-told12.given.1 in
-    let x = c.word9.ensures in
-    (search rules, tuple_few _ _ _ _ _ P _ k e _ x, search rules, refl, P.within, search rules, P.over, omega (arith, P.near, P.within, P.small), omega (arith, P.next, P.within, P.small), tuple_begin _ _ _ _ _ P _ k e _ x _, c.before.before.before.before.before.before.before.before.before.before.before.before.before.before.before.requires.1.1.0, refl)
+    let P = c.requires.1.0 in
+    let k = c.type_rule-rule.ensures in
+    let e = c.in-Tuples.is in
+    let x = c.word-in-Tuples.ensures in
+    (search rules, tuple_few _ _ _ _ _ P _ k e _ x, search rules, refl, P.within, search rules, P.over, omega (arith, P.near, P.within, P.small), omega (arith, P.next, P.within, P.small), tuple_begin _ _ _ _ _ P _ k e _ x _, c.requires.1.1.0, refl)
 
 meet_type-overflow_add-a-in-loop-i : (t : ℕ) → meet_type_lts.Need-overflow_add-a-in-loop-i (meet_type_K t) (meet_type_at t) meet-type.Post meet_type-invariant-loop-i meet_type-decreases-loop-i
 meet_type-overflow_add-a-in-loop-i t c = search rules
@@ -433,17 +433,17 @@ meet_type-word-y-requires-in-loop-i t c κs = search rules
 
 meet_type-meet_type-m-requires-in-loop-i : (t : ℕ) → meet_type_lts.Need-meet_type-m-requires-in-loop-i (meet_type_K t) (meet_type_at t) meet-type.Post meet_type-invariant-loop-i meet_type-decreases-loop-i
 meet_type-meet_type-m-requires-in-loop-i t c κs =
-    let n = tuple_next _ _ _ _ _ _ c.before.before.before.before.before.before.before.loop-i.new _ _ _ c.before.before.before.before.before.before.before.loop-i.invariant.9 c.before.before.before.before.before.before.loop-i-test.true _ _ c.before.before.before.before.word10.ensures c.before.before.word11.ensures in
-    (omega (arith, n.0, n.1, c.before.before.before.before.before.before.before.before.before.before.before.before.before.before.before.before.before.before.before.before.before.before.before.requires.0), (n.2, (c.before.before.before.before.before.before.before.loop-i.invariant.10, grew_covers c.before.before.before.before.before.before.before.loop-i.invariant.9.turn.grew c.before.before.before.before.before.before.before.before.before.before.before.before.before.before.before.before.before.before.before.before.before.before.before.requires.1.1.1)))
+    let n = tuple_next _ _ _ _ _ _ c.loop-i.new _ _ _ c.loop-i.invariant.9 c.loop-i-test.true _ _ c.word-x-in-loop-i.ensures c.word-y-in-loop-i.ensures in
+    (omega (arith, n.0, n.1, c.requires.0), (n.2, (c.loop-i.invariant.10, grew_covers c.loop-i.invariant.9.turn.grew c.requires.1.1.1)))
 
 meet_type-enum_known-m-in-At-m-3 : (t : ℕ) → meet_type_lts.Need-enum_known-m-in-At-m-3 (meet_type_K t) (meet_type_at t) meet-type.Post meet_type-invariant-loop-i meet_type-decreases-loop-i
 meet_type-enum_known-m-in-At-m-3 t c = search rules
 
 meet_type-overflow_cast-parts : (t : ℕ) → meet_type_lts.Need-overflow_cast-parts (meet_type_K t) (meet_type_at t) meet-type.Post meet_type-invariant-loop-i meet_type-decreases-loop-i
 meet_type-overflow_cast-parts t c =
-    let l = c.before.before.before.before.before.before.before.before.before.before.before.before.before.before.before.loop-i.invariant in
-    let i = c.before.before.before.before.before.before.before.before.before.before.before.before.before.before.loop-i-test.true in
-    omega (arith, tuple_small _ _ _ _ _ _ c.before.before.before.before.before.before.before.before.before.before.before.before.before.before.before.loop-i.new _ _ _ l.9 i _ _ c.before.before.before.before.before.before.before.before.before.before.before.before.word10.ensures c.before.before.before.before.before.before.before.before.before.before.word11.ensures c.before.before.before.before.before.before.before.meet-type2.ensures.0 _ _ c.before.m3.given.1)
+    let l = c.loop-i.invariant in
+    let i = c.loop-i-test.true in
+    omega (arith, tuple_small _ _ _ _ _ _ c.loop-i.new _ _ _ l.9 i _ _ c.word-x-in-loop-i.ensures c.word-y-in-loop-i.ensures c.meet_type-m-in-loop-i.ensures.0 _ _ c.in-At-m-2.is)
 
 meet_type-offset_bounds-parts-i : (t : ℕ) → meet_type_lts.Need-offset_bounds-parts-i (meet_type_K t) (meet_type_at t) meet-type.Post meet_type-invariant-loop-i meet_type-decreases-loop-i
 meet_type-offset_bounds-parts-i t c = search rules
@@ -461,7 +461,7 @@ meet_type-shape_of-memo-in-Full-m-2 : (t : ℕ) → meet_type_lts.Need-shape_of-
 meet_type-shape_of-memo-in-Full-m-2 t c = search rules
 
 meet_type-returns-in-Full-m-2 : (t : ℕ) → meet_type_lts.Need-returns-in-Full-m-2 (meet_type_K t) (meet_type_at t) meet-type.Post meet_type-invariant-loop-i meet_type-decreases-loop-i
-meet_type-returns-in-Full-m-2 t c = (tuple_stop _ _ _ _ _ c.before.before.before.before.before.before.before.before.before.before.before.before.before.before.before.before.before.before.before.before.before.before.before.before.before.before.before.before.before.before.requires.1.0 _ c.before.before.before.before.before.before.before.before.before.before.before.before.before.before.before.before.before.before.before.before.before.before.before.before.type-rule.ensures c.before.before.before.before.before.before.before.before.before.before.before.before.before.before.before.before.before.enum-told12.given.1 _ c.before.before.before.before.before.before.before.before.before.before.before.before.before.before.before.word9.ensures _ _ _ _ c.before.before.before.before.before.before.before.before.before.before.before.before.before.before.loop-i.invariant.9 c.before.before.before.before.before.before.before.before.before.before.before.before.before.loop-i-test.true _ _ c.before.before.before.before.before.before.before.before.before.before.before.word10.ensures c.before.before.before.before.before.before.before.before.before.word11.ensures _ _ c.before.before.before.before.before.before.meet-type2.ensures.0 c.enum-told13.given.1, remembered_full c.enum-told13.given.1 c.before.before.before.before.before.before.meet-type2.ensures.1)
+meet_type-returns-in-Full-m-2 t c = (tuple_stop _ _ _ _ _ c.requires.1.0 _ c.type_rule-rule.ensures c.in-Tuples.is _ c.word-in-Tuples.ensures _ _ _ _ c.loop-i.invariant.9 c.loop-i-test.true _ _ c.word-x-in-loop-i.ensures c.word-y-in-loop-i.ensures _ _ c.meet_type-m-in-loop-i.ensures.0 c.in-Full-m-2.is, remembered_full c.in-Full-m-2.is c.meet_type-m-in-loop-i.ensures.1)
 
 meet_type-overflow_add-i : (t : ℕ) → meet_type_lts.Need-overflow_add-i (meet_type_K t) (meet_type_at t) meet-type.Post meet_type-invariant-loop-i meet_type-decreases-loop-i
 meet_type-overflow_add-i t c = search rules
@@ -471,22 +471,22 @@ meet_type-loop-i-smaller t c = search rules
 
 meet_type-loop-i-preserved : (t : ℕ) → meet_type_lts.Need-loop-i-preserved (meet_type_K t) (meet_type_at t) meet-type.Post meet_type-invariant-loop-i meet_type-decreases-loop-i
 meet_type-loop-i-preserved t c =
-    let l = c.before.before.before.before.before.before.before.before.before.before.before.before.before.before.before.loop-i.invariant in
-    let i = c.before.before.before.before.before.before.before.before.before.before.before.before.before.before.loop-i-test.true in
-    let G = tuple_turn _ _ _ _ _ _ c.before.before.before.before.before.before.before.before.before.before.before.before.before.before.before.loop-i.new _ _ _ l.9 i _ _ c.before.before.before.before.before.before.before.before.before.before.before.before.word10.ensures c.before.before.before.before.before.before.before.before.before.before.word11.ensures c.before.before.before.before.before.before.before.meet-type2.ensures.0 _ _ c.before.m3.given.1 (omega (arith, l.1, l.2, i)) in
-    (search rules, l.1, simp length-set l.2, grew_long G.turn.grew, grew_high G.turn.grew, grew_up G.turn.grew, l.6, l.7, l.8, G, c.before.before.before.before.before.before.before.meet-type2.ensures.1.after.is _ _ c.before.m3.given.1, omega (arith, l.11, c.before.before.before.before.before.before.before.meet-type2.auto.1))
+    let l = c.loop-i.invariant in
+    let i = c.loop-i-test.true in
+    let G = tuple_turn _ _ _ _ _ _ c.loop-i.new _ _ _ l.9 i _ _ c.word-x-in-loop-i.ensures c.word-y-in-loop-i.ensures c.meet_type-m-in-loop-i.ensures.0 _ _ c.in-At-m-2.is (omega (arith, l.1, l.2, i)) in
+    (search rules, l.1, simp length-set l.2, grew_long G.turn.grew, grew_high G.turn.grew, grew_up G.turn.grew, l.6, l.7, l.8, G, c.meet_type-m-in-loop-i.ensures.1.after.is _ _ c.in-At-m-2.is, omega (arith, l.11, c.meet_type-m-in-loop-i.auto))
 
 meet_type-slice_bounds-parts-end : (t : ℕ) → meet_type_lts.Need-slice_bounds-parts-end (meet_type_K t) (meet_type_at t) meet-type.Post meet_type-invariant-loop-i meet_type-decreases-loop-i
 meet_type-slice_bounds-parts-end t c = search rules
 
 meet_type-slice_bounds-tuple_of-end : (t : ℕ) → meet_type_lts.Need-slice_bounds-tuple_of-end (meet_type_K t) (meet_type_at t) meet-type.Post meet_type-invariant-loop-i meet_type-decreases-loop-i
-meet_type-slice_bounds-tuple_of-end t c = sym (length-take-le _ c.before.before.before.loop-i.parts (omega arith))
+meet_type-slice_bounds-tuple_of-end t c = sym (length-take-le _ c.loop-i.parts (omega arith))
 
 meet_type-tuple_of-tuple-requires : (t : ℕ) → meet_type_lts.Need-tuple_of-tuple-requires (meet_type_K t) (meet_type_at t) meet-type.Post meet_type-invariant-loop-i meet_type-decreases-loop-i
 meet_type-tuple_of-tuple-requires t c κs =
-    let l = c.before.before.before.loop-i.invariant in
-    let n = length-take-le (c.before.before.before.before.word9.result / 65536) c.before.before.before.loop-i.parts (omega (arith, l.1, l.2)) in
-    (going_segments l.9, (omega (arith, n, l.1), grew_covers l.9.turn.grew c.before.before.before.before.before.before.before.before.before.before.before.before.before.before.before.before.before.before.before.requires.1.1.1))
+    let l = c.loop-i.invariant in
+    let n = length-take-le (c.word-in-Tuples.result / 65536) c.loop-i.parts (omega (arith, l.1, l.2)) in
+    (going_segments l.9, (omega (arith, n, l.1), grew_covers l.9.turn.grew c.requires.1.1.1))
 
 meet_type-noted-requires-in-Tuples : (t : ℕ) → meet_type_lts.Need-noted-requires-in-Tuples (meet_type_K t) (meet_type_at t) meet-type.Post meet_type-invariant-loop-i meet_type-decreases-loop-i
 meet_type-noted-requires-in-Tuples t c κs = search rules
@@ -498,7 +498,7 @@ meet_type-shape_of-memo-in-First : (t : ℕ) → meet_type_lts.Need-shape_of-mem
 meet_type-shape_of-memo-in-First t c = search rules
 
 meet_type-returns-in-First : (t : ℕ) → meet_type_lts.Need-returns-in-First (meet_type_K t) (meet_type_at t) meet-type.Post meet_type-invariant-loop-i meet_type-decreases-loop-i
-meet_type-returns-in-First t c = (met_first _ _ _ _ _ c.before.before.before.before.before.before.before.before.before.before.before.before.before.requires.1.0 _ c.before.before.before.before.before.before.before.type-rule.ensures c.enum_told-in-Latter-1.given.1, remembered_same c.before.before.before.before.before.before.before.before.before.before.before.before.before.requires.1.1.0)
+meet_type-returns-in-First t c = (met_first _ _ _ _ _ c.requires.1.0 _ c.type_rule-rule.ensures c.in-First.is, remembered_same c.requires.1.1.0)
 
 meet_type-shape_of-new-in-Second : (t : ℕ) → meet_type_lts.Need-shape_of-new-in-Second (meet_type_K t) (meet_type_at t) meet-type.Post meet_type-invariant-loop-i meet_type-decreases-loop-i
 meet_type-shape_of-new-in-Second t c = search rules
@@ -507,7 +507,7 @@ meet_type-shape_of-memo-in-Second : (t : ℕ) → meet_type_lts.Need-shape_of-me
 meet_type-shape_of-memo-in-Second t c = search rules
 
 meet_type-returns-in-Second : (t : ℕ) → meet_type_lts.Need-returns-in-Second (meet_type_K t) (meet_type_at t) meet-type.Post meet_type-invariant-loop-i meet_type-decreases-loop-i
-meet_type-returns-in-Second t c = (met_second _ _ _ _ _ c.before.before.before.before.before.before.before.before.before.before.before.before.before.requires.1.0 _ c.before.before.before.before.before.before.before.type-rule.ensures c.enum_told-in-Lowest-1.given.1, remembered_same c.before.before.before.before.before.before.before.before.before.before.before.before.before.requires.1.1.0)
+meet_type-returns-in-Second t c = (met_second _ _ _ _ _ c.requires.1.0 _ c.type_rule-rule.ensures c.in-Second.is, remembered_same c.requires.1.1.0)
 
 meet_type-shape_of-new-in-Bottom : (t : ℕ) → meet_type_lts.Need-shape_of-new-in-Bottom (meet_type_K t) (meet_type_at t) meet-type.Post meet_type-invariant-loop-i meet_type-decreases-loop-i
 meet_type-shape_of-new-in-Bottom t c = search rules
@@ -516,7 +516,7 @@ meet_type-shape_of-memo-in-Bottom : (t : ℕ) → meet_type_lts.Need-shape_of-me
 meet_type-shape_of-memo-in-Bottom t c = search rules
 
 meet_type-returns-in-Bottom : (t : ℕ) → meet_type_lts.Need-returns-in-Bottom (meet_type_K t) (meet_type_at t) meet-type.Post meet_type-invariant-loop-i meet_type-decreases-loop-i
-meet_type-returns-in-Bottom t c = (met_bottom _ _ _ _ _ c.before.before.before.before.before.before.before.before.before.before.before.before.before.requires.1.0 _ c.before.before.before.before.before.before.before.type-rule.ensures c.enum_told-in-Fields-1.given.1, remembered_same c.before.before.before.before.before.before.before.before.before.before.before.before.before.requires.1.1.0)
+meet_type-returns-in-Bottom t c = (met_bottom _ _ _ _ _ c.requires.1.0 _ c.type_rule-rule.ensures c.in-Bottom.is, remembered_same c.requires.1.1.0)
 
 meet_type-shape_of-new-in-Ints : (t : ℕ) → meet_type_lts.Need-shape_of-new-in-Ints (meet_type_K t) (meet_type_at t) meet-type.Post meet_type-invariant-loop-i meet_type-decreases-loop-i
 meet_type-shape_of-new-in-Ints t c = search rules
@@ -525,7 +525,7 @@ meet_type-shape_of-memo-in-Ints : (t : ℕ) → meet_type_lts.Need-shape_of-memo
 meet_type-shape_of-memo-in-Ints t c = search rules
 
 meet_type-returns-in-Ints : (t : ℕ) → meet_type_lts.Need-returns-in-Ints (meet_type_K t) (meet_type_at t) meet-type.Post meet_type-invariant-loop-i meet_type-decreases-loop-i
-meet_type-returns-in-Ints t c = (met_ints _ _ _ _ _ c.before.before.before.before.before.before.before.before.before.before.before.before.before.before.before.before.before.requires.1.0 _ c.before.before.before.before.before.before.before.before.before.before.before.type-rule.ensures c.before.before.before.before.enum_told-in_default-1.given.1 _ _ c.before.before.meet-int.ensures, remembered_entry (ready_segments c.before.before.before.before.before.before.before.before.before.before.before.before.before.before.before.before.before.requires.1.0) c.before.before.before.before.before.before.before.before.before.before.before.before.before.before.before.before.before.requires.1.1.0 _ c.before.before.meet-int.ensures)
+meet_type-returns-in-Ints t c = (met_ints _ _ _ _ _ c.requires.1.0 _ c.type_rule-rule.ensures c.in-Ints.is _ _ c.meet_int.ensures, remembered_entry (ready_segments c.requires.1.0) c.requires.1.1.0 _ c.meet_int.ensures)
 
 meet_type-shape_of-new-in-Floats : (t : ℕ) → meet_type_lts.Need-shape_of-new-in-Floats (meet_type_K t) (meet_type_at t) meet-type.Post meet_type-invariant-loop-i meet_type-decreases-loop-i
 meet_type-shape_of-new-in-Floats t c = search rules
@@ -534,7 +534,7 @@ meet_type-shape_of-memo-in-Floats : (t : ℕ) → meet_type_lts.Need-shape_of-me
 meet_type-shape_of-memo-in-Floats t c = search rules
 
 meet_type-returns-in-Floats : (t : ℕ) → meet_type_lts.Need-returns-in-Floats (meet_type_K t) (meet_type_at t) meet-type.Post meet_type-invariant-loop-i meet_type-decreases-loop-i
-meet_type-returns-in-Floats t c = (met_floats _ _ _ _ _ c.before.before.before.before.before.before.before.before.before.before.before.before.before.before.before.requires.1.0 _ c.before.before.before.before.before.before.before.before.before.type-rule.ensures c.before.before.enum_told-in-Full-1.given.1 _ c.meet-float.ensures, remembered_same c.before.before.before.before.before.before.before.before.before.before.before.before.before.before.before.requires.1.1.0)
+meet_type-returns-in-Floats t c = (met_floats _ _ _ _ _ c.requires.1.0 _ c.type_rule-rule.ensures c.in-Floats.is _ c.meet_float.ensures, remembered_same c.requires.1.1.0)
 
 meet_type-shape_of-new-in-Structs : (t : ℕ) → meet_type_lts.Need-shape_of-new-in-Structs (meet_type_K t) (meet_type_at t) meet-type.Post meet_type-invariant-loop-i meet_type-decreases-loop-i
 meet_type-shape_of-new-in-Structs t c = search rules
@@ -543,7 +543,7 @@ meet_type-shape_of-memo-in-Structs : (t : ℕ) → meet_type_lts.Need-shape_of-m
 meet_type-shape_of-memo-in-Structs t c = search rules
 
 meet_type-returns-in-Structs : (t : ℕ) → meet_type_lts.Need-returns-in-Structs (meet_type_K t) (meet_type_at t) meet-type.Post meet_type-invariant-loop-i meet_type-decreases-loop-i
-meet_type-returns-in-Structs t c = (met_structs _ _ _ _ _ c.before.before.before.before.before.before.before.before.before.before.before.before.before.before.before.before.before.before.before.before.requires.1.0 _ c.before.before.before.before.before.before.before.before.before.before.before.before.before.before.type-rule.ensures c.before.before.before.before.before.before.before.enum-told7.given.1 _ _ c.before.before.before.before.meet-struct.ensures.0, c.before.before.before.before.meet-struct.ensures.1)
+meet_type-returns-in-Structs t c = (met_structs _ _ _ _ _ c.requires.1.0 _ c.type_rule-rule.ensures c.in-Structs.is _ _ c.meet_struct.ensures.0, c.meet_struct.ensures.1)
 
 meet_type-shape_of-new-in-At : (t : ℕ) → meet_type_lts.Need-shape_of-new-in-At (meet_type_K t) (meet_type_at t) meet-type.Post meet_type-invariant-loop-i meet_type-decreases-loop-i
 meet_type-shape_of-new-in-At t c = search rules
@@ -553,9 +553,9 @@ meet_type-shape_of-memo-in-At t c = search rules
 
 meet_type-returns-in-At : (t : ℕ) → meet_type_lts.Need-returns-in-At (meet_type_K t) (meet_type_at t) meet-type.Post meet_type-invariant-loop-i meet_type-decreases-loop-i
 meet_type-returns-in-At t c =
-    let t = met_pointers _ _ _ _ _ c.before.before.before.before.before.before.before.before.before.before.before.before.before.before.before.before.before.before.before.before.before.before.before.before.before.before.before.before.before.before.before.before.before.before.before.before.before.before.before.before.requires.1.0 _ c.before.before.before.before.before.before.before.before.before.before.before.before.before.before.before.before.before.before.before.before.before.before.before.before.before.before.before.before.before.before.before.before.before.before.type-rule.ensures c.before.before.before.before.before.before.before.before.before.before.before.before.before.before.before.before.before.before.before.before.before.before.before.before.before.before.before.enum-told8.given.1 _ _ c.before.before.before.before.before.before.before.before.before.before.before.before.before.before.before.before.before.before.before.before.before.before.before.before.before.word.ensures c.before.before.before.before.before.before.before.before.before.before.before.before.before.before.before.before.before.before.before.before.before.before.before.word-x.ensures _ _ c.before.before.before.before.before.before.before.before.before.before.before.before.before.before.before.meet-struct2.ensures.0 _ _ c.before.before.before.before.before.before.before.before.before.m-1.given.1 _ _ _ c.before.before.before.before.before.before.before.before.before.before.before.before.before.before.before.before.before.before.before.before.before.word-y.ensures c.before.before.before.before.before.before.before.before.before.before.before.before.before.before.before.before.before.before.before.word4.ensures c.before.before.before.before.before.before.before.before.before.before.before.before.before.before.before.before.before.before.larger.ensures _ _ c.before.before.before.before.before.before.pointer.ensures in
-    let m = remembered_pointer (pointer_segments _ _ _ _ _ c.before.before.before.before.before.before.before.before.before.before.before.before.before.before.before.before.before.before.before.before.before.before.before.before.before.before.before.before.before.before.before.before.before.before.before.before.before.before.before.before.requires.1.0 _ c.before.before.before.before.before.before.before.before.before.before.before.before.before.before.before.before.before.before.before.before.before.before.before.before.before.before.before.before.before.before.before.before.before.before.type-rule.ensures c.before.before.before.before.before.before.before.before.before.before.before.before.before.before.before.before.before.before.before.before.before.before.before.before.before.before.before.enum-told8.given.1 _ _ c.before.before.before.before.before.before.before.before.before.before.before.before.before.before.before.before.before.before.before.before.before.before.before.before.before.word.ensures c.before.before.before.before.before.before.before.before.before.before.before.before.before.before.before.before.before.before.before.before.before.before.before.word-x.ensures _ _ c.before.before.before.before.before.before.before.before.before.before.before.before.before.before.before.meet-struct2.ensures.0 _ _ c.before.before.before.before.before.before.before.before.before.m-1.given.1) (c.before.before.before.before.before.before.before.before.before.before.before.before.before.before.before.meet-struct2.ensures.1.after.is _ _ c.before.before.before.before.before.before.before.before.before.m-1.given.1) _ _ c.before.before.before.before.before.before.pointer.ensures in
-    met_noted c.before.before.before.before.before.before.before.before.before.before.before.before.before.before.before.before.before.before.before.before.before.before.before.before.before.before.before.before.before.before.before.before.before.before.before.before.before.before.before.before.requires.1.0 _ c.before.before.before.before.before.before.before.before.before.before.before.before.before.before.before.before.before.before.before.before.before.before.before.before.before.before.before.before.before.before.before.before.before.meet-key.ensures t m c.before.before.noted.ensures.0 c.before.before.noted.ensures.1
+    let t = met_pointers _ _ _ _ _ c.requires.1.0 _ c.type_rule-rule.ensures c.in-Pointers.is _ _ c.word-x.ensures c.word-y.ensures _ _ c.meet_struct-m.ensures.0 _ _ c.in-At.is _ _ _ c.word.ensures c.word-in-Pointers.ensures c.larger-nil.ensures _ _ c.pointer-pointer.ensures in
+    let m = remembered_pointer (pointer_segments _ _ _ _ _ c.requires.1.0 _ c.type_rule-rule.ensures c.in-Pointers.is _ _ c.word-x.ensures c.word-y.ensures _ _ c.meet_struct-m.ensures.0 _ _ c.in-At.is) (c.meet_struct-m.ensures.1.after.is _ _ c.in-At.is) _ _ c.pointer-pointer.ensures in
+    met_noted c.requires.1.0 _ c.meet_key-key.ensures t m c.noted.ensures.0 c.noted.ensures.1
 
 meet_type-shape_of-new-in-Full : (t : ℕ) → meet_type_lts.Need-shape_of-new-in-Full (meet_type_K t) (meet_type_at t) meet-type.Post meet_type-invariant-loop-i meet_type-decreases-loop-i
 meet_type-shape_of-new-in-Full t c = search rules
@@ -564,7 +564,7 @@ meet_type-shape_of-memo-in-Full : (t : ℕ) → meet_type_lts.Need-shape_of-memo
 meet_type-shape_of-memo-in-Full t c = search rules
 
 meet_type-returns-in-Full : (t : ℕ) → meet_type_lts.Need-returns-in-Full (meet_type_K t) (meet_type_at t) meet-type.Post meet_type-invariant-loop-i meet_type-decreases-loop-i
-meet_type-returns-in-Full t c = (pointer_full _ _ _ _ _ c.before.before.before.before.before.before.before.before.before.before.before.before.before.before.before.before.before.before.before.before.before.before.before.before.before.before.before.before.before.before.before.requires.1.0 _ c.before.before.before.before.before.before.before.before.before.before.before.before.before.before.before.before.before.before.before.before.before.before.before.before.before.type-rule.ensures c.before.before.before.before.before.before.before.before.before.before.before.before.before.before.before.before.before.before.enum-told8.given.1 _ _ c.before.before.before.before.before.before.before.before.before.before.before.before.before.before.before.before.word.ensures c.before.before.before.before.before.before.before.before.before.before.before.before.before.before.word-x.ensures _ _ c.before.before.before.before.before.before.meet-struct2.ensures.0 c.enum-told9.given.1, remembered_full c.enum-told9.given.1 c.before.before.before.before.before.before.meet-struct2.ensures.1)
+meet_type-returns-in-Full t c = (pointer_full _ _ _ _ _ c.requires.1.0 _ c.type_rule-rule.ensures c.in-Pointers.is _ _ c.word-x.ensures c.word-y.ensures _ _ c.meet_struct-m.ensures.0 c.in-Full.is, remembered_full c.in-Full.is c.meet_struct-m.ensures.1)
 
 meet_type-shape_of-new-in-At-m : (t : ℕ) → meet_type_lts.Need-shape_of-new-in-At-m (meet_type_K t) (meet_type_at t) meet-type.Post meet_type-invariant-loop-i meet_type-decreases-loop-i
 meet_type-shape_of-new-in-At-m t c = search rules
@@ -574,9 +574,9 @@ meet_type-shape_of-memo-in-At-m t c = search rules
 
 meet_type-returns-in-At-m : (t : ℕ) → meet_type_lts.Need-returns-in-At-m (meet_type_K t) (meet_type_at t) meet-type.Post meet_type-invariant-loop-i meet_type-decreases-loop-i
 meet_type-returns-in-At-m t c =
-    let t = met_memories _ _ _ _ _ c.before.before.before.before.before.before.before.before.before.before.before.before.before.before.before.before.before.before.before.before.before.before.before.before.before.before.before.before.before.before.before.before.before.before.before.before.before.before.before.before.requires.1.0 _ c.before.before.before.before.before.before.before.before.before.before.before.before.before.before.before.before.before.before.before.before.before.before.before.before.before.before.before.before.before.before.before.before.before.before.type-rule.ensures c.before.before.before.before.before.before.before.before.before.before.before.before.before.before.before.before.before.before.before.before.before.before.before.before.before.before.before.enum-told10.given.1 _ _ c.before.before.before.before.before.before.before.before.before.before.before.before.before.before.before.before.before.before.before.before.word7.ensures c.before.before.before.before.before.before.before.before.before.before.before.before.before.before.before.before.before.before.word8.ensures _ _ c.before.before.before.before.before.before.before.before.before.before.before.before.before.before.before.meet_type-m.ensures.0 _ _ c.before.before.before.before.before.before.before.before.before.m2.given.1 _ _ _ c.before.before.before.before.before.before.before.before.before.before.before.before.before.before.before.before.before.before.before.before.before.before.before.before.before.word5.ensures c.before.before.before.before.before.before.before.before.before.before.before.before.before.before.before.before.before.before.before.before.before.before.before.word6.ensures c.before.before.before.before.before.before.before.before.before.before.before.before.before.before.before.before.before.before.before.before.before.before.shared-alias.ensures _ _ c.before.before.before.before.before.before.memory.ensures in
-    let m = remembered_memory (memory_segments _ _ _ _ _ c.before.before.before.before.before.before.before.before.before.before.before.before.before.before.before.before.before.before.before.before.before.before.before.before.before.before.before.before.before.before.before.before.before.before.before.before.before.before.before.before.requires.1.0 _ c.before.before.before.before.before.before.before.before.before.before.before.before.before.before.before.before.before.before.before.before.before.before.before.before.before.before.before.before.before.before.before.before.before.before.type-rule.ensures c.before.before.before.before.before.before.before.before.before.before.before.before.before.before.before.before.before.before.before.before.before.before.before.before.before.before.before.enum-told10.given.1 _ _ c.before.before.before.before.before.before.before.before.before.before.before.before.before.before.before.before.before.before.before.before.word7.ensures c.before.before.before.before.before.before.before.before.before.before.before.before.before.before.before.before.before.before.word8.ensures _ _ c.before.before.before.before.before.before.before.before.before.before.before.before.before.before.before.meet_type-m.ensures.0 _ _ c.before.before.before.before.before.before.before.before.before.m2.given.1) (c.before.before.before.before.before.before.before.before.before.before.before.before.before.before.before.meet_type-m.ensures.1.after.is _ _ c.before.before.before.before.before.before.before.before.before.m2.given.1) _ _ c.before.before.before.before.before.before.memory.ensures in
-    met_noted c.before.before.before.before.before.before.before.before.before.before.before.before.before.before.before.before.before.before.before.before.before.before.before.before.before.before.before.before.before.before.before.before.before.before.before.before.before.before.before.before.requires.1.0 _ c.before.before.before.before.before.before.before.before.before.before.before.before.before.before.before.before.before.before.before.before.before.before.before.before.before.before.before.before.before.before.before.before.before.meet-key.ensures t m c.before.before.noted2.ensures.0 c.before.before.noted2.ensures.1
+    let t = met_memories _ _ _ _ _ c.requires.1.0 _ c.type_rule-rule.ensures c.in-Memories.is _ _ c.word-x-in-Memories.ensures c.word-y-in-Memories.ensures _ _ c.meet_type-m.ensures.0 _ _ c.in-At-m.is _ _ _ c.word-in-Memories.ensures c.word-in-Memories-2.ensures c.shared_alias-alias.ensures _ _ c.memory-memory.ensures in
+    let m = remembered_memory (memory_segments _ _ _ _ _ c.requires.1.0 _ c.type_rule-rule.ensures c.in-Memories.is _ _ c.word-x-in-Memories.ensures c.word-y-in-Memories.ensures _ _ c.meet_type-m.ensures.0 _ _ c.in-At-m.is) (c.meet_type-m.ensures.1.after.is _ _ c.in-At-m.is) _ _ c.memory-memory.ensures in
+    met_noted c.requires.1.0 _ c.meet_key-key.ensures t m c.noted-in-At-m.ensures.0 c.noted-in-At-m.ensures.1
 
 meet_type-shape_of-new-in-Full-m : (t : ℕ) → meet_type_lts.Need-shape_of-new-in-Full-m (meet_type_K t) (meet_type_at t) meet-type.Post meet_type-invariant-loop-i meet_type-decreases-loop-i
 meet_type-shape_of-new-in-Full-m t c = search rules
@@ -585,7 +585,7 @@ meet_type-shape_of-memo-in-Full-m : (t : ℕ) → meet_type_lts.Need-shape_of-me
 meet_type-shape_of-memo-in-Full-m t c = search rules
 
 meet_type-returns-in-Full-m : (t : ℕ) → meet_type_lts.Need-returns-in-Full-m (meet_type_K t) (meet_type_at t) meet-type.Post meet_type-invariant-loop-i meet_type-decreases-loop-i
-meet_type-returns-in-Full-m t c = (memory_full _ _ _ _ _ c.before.before.before.before.before.before.before.before.before.before.before.before.before.before.before.before.before.before.before.before.before.before.before.before.before.before.before.before.before.before.before.requires.1.0 _ c.before.before.before.before.before.before.before.before.before.before.before.before.before.before.before.before.before.before.before.before.before.before.before.before.before.type-rule.ensures c.before.before.before.before.before.before.before.before.before.before.before.before.before.before.before.before.before.before.enum-told10.given.1 _ _ c.before.before.before.before.before.before.before.before.before.before.before.word7.ensures c.before.before.before.before.before.before.before.before.before.word8.ensures _ _ c.before.before.before.before.before.before.meet_type-m.ensures.0 c.enum-told11.given.1, remembered_full c.enum-told11.given.1 c.before.before.before.before.before.before.meet_type-m.ensures.1)
+meet_type-returns-in-Full-m t c = (memory_full _ _ _ _ _ c.requires.1.0 _ c.type_rule-rule.ensures c.in-Memories.is _ _ c.word-x-in-Memories.ensures c.word-y-in-Memories.ensures _ _ c.meet_type-m.ensures.0 c.in-Full-m.is, remembered_full c.in-Full-m.is c.meet_type-m.ensures.1)
 
 meet_type-shape_of-new-after-loop-i : (t : ℕ) → meet_type_lts.Need-shape_of-new-after-loop-i (meet_type_K t) (meet_type_at t) meet-type.Post meet_type-invariant-loop-i meet_type-decreases-loop-i
 meet_type-shape_of-new-after-loop-i t c = search rules
@@ -595,9 +595,9 @@ meet_type-shape_of-memo-after-loop-i t c = search rules
 
 meet_type-returns-after-loop-i : (t : ℕ) → meet_type_lts.Need-returns-after-loop-i (meet_type_K t) (meet_type_at t) meet-type.Post meet_type-invariant-loop-i meet_type-decreases-loop-i
 meet_type-returns-after-loop-i t c =
-    let t = tuple_end _ _ _ _ _ c.before.before.before.before.before.before.before.before.before.before.before.before.before.before.before.before.before.before.before.before.before.before.before.before.before.before.requires.1.0 _ c.before.before.before.before.before.before.before.before.before.before.before.before.before.before.before.before.before.before.before.before.type-rule.ensures c.before.before.before.before.before.before.before.before.before.before.before.before.before.enum-told12.given.1 _ c.before.before.before.before.before.before.before.before.before.before.before.word9.ensures _ _ _ _ c.before.before.before.before.before.before.before.before.before.before.loop-i.invariant.9 (omega arith) c.before.before.before.before.before.before.before.before.before.before.loop-i.invariant.0 _ _ c.before.before.before.before.before.before.tuple-of.ensures in
-    let m = remembered_entry (going_segments c.before.before.before.before.before.before.before.before.before.before.loop-i.invariant.9) c.before.before.before.before.before.before.before.before.before.before.loop-i.invariant.10 _ c.before.before.before.before.before.before.tuple-of.ensures in
-    met_noted c.before.before.before.before.before.before.before.before.before.before.before.before.before.before.before.before.before.before.before.before.before.before.before.before.before.before.requires.1.0 _ c.before.before.before.before.before.before.before.before.before.before.before.before.before.before.before.before.before.before.before.meet-key.ensures t m c.before.before.noted3.ensures.0 c.before.before.noted3.ensures.1
+    let t = tuple_end _ _ _ _ _ c.requires.1.0 _ c.type_rule-rule.ensures c.in-Tuples.is _ c.word-in-Tuples.ensures _ _ _ _ c.loop-i.invariant.9 (omega arith) c.loop-i.invariant.0 _ _ c.tuple_of-tuple.ensures in
+    let m = remembered_entry (going_segments c.loop-i.invariant.9) c.loop-i.invariant.10 _ c.tuple_of-tuple.ensures in
+    met_noted c.requires.1.0 _ c.meet_key-key.ensures t m c.noted-in-Tuples.ensures.0 c.noted-in-Tuples.ensures.1
 
 pub +meet_struct_meet_type_spec : {M : Type 1} → statement M
 +meet_struct_meet_type_spec = close μ_meet_struct μ_meet_type (λ t. meet_struct_lts.spec (meet_struct_K t)
