@@ -61,6 +61,14 @@ class Function:
             yield place
             place = self.parent.get(place)
 
+    def plain(self, field):
+        """A step's name where another script gave it an ending or a capital."""
+        if norm(field) not in self.any and field.endswith("_is") and norm(field[:-3]) in self.any:
+            return field[:-3]
+        if norm(field) not in self.any and norm(field).lower() in self.any and "-" in field:
+            return norm(field).lower()
+        return field
+
     def by_name(self, step, fields):
         """The fields behind a step, where a number stood for a reference that was passed."""
         refs = self.callee.get(step)
@@ -71,6 +79,8 @@ class Function:
             if k < len(fields) and fields[k] == "0" and k - 1 < len(refs):
                 return [WORDS.get(fields[0], fields[0]), refs[k - 1]] + fields[k + 1 :]
             if k == len(fields):
+                return [WORDS.get(fields[0], fields[0])]
+            if all(f == "1" for f in fields[1:]):
                 return [WORDS.get(fields[0], fields[0])]
         return fields
 
@@ -88,6 +98,7 @@ class Function:
 
     def path(self, place, fields):
         """The new path for the old one, behind a variable at the place; or None. And the place that a bare path leads to."""
+        fields = [self.plain(f) for f in fields]
         changed, at = self.raw_path(place, fields)
         if changed and at is None:
             changed = changed[:1] + self.by_name(changed[0], changed[1:])
