@@ -6,75 +6,75 @@ use borrow.Author.Rules.{rules}
 use Rattle.join.proofs.dual_of_meet.Statement.{statement}
 use Rattle.join.proofs.dual_of_meet.Tie as tie
 
-mul-meet-type : tie.Need-overflow-mul-meet-type
-mul-meet-type c = search rules
+overflow_mul-k : tie.Need-overflow_mul-k
+overflow_mul-k c = search rules
 
-mul-meet-type-2 : tie.Need-overflow-mul-meet-type-2
-mul-meet-type-2 c = search rules
+offset_bounds-memory-k : tie.Need-offset_bounds-memory-k
+offset_bounds-memory-k c = search rules
 
-sub-meet-type : tie.Need-overflow-sub-meet-type
-sub-meet-type c = search rules
+slice_bounds-meet_type-count : tie.Need-slice_bounds-meet_type-count
+slice_bounds-meet_type-count c = search rules
 
-part-meet-type-start : tie.Need-slice-bounds-meet-type-start
-part-meet-type-start c = search rules
+slice_bounds-meet_type-start : tie.Need-slice_bounds-meet_type-start
+slice_bounds-meet_type-start c = search rules
 
-part-meet-type-end : tie.Need-slice-bounds-meet-type-end
-part-meet-type-end c = search rules
+slice_bounds-meet_type-end : tie.Need-slice_bounds-meet_type-end
+slice_bounds-meet_type-end c = search rules
 
-meet-type-requires : tie.Need-meet-type-requires
-meet-type-requires c κs = (c.before.before.before.before.before.before.requires.0, (lent_meets _ _ refl c.before.before.before.before.before.before.requires.1.0, c.before.before.before.before.before.before.requires.1.1))
+meet_type-m-requires : tie.Need-meet_type-m-requires
+meet_type-m-requires c κs = (c.requires.0, (lent_meets _ _ refl c.requires.1.0, c.requires.1.1))
 
-enum-known-m : tie.Need-enum-known-m
-enum-known-m c = search rules
+enum_known-m : tie.Need-enum_known-m
+enum_known-m c = search rules
 
-slice-relend-prefix-walk-type : tie.Need-slice-relend-prefix-walk-type
-slice-relend-prefix-walk-type c = search rules
+slice_bounds-walk_type-end : tie.Need-slice_bounds-walk_type-end
+slice_bounds-walk_type-end c = search rules
 
-slice-aggregate-walk-type : tie.Need-slice-aggregate-walk-type
-slice-aggregate-walk-type c = meet_long c.before.before.before.before.before.before.before.before.before.before.before.before.before.before.before.before.args.memory.now c.before.before.before.before.before.before.before.before.before.meet-type.new.1.1.1.1.1.0 c.before.before.before.before.before.before.before.before.before.meet-type.auto.1.1.1.1.1.0
+slice_bounds-walk_type-end-in-At : tie.Need-slice_bounds-walk_type-end-in-At
+slice_bounds-walk_type-end-in-At c = meet_long c.args.memory.now c.meet_type-m.new.memo c.meet_type-m.auto.memo
 
-walk-type-requires : tie.Need-walk-type-requires
-walk-type-requires c κs = (meet_ready _ _ _ _ _ c.before.before.before.before.before.before.before.before.before.before.before.before.before.before.before.before.requires.0 _ _ c.before.before.before.before.before.before.before.before.before.meet-type.ensures.0 _ _ c.before.before.before.m.given.1, (meet_remembers _ _ _ _ _ c.before.before.before.before.before.before.before.before.before.before.before.before.before.before.before.before.requires.0 _ _ c.before.before.before.before.before.before.before.before.before.meet-type.ensures.0 _ _ c.before.before.before.m.given.1 c.before.before.before.before.before.before.before.before.before.before.before.before.before.before.before.before.requires.1.0 c.before.before.before.before.before.before.before.before.before.meet-type.auto.1.1.1.1.1.0 c.before.before.before.before.before.before.before.before.before.meet-type.ensures.1, meet_covers _ _ _ _ _ c.before.before.before.before.before.before.before.before.before.before.before.before.before.before.before.before.requires.0 _ _ c.before.before.before.before.before.before.before.before.before.meet-type.ensures.0 _ _ c.before.before.before.m.given.1 c.before.before.before.before.before.before.before.before.before.before.before.before.before.before.before.before.requires.1.1))
+walk_type-requires : tie.Need-walk_type-requires
+walk_type-requires c κs = (meet_ready _ _ _ _ _ c.requires.0 _ _ c.meet_type-m.ensures.0 _ _ c.in-At.is, (meet_remembers _ _ _ _ _ c.requires.0 _ _ c.meet_type-m.ensures.0 _ _ c.in-At.is c.requires.1.0 c.meet_type-m.auto.memo c.meet_type-m.ensures.1, meet_covers _ _ _ _ _ c.requires.0 _ _ c.meet_type-m.ensures.0 _ _ c.in-At.is c.requires.1.1))
 
-enum_told : tie.Need-enum-told
-enum_told c = search rules
+enum_told-1 : tie.Need-enum_told-1
+enum_told-1 c = search rules
 
-same_length : tie.Need-same-length
-same_length c = search rules
+shape_of-new-in-At : tie.Need-shape_of-new-in-At
+shape_of-new-in-At c = search rules
 
-same-length-2 : tie.Need-same-length-2
-same-length-2 c = search rules
+shape_of-memory-in-At : tie.Need-shape_of-memory-in-At
+shape_of-memory-in-At c = search rules
 
-returns : tie.Need-returns
-returns c = (meet_dualled _ _ _ _ _ c.before.before.before.before.before.before.before.before.before.before.before.before.before.before.before.before.before.before.before.before.before.requires.0 _ _ c.before.before.before.before.before.before.before.before.before.before.before.before.before.before.meet-type.ensures.0 _ _ c.before.before.before.before.before.before.before.before.m.given.1 _ _ c.before.before.before.before.walk-type.ensures.0, meet_remembered _ _ _ _ _ c.before.before.before.before.before.before.before.before.before.before.before.before.before.before.before.before.before.before.before.before.before.requires.0 _ _ c.before.before.before.before.before.before.before.before.before.before.before.before.before.before.meet-type.ensures.0 _ _ c.before.before.before.before.before.before.before.before.m.given.1 c.before.before.before.before.before.before.before.before.before.before.before.before.before.before.before.before.before.before.before.before.before.requires.1.0 c.before.before.before.before.before.before.before.before.before.before.before.before.before.before.meet-type.auto.1.1.1.1.1.0 c.before.before.before.before.before.before.before.before.before.before.before.before.before.before.meet-type.ensures.1 c.before.before.before.before.walk-type.auto.1.1.1.1.1.0 c.before.before.before.before.walk-type.ensures.0 c.before.before.before.before.walk-type.ensures.1)
+returns-in-At : tie.Need-returns-in-At
+returns-in-At c = (meet_dualled _ _ _ _ _ c.requires.0 _ _ c.meet_type-m.ensures.0 _ _ c.in-At.is _ _ c.walk_type.ensures.0, meet_remembered _ _ _ _ _ c.requires.0 _ _ c.meet_type-m.ensures.0 _ _ c.in-At.is c.requires.1.0 c.meet_type-m.auto.memo c.meet_type-m.ensures.1 c.walk_type.auto.memo c.walk_type.ensures.0 c.walk_type.ensures.1)
 
-same-length-3 : tie.Need-same-length-3
-same-length-3 c = search rules
+shape_of-new-in-Full : tie.Need-shape_of-new-in-Full
+shape_of-new-in-Full c = search rules
 
-same-length-4 : tie.Need-same-length-4
-same-length-4 c = search rules
+shape_of-memory-in-Full : tie.Need-shape_of-memory-in-Full
+shape_of-memory-in-Full c = search rules
 
-returns-2 : tie.Need-returns-2
-returns-2 c = (meet_full _ _ _ _ _ c.before.before.before.before.before.before.before.before.before.before.before.before.before.requires.0 _ _ c.before.before.before.before.before.before.meet-type.ensures.0 c.enum_told.given.1, remembered_full)
+returns-in-Full : tie.Need-returns-in-Full
+returns-in-Full c = (meet_full _ _ _ _ _ c.requires.0 _ _ c.meet_type-m.ensures.0 c.in-Full.is, remembered_full)
 
-pub dual-of-meet-spec : {M : Type 1} → statement M
-dual-of-meet-spec =
+pub dual_of_meet_spec : {M : Type 1} → statement M
+dual_of_meet_spec =
     tie.close
     (tie.spec
-    mul-meet-type
-    mul-meet-type-2
-    sub-meet-type
-    part-meet-type-start
-    part-meet-type-end
-    meet-type-requires
-    enum-known-m
-    slice-relend-prefix-walk-type
-    slice-aggregate-walk-type
-    walk-type-requires
-    enum_told
-    same_length
-    same-length-2
-    returns
-    same-length-3
-    same-length-4
-    returns-2)
+    overflow_mul-k
+    offset_bounds-memory-k
+    slice_bounds-meet_type-count
+    slice_bounds-meet_type-start
+    slice_bounds-meet_type-end
+    meet_type-m-requires
+    enum_known-m
+    slice_bounds-walk_type-end
+    slice_bounds-walk_type-end-in-At
+    walk_type-requires
+    enum_told-1
+    shape_of-new-in-At
+    shape_of-memory-in-At
+    returns-in-At
+    shape_of-new-in-Full
+    shape_of-memory-in-Full
+    returns-in-Full)

@@ -6,55 +6,55 @@ use borrow.Author.Rules.{rules}
 use Rattle.join.proofs.join_with.Statement.{statement}
 use Rattle.join.proofs.join_with.Tie as tie
 
-slice-relend-prefix-walk-type : tie.Need-slice-relend-prefix-walk-type
-slice-relend-prefix-walk-type c = search rules
+slice_bounds-walk_type-end : tie.Need-slice_bounds-walk_type-end
+slice_bounds-walk_type-end c = search rules
 
-slice-aggregate-walk-type : tie.Need-slice-aggregate-walk-type
-slice-aggregate-walk-type c = duals_long c.before.before.before.before.before.before.args.memory.now _ refl
+slice_bounds-walk_type-end-2 : tie.Need-slice_bounds-walk_type-end-2
+slice_bounds-walk_type-end-2 c = duals_long c.args.memory.now _ refl
 
-walk-type-requires : tie.Need-walk-type-requires
-walk-type-requires c κs = search rules
+walk_type-m-requires : tie.Need-walk_type-m-requires
+walk_type-m-requires c κs = search rules
 
-enum-known-m : tie.Need-enum-known-m
-enum-known-m c = search rules
+enum_known-m : tie.Need-enum_known-m
+enum_known-m c = search rules
 
-dual-of-meet-requires : tie.Need-dual-of-meet-requires
-dual-of-meet-requires c κs = (with_ready _ _ _ _ _ c.before.before.before.before.before.before.before.before.before.before.before.before.before.before.before.before.requires.0 _ _ c.before.before.before.before.before.before.before.before.before.walk-type.ensures.0 _ _ c.before.before.before.m.given.1, (with_remembers _ _ _ _ _ c.before.before.before.before.before.before.before.before.before.before.before.before.before.before.before.before.requires.0 _ _ c.before.before.before.before.before.before.before.before.before.walk-type.ensures.0 _ _ c.before.before.before.m.given.1 c.before.before.before.before.before.before.before.before.before.before.before.before.before.before.before.before.requires.1.0 c.before.before.before.before.before.before.before.before.before.walk-type.auto.1.1.1.1.1.0 c.before.before.before.before.before.before.before.before.before.walk-type.ensures.1, with_covers _ _ _ _ _ c.before.before.before.before.before.before.before.before.before.before.before.before.before.before.before.before.requires.0 _ _ c.before.before.before.before.before.before.before.before.before.walk-type.ensures.0 _ _ c.before.before.before.m.given.1 c.before.before.before.before.before.before.before.before.before.before.before.before.before.before.before.before.requires.1.1))
+dual_of_meet-requires : tie.Need-dual_of_meet-requires
+dual_of_meet-requires c κs = (with_ready _ _ _ _ _ c.requires.0 _ _ c.walk_type-m.ensures.0 _ _ c.in-At.is, (with_remembers _ _ _ _ _ c.requires.0 _ _ c.walk_type-m.ensures.0 _ _ c.in-At.is c.requires.1.0 c.walk_type-m.auto.memo c.walk_type-m.ensures.1, with_covers _ _ _ _ _ c.requires.0 _ _ c.walk_type-m.ensures.0 _ _ c.in-At.is c.requires.1.1))
 
-enum_told : tie.Need-enum-told
-enum_told c = search rules
+enum_told-1 : tie.Need-enum_told-1
+enum_told-1 c = search rules
 
-same_length : tie.Need-same-length
-same_length c = search rules
+shape_of-new-in-At : tie.Need-shape_of-new-in-At
+shape_of-new-in-At c = search rules
 
-same-length-2 : tie.Need-same-length-2
-same-length-2 c = search rules
+shape_of-memory-in-At : tie.Need-shape_of-memory-in-At
+shape_of-memory-in-At c = search rules
 
-returns : tie.Need-returns
-returns c = (with_made _ _ _ _ _ c.before.before.before.before.before.before.before.before.before.before.before.before.before.before.before.before.before.before.before.before.before.requires.0 _ _ c.before.before.before.before.before.before.before.before.before.before.before.before.before.before.walk-type.ensures.0 _ _ c.before.before.before.before.before.before.before.before.m.given.1 _ _ c.before.before.before.before.dual-of-meet.ensures.0, c.before.before.before.before.dual-of-meet.ensures.1)
+returns-in-At : tie.Need-returns-in-At
+returns-in-At c = (with_made _ _ _ _ _ c.requires.0 _ _ c.walk_type-m.ensures.0 _ _ c.in-At.is _ _ c.dual_of_meet.ensures.0, c.dual_of_meet.ensures.1)
 
-same-length-3 : tie.Need-same-length-3
-same-length-3 c = search rules
+shape_of-new-in-Full : tie.Need-shape_of-new-in-Full
+shape_of-new-in-Full c = search rules
 
-same-length-4 : tie.Need-same-length-4
-same-length-4 c = search rules
+shape_of-memory-in-Full : tie.Need-shape_of-memory-in-Full
+shape_of-memory-in-Full c = search rules
 
-returns-2 : tie.Need-returns-2
-returns-2 c = (with_full _ _ _ _ _ c.before.before.before.before.before.before.before.before.before.before.before.before.before.requires.0 _ _ c.before.before.before.before.before.before.walk-type.ensures.0 c.enum_told.given.1, remembered_full)
+returns-in-Full : tie.Need-returns-in-Full
+returns-in-Full c = (with_full _ _ _ _ _ c.requires.0 _ _ c.walk_type-m.ensures.0 c.in-Full.is, remembered_full)
 
-pub join-with-spec : {M : Type 1} → statement M
-join-with-spec =
+pub join_with_spec : {M : Type 1} → statement M
+join_with_spec =
     tie.close
     (tie.spec
-    slice-relend-prefix-walk-type
-    slice-aggregate-walk-type
-    walk-type-requires
-    enum-known-m
-    dual-of-meet-requires
-    enum_told
-    same_length
-    same-length-2
-    returns
-    same-length-3
-    same-length-4
-    returns-2)
+    slice_bounds-walk_type-end
+    slice_bounds-walk_type-end-2
+    walk_type-m-requires
+    enum_known-m
+    dual_of_meet-requires
+    enum_told-1
+    shape_of-new-in-At
+    shape_of-memory-in-At
+    returns-in-At
+    shape_of-new-in-Full
+    shape_of-memory-in-Full
+    returns-in-Full)
