@@ -7,7 +7,7 @@ use borrow.Author.Rules.{rules}
 use Rattle.words.proofs.Zeros.{zeros}
 use Rattle.own_memory.proofs.sized.Reads as sized
 use Rattle.own_memory.proofs.sized.Kinds as sized-kinds
-use Rattle.own_memory.proofs.+sized.Lts-sized as sized-lts
+use Rattle.own_memory.proofs.+sized.Lts-sized as sized_lts
 use Rattle.own_memory.proofs.operate.Reads as operate-reads
 use Rattle.own_memory.proofs.up_to_2048.Reads as up-to-2048-reads
 use Rattle.own_memory.proofs.up_to_512.Reads as up-to-512-reads
@@ -16,120 +16,120 @@ use Rattle.own_memory.proofs.with_8192.Reads as with-8192-reads
 use Rattle.own_memory.proofs.+sized.{statement}
 use Rattle.own_memory.proofs.+sized.Tie.{close}
 
-abbrev μ-sized : Measures 4 sized-kinds.ps ℕ
-μ-sized κs a = a.1.1.1.1.1.0
+abbrev μ_sized : Measures 4 sized-kinds.ps ℕ
+μ_sized κs a = a.1.1.1.1.1.0
 
-abbrev sized-at : ℕ → In 4 sized-kinds.ps
-sized-at t = and 4 sized-kinds.ps (is 4 sized-kinds.ps μ-sized t) sized.Pre
+abbrev sized_at : ℕ → In 4 sized-kinds.ps
+sized_at t = and 4 sized-kinds.ps (is 4 sized-kinds.ps μ_sized t) sized.Pre
 
-abbrev sized-below : ℕ → In 4 sized-kinds.ps
-sized-below t = and 4 sized-kinds.ps (falls 4 sized-kinds.ps ◌<◌ μ-sized t) sized.Pre
+abbrev sized_below : ℕ → In 4 sized-kinds.ps
+sized_below t = and 4 sized-kinds.ps (falls 4 sized-kinds.ps ◌<◌ μ_sized t) sized.Pre
 
-abbrev sized-K : ℕ → sized-lts.Claims
-sized-K t = (operate-reads.Asked, operate-reads.Learnt, up-to-512-reads.Asked, up-to-512-reads.Learnt, up-to-2048-reads.Asked, up-to-2048-reads.Learnt, with-4096-reads.Asked, with-4096-reads.Learnt, with-8192-reads.Asked, with-8192-reads.Learnt, sized-below t, sized.Post)
+abbrev sized_K : ℕ → sized_lts.Claims
+sized_K t = (operate-reads.Asked, operate-reads.Learnt, up-to-512-reads.Asked, up-to-512-reads.Learnt, up-to-2048-reads.Asked, up-to-2048-reads.Learnt, with-4096-reads.Asked, with-4096-reads.Learnt, with-8192-reads.Asked, with-8192-reads.Learnt, sized_below t, sized.Post)
 
-sized-slice-aggregate-operate : (t : ℕ) → sized-lts.Need-slice-aggregate-operate (sized-K t) (sized-at t) sized.Post
-sized-slice-aggregate-operate t c = search rules
+sized-slice_bounds-operate-end : (t : ℕ) → sized_lts.Need-slice_bounds-operate-end (sized_K t) (sized_at t) sized.Post
+sized-slice_bounds-operate-end t c = search rules
 
-sized-operate-requires : (t : ℕ) → sized-lts.Need-operate-requires (sized-K t) (sized-at t) sized.Post
-sized-operate-requires t c κs = let s = c.before.before.before.before.before.before.before.before.requires in (s.1.0, (zeros 16, s.1.1))
+sized-operate-requires : (t : ℕ) → sized_lts.Need-operate-requires (sized_K t) (sized_at t) sized.Post
+sized-operate-requires t c κs = let s = c.requires in (s.1.0, (zeros 16, s.1.1))
 
-sized-same-length : (t : ℕ) → sized-lts.Need-same-length (sized-K t) (sized-at t) sized.Post
-sized-same-length t c = search rules
+sized-shape_of-new-then-lines-le-FEW_LINES : (t : ℕ) → sized_lts.Need-shape_of-new-then-lines-le-FEW_LINES (sized_K t) (sized_at t) sized.Post
+sized-shape_of-new-then-lines-le-FEW_LINES t c = search rules
 
-sized-same-length-2 : (t : ℕ) → sized-lts.Need-same-length-2 (sized-K t) (sized-at t) sized.Post
-sized-same-length-2 t c = search rules
+sized-shape_of-known-then-lines-le-FEW_LINES : (t : ℕ) → sized_lts.Need-shape_of-known-then-lines-le-FEW_LINES (sized_K t) (sized_at t) sized.Post
+sized-shape_of-known-then-lines-le-FEW_LINES t c = search rules
 
-sized-returns : (t : ℕ) → sized-lts.Need-returns (sized-K t) (sized-at t) sized.Post
-sized-returns t c = c.before.before.before.before.before.operate.ensures
+sized-returns-then-lines-le-FEW_LINES : (t : ℕ) → sized_lts.Need-returns-then-lines-le-FEW_LINES (sized_K t) (sized_at t) sized.Post
+sized-returns-then-lines-le-FEW_LINES t c = c.operate.ensures
 
-sized-up-to-512-requires : (t : ℕ) → sized-lts.Need-up-to-512-requires (sized-K t) (sized-at t) sized.Post
-sized-up-to-512-requires t c κs = c.before.before.before.before.before.before.before.before.requires.1
+sized-up_to_512-requires : (t : ℕ) → sized_lts.Need-up_to_512-requires (sized_K t) (sized_at t) sized.Post
+sized-up_to_512-requires t c κs = c.requires.1
 
-sized-same-length-3 : (t : ℕ) → sized-lts.Need-same-length-3 (sized-K t) (sized-at t) sized.Post
-sized-same-length-3 t c = search rules
+sized-shape_of-new-then-lines-le512 : (t : ℕ) → sized_lts.Need-shape_of-new-then-lines-le512 (sized_K t) (sized_at t) sized.Post
+sized-shape_of-new-then-lines-le512 t c = search rules
 
-sized-same-length-4 : (t : ℕ) → sized-lts.Need-same-length-4 (sized-K t) (sized-at t) sized.Post
-sized-same-length-4 t c = search rules
+sized-shape_of-known-then-lines-le512 : (t : ℕ) → sized_lts.Need-shape_of-known-then-lines-le512 (sized_K t) (sized_at t) sized.Post
+sized-shape_of-known-then-lines-le512 t c = search rules
 
-sized-returns-2 : (t : ℕ) → sized-lts.Need-returns-2 (sized-K t) (sized-at t) sized.Post
-sized-returns-2 t c = c.before.before.before.before.up-to-512.ensures
+sized-returns-then-lines-le512 : (t : ℕ) → sized_lts.Need-returns-then-lines-le512 (sized_K t) (sized_at t) sized.Post
+sized-returns-then-lines-le512 t c = c.up_to_512.ensures
 
-sized-up-to-2048-requires : (t : ℕ) → sized-lts.Need-up-to-2048-requires (sized-K t) (sized-at t) sized.Post
-sized-up-to-2048-requires t c κs = c.before.before.before.before.before.before.before.before.before.requires.1
+sized-up_to_2048-requires : (t : ℕ) → sized_lts.Need-up_to_2048-requires (sized_K t) (sized_at t) sized.Post
+sized-up_to_2048-requires t c κs = c.requires.1
 
-sized-same-length-5 : (t : ℕ) → sized-lts.Need-same-length-5 (sized-K t) (sized-at t) sized.Post
-sized-same-length-5 t c = search rules
+sized-shape_of-new-then-lines-le2048 : (t : ℕ) → sized_lts.Need-shape_of-new-then-lines-le2048 (sized_K t) (sized_at t) sized.Post
+sized-shape_of-new-then-lines-le2048 t c = search rules
 
-sized-same-length-6 : (t : ℕ) → sized-lts.Need-same-length-6 (sized-K t) (sized-at t) sized.Post
-sized-same-length-6 t c = search rules
+sized-shape_of-known-then-lines-le2048 : (t : ℕ) → sized_lts.Need-shape_of-known-then-lines-le2048 (sized_K t) (sized_at t) sized.Post
+sized-shape_of-known-then-lines-le2048 t c = search rules
 
-sized-returns-3 : (t : ℕ) → sized-lts.Need-returns-3 (sized-K t) (sized-at t) sized.Post
-sized-returns-3 t c = c.before.before.before.before.up-to-2048.ensures
+sized-returns-then-lines-le2048 : (t : ℕ) → sized_lts.Need-returns-then-lines-le2048 (sized_K t) (sized_at t) sized.Post
+sized-returns-then-lines-le2048 t c = c.up_to_2048.ensures
 
-sized-with-4096-requires : (t : ℕ) → sized-lts.Need-with-4096-requires (sized-K t) (sized-at t) sized.Post
-sized-with-4096-requires t c κs = c.before.before.before.before.before.before.before.before.before.before.requires.1
+sized-with_4096-requires : (t : ℕ) → sized_lts.Need-with_4096-requires (sized_K t) (sized_at t) sized.Post
+sized-with_4096-requires t c κs = c.requires.1
 
-sized-same-length-7 : (t : ℕ) → sized-lts.Need-same-length-7 (sized-K t) (sized-at t) sized.Post
-sized-same-length-7 t c = search rules
+sized-shape_of-new-then-lines-le4096 : (t : ℕ) → sized_lts.Need-shape_of-new-then-lines-le4096 (sized_K t) (sized_at t) sized.Post
+sized-shape_of-new-then-lines-le4096 t c = search rules
 
-sized-same-length-8 : (t : ℕ) → sized-lts.Need-same-length-8 (sized-K t) (sized-at t) sized.Post
-sized-same-length-8 t c = search rules
+sized-shape_of-known-then-lines-le4096 : (t : ℕ) → sized_lts.Need-shape_of-known-then-lines-le4096 (sized_K t) (sized_at t) sized.Post
+sized-shape_of-known-then-lines-le4096 t c = search rules
 
-sized-returns-4 : (t : ℕ) → sized-lts.Need-returns-4 (sized-K t) (sized-at t) sized.Post
-sized-returns-4 t c = c.before.before.before.before.with-4096.ensures
+sized-returns-then-lines-le4096 : (t : ℕ) → sized_lts.Need-returns-then-lines-le4096 (sized_K t) (sized_at t) sized.Post
+sized-returns-then-lines-le4096 t c = c.with_4096.ensures
 
-sized-with-8192-requires : (t : ℕ) → sized-lts.Need-with-8192-requires (sized-K t) (sized-at t) sized.Post
-sized-with-8192-requires t c κs = c.before.before.before.before.before.before.before.before.before.before.before.requires.1
+sized-with_8192-requires : (t : ℕ) → sized_lts.Need-with_8192-requires (sized_K t) (sized_at t) sized.Post
+sized-with_8192-requires t c κs = c.requires.1
 
-sized-same-length-9 : (t : ℕ) → sized-lts.Need-same-length-9 (sized-K t) (sized-at t) sized.Post
-sized-same-length-9 t c = search rules
+sized-shape_of-new-then-lines-le8192 : (t : ℕ) → sized_lts.Need-shape_of-new-then-lines-le8192 (sized_K t) (sized_at t) sized.Post
+sized-shape_of-new-then-lines-le8192 t c = search rules
 
-sized-same-length-10 : (t : ℕ) → sized-lts.Need-same-length-10 (sized-K t) (sized-at t) sized.Post
-sized-same-length-10 t c = search rules
+sized-shape_of-known-then-lines-le8192 : (t : ℕ) → sized_lts.Need-shape_of-known-then-lines-le8192 (sized_K t) (sized_at t) sized.Post
+sized-shape_of-known-then-lines-le8192 t c = search rules
 
-sized-returns-5 : (t : ℕ) → sized-lts.Need-returns-5 (sized-K t) (sized-at t) sized.Post
-sized-returns-5 t c = c.before.before.before.before.with-8192.ensures
+sized-returns-then-lines-le8192 : (t : ℕ) → sized_lts.Need-returns-then-lines-le8192 (sized_K t) (sized_at t) sized.Post
+sized-returns-then-lines-le8192 t c = c.with_8192.ensures
 
-sized-sized-requires : (t : ℕ) → sized-lts.Need-sized-requires (sized-K t) (sized-at t) sized.Post
-sized-sized-requires t c κs = let s = c.before.before.before.before.before.before.before.before.before.before.before.requires in (omega (arith, s.0, c.before.before.if5.false), s.1)
+sized-sized-requires : (t : ℕ) → sized_lts.Need-sized-requires (sized_K t) (sized_at t) sized.Post
+sized-sized-requires t c κs = let s = c.requires in (omega (arith, s.0, c.if-lines-le8192.false), s.1)
 
-sized-same-length-11 : (t : ℕ) → sized-lts.Need-same-length-11 (sized-K t) (sized-at t) sized.Post
-sized-same-length-11 t c = search rules
+sized-shape_of-new : (t : ℕ) → sized_lts.Need-shape_of-new (sized_K t) (sized_at t) sized.Post
+sized-shape_of-new t c = search rules
 
-sized-same-length-12 : (t : ℕ) → sized-lts.Need-same-length-12 (sized-K t) (sized-at t) sized.Post
-sized-same-length-12 t c = search rules
+sized-shape_of-known : (t : ℕ) → sized_lts.Need-shape_of-known (sized_K t) (sized_at t) sized.Post
+sized-shape_of-known t c = search rules
 
-sized-returns-6 : (t : ℕ) → sized-lts.Need-returns-6 (sized-K t) (sized-at t) sized.Post
-sized-returns-6 t c = c.before.before.before.before.sized.ensures
+sized-returns : (t : ℕ) → sized_lts.Need-returns (sized_K t) (sized_at t) sized.Post
+sized-returns t c = c.sized.ensures
 
-pub +sized-spec : {M : Type 1} → statement M
-+sized-spec =
+pub +sized_spec : {M : Type 1} → statement M
++sized_spec =
     close
-    μ-sized
-    λ t. sized-lts.spec (sized-K t) (sized-at t) sized.Post
-    (sized-slice-aggregate-operate t)
+    μ_sized
+    λ t. sized_lts.spec (sized_K t) (sized_at t) sized.Post
+    (sized-slice_bounds-operate-end t)
     (sized-operate-requires t)
-    (sized-same-length t)
-    (sized-same-length-2 t)
-    (sized-returns t)
-    (sized-up-to-512-requires t)
-    (sized-same-length-3 t)
-    (sized-same-length-4 t)
-    (sized-returns-2 t)
-    (sized-up-to-2048-requires t)
-    (sized-same-length-5 t)
-    (sized-same-length-6 t)
-    (sized-returns-3 t)
-    (sized-with-4096-requires t)
-    (sized-same-length-7 t)
-    (sized-same-length-8 t)
-    (sized-returns-4 t)
-    (sized-with-8192-requires t)
-    (sized-same-length-9 t)
-    (sized-same-length-10 t)
-    (sized-returns-5 t)
+    (sized-shape_of-new-then-lines-le-FEW_LINES t)
+    (sized-shape_of-known-then-lines-le-FEW_LINES t)
+    (sized-returns-then-lines-le-FEW_LINES t)
+    (sized-up_to_512-requires t)
+    (sized-shape_of-new-then-lines-le512 t)
+    (sized-shape_of-known-then-lines-le512 t)
+    (sized-returns-then-lines-le512 t)
+    (sized-up_to_2048-requires t)
+    (sized-shape_of-new-then-lines-le2048 t)
+    (sized-shape_of-known-then-lines-le2048 t)
+    (sized-returns-then-lines-le2048 t)
+    (sized-with_4096-requires t)
+    (sized-shape_of-new-then-lines-le4096 t)
+    (sized-shape_of-known-then-lines-le4096 t)
+    (sized-returns-then-lines-le4096 t)
+    (sized-with_8192-requires t)
+    (sized-shape_of-new-then-lines-le8192 t)
+    (sized-shape_of-known-then-lines-le8192 t)
+    (sized-returns-then-lines-le8192 t)
     (sized-sized-requires t)
-    (sized-same-length-11 t)
-    (sized-same-length-12 t)
-    (sized-returns-6 t)
+    (sized-shape_of-new t)
+    (sized-shape_of-known t)
+    (sized-returns t)

@@ -8,56 +8,56 @@ use Rattle.own_memory.proofs.ask.Tie as tie
 word-requires : tie.Need-word-requires
 word-requires c κs = search rules
 
-slice-aggregate-operate : tie.Need-slice-aggregate-operate
-slice-aggregate-operate c = search rules
+slice_bounds-operate-end : tie.Need-slice_bounds-operate-end
+slice_bounds-operate-end c = search rules
 
-slice-aggregate-operate-2 : tie.Need-slice-aggregate-operate-2
-slice-aggregate-operate-2 c = search rules
+slice_bounds-operate-end-then-word-lt-FIRST_WITH_PARTS : tie.Need-slice_bounds-operate-end-then-word-lt-FIRST_WITH_PARTS
+slice_bounds-operate-end-then-word-lt-FIRST_WITH_PARTS c = search rules
 
 operate-requires : tie.Need-operate-requires
-operate-requires c κs = let s = c.before.before.before.before.before.before.before.before.before in (s.requires.0, (zeros 0, (knows_blank _ 0, s.requires.1)))
+operate-requires c κs = (c.requires.0, (zeros 0, (knows_blank _ 0, c.requires.1)))
 
-same_length : tie.Need-same-length
-same_length c = search rules
+shape_of-new-then-word-lt-FIRST_WITH_PARTS : tie.Need-shape_of-new-then-word-lt-FIRST_WITH_PARTS
+shape_of-new-then-word-lt-FIRST_WITH_PARTS c = search rules
 
-returns : tie.Need-returns
-returns c = c.before.before.before.before.operate.ensures.0
+returns-then-word-lt-FIRST_WITH_PARTS : tie.Need-returns-then-word-lt-FIRST_WITH_PARTS
+returns-then-word-lt-FIRST_WITH_PARTS c = c.operate.ensures.0
 
-is-small-requires : tie.Need-is-small-requires
-is-small-requires c κs = search rules
+is_small-few-requires : tie.Need-is_small-few-requires
+is_small-few-requires c κs = search rules
 
-add-lines-for : tie.Need-overflow-add-lines-for
-add-lines-for c = search rules
+overflow_add-old : tie.Need-overflow_add-old
+overflow_add-old c = search rules
 
-lines-for-requires : tie.Need-lines-for-requires
-lines-for-requires c = search rules
+lines_for-lines-requires : tie.Need-lines_for-lines-requires
+lines_for-lines-requires c = search rules
 
-slice-aggregate-sized : tie.Need-slice-aggregate-sized
-slice-aggregate-sized c = search rules
+slice_bounds-sized-end : tie.Need-slice_bounds-sized-end
+slice_bounds-sized-end c = search rules
 
 sized-requires : tie.Need-sized-requires
-sized-requires c κs = let s = c.before.before.before.before.before.before.before.before.before.before.before in (s.requires.0, (knows_blank _ 0, s.requires.1))
+sized-requires c κs = (c.requires.0, (knows_blank _ 0, c.requires.1))
 
-same-length-2 : tie.Need-same-length-2
-same-length-2 c = search rules
+shape_of-new : tie.Need-shape_of-new
+shape_of-new c = search rules
 
-returns-2 : tie.Need-returns-2
-returns-2 c = c.before.before.before.sized.ensures.0
+returns : tie.Need-returns
+returns c = c.sized.ensures.0
 
-pub ask-spec : {M : Type 1} → statement M
-ask-spec =
+pub ask_spec : {M : Type 1} → statement M
+ask_spec =
     tie.close
     (tie.spec
     word-requires
-    slice-aggregate-operate
-    slice-aggregate-operate-2
+    slice_bounds-operate-end
+    slice_bounds-operate-end-then-word-lt-FIRST_WITH_PARTS
     operate-requires
-    same_length
-    returns
-    is-small-requires
-    add-lines-for
-    lines-for-requires
-    slice-aggregate-sized
+    shape_of-new-then-word-lt-FIRST_WITH_PARTS
+    returns-then-word-lt-FIRST_WITH_PARTS
+    is_small-few-requires
+    overflow_add-old
+    lines_for-lines-requires
+    slice_bounds-sized-end
     sized-requires
-    same-length-2
-    returns-2)
+    shape_of-new
+    returns)

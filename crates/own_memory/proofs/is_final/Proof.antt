@@ -7,14 +7,14 @@ use Rattle.own_memory.proofs.is_final.Tie as tie
 clear-requires : tie.Need-clear-requires
 clear-requires c κs = search rules
 
-is-final-requires : tie.Need-is-final-requires
-is-final-requires c κs = (c.before.before.before.before.before.before.before.before.requires, knows_none _ _ c.before.before.before.clear.ensures)
+is_final-requires : tie.Need-is_final-requires
+is_final-requires c κs = (c.requires, knows_none _ _ c.clear.ensures)
 
-same_length : tie.Need-same-length
-same_length c = search rules
+shape_of-bits : tie.Need-shape_of-bits
+shape_of-bits c = search rules
 
 returns : tie.Need-returns
 returns c = search rules
 
-pub is-final-spec : {M : Type 1} → statement M
-is-final-spec = tie.close (tie.spec clear-requires is-final-requires same_length returns)
+pub is_final_spec : {M : Type 1} → statement M
+is_final_spec = tie.close (tie.spec clear-requires is_final-requires shape_of-bits returns)

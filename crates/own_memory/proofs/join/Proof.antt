@@ -4,35 +4,35 @@ use borrow.Author.Rules.{rules}
 use Rattle.own_memory.proofs.join.Statement.{statement}
 use Rattle.own_memory.proofs.join.Tie as tie
 
-both-small-requires : tie.Need-both-small-requires
-both-small-requires c κs = search rules
+both_small-few-requires : tie.Need-both_small-few-requires
+both_small-few-requires c κs = search rules
 
-add-lines-for : tie.Need-overflow-add-lines-for
-add-lines-for c = search rules
+overflow_add-old : tie.Need-overflow_add-old
+overflow_add-old c = search rules
 
-lines-for-requires : tie.Need-lines-for-requires
-lines-for-requires c = search rules
+lines_for-lines-requires : tie.Need-lines_for-lines-requires
+lines_for-lines-requires c = search rules
 
-slice-aggregate-sized : tie.Need-slice-aggregate-sized
-slice-aggregate-sized c = search rules
+slice_bounds-sized-end : tie.Need-slice_bounds-sized-end
+slice_bounds-sized-end c = search rules
 
 sized-requires : tie.Need-sized-requires
-sized-requires c κs = let s = c.before.before.before.before.before.before.before.before in (s.requires.0, (knows_blank _ 0, s.requires.1))
+sized-requires c κs = (c.requires.0, (knows_blank _ 0, c.requires.1))
 
-same_length : tie.Need-same-length
-same_length c = search rules
+shape_of-new : tie.Need-shape_of-new
+shape_of-new c = search rules
 
 returns : tie.Need-returns
-returns c = c.before.before.before.sized.ensures.0
+returns c = c.sized.ensures.0
 
-pub join-spec : {M : Type 1} → statement M
-join-spec =
+pub join_spec : {M : Type 1} → statement M
+join_spec =
     tie.close
     (tie.spec
-    both-small-requires
-    add-lines-for
-    lines-for-requires
-    slice-aggregate-sized
+    both_small-few-requires
+    overflow_add-old
+    lines_for-lines-requires
+    slice_bounds-sized-end
     sized-requires
-    same_length
+    shape_of-new
     returns)

@@ -8,52 +8,52 @@ use Rattle.own_memory.proofs.make_ro.Tie as tie
 word-requires : tie.Need-word-requires
 word-requires c κs = search rules
 
-is-flat-requires : tie.Need-is-flat-requires
-is-flat-requires c κs = search rules
+is_flat-requires : tie.Need-is_flat-requires
+is_flat-requires c κs = search rules
 
-slice-aggregate-operate : tie.Need-slice-aggregate-operate
-slice-aggregate-operate c = search rules
+slice_bounds-operate-end : tie.Need-slice_bounds-operate-end
+slice_bounds-operate-end c = search rules
 
-slice-aggregate-operate-2 : tie.Need-slice-aggregate-operate-2
-slice-aggregate-operate-2 c = search rules
+slice_bounds-operate-end-then-is_flat : tie.Need-slice_bounds-operate-end-then-is_flat
+slice_bounds-operate-end-then-is_flat c = search rules
 
 operate-requires : tie.Need-operate-requires
-operate-requires c κs = (c.before.before.before.before.before.before.before.before.before.before.before.requires.0, (zeros 0, (knows_blank _ 0, c.before.before.before.before.before.before.before.before.before.before.before.requires.1)))
+operate-requires c κs = (c.requires.0, (zeros 0, (knows_blank _ 0, c.requires.1)))
 
-same_length : tie.Need-same-length
-same_length c = search rules
+shape_of-new-then-is_flat : tie.Need-shape_of-new-then-is_flat
+shape_of-new-then-is_flat c = search rules
 
-returns : tie.Need-returns
-returns c = c.before.before.before.before.operate.ensures.0
+returns-then-is_flat : tie.Need-returns-then-is_flat
+returns-then-is_flat c = c.operate.ensures.0
 
 clear-requires : tie.Need-clear-requires
 clear-requires c κs = search rules
 
 run-requires : tie.Need-run-requires
-run-requires c κs = (c.before.before.before.before.before.before.before.before.before.before.before.before.before.before.requires.0, (knows_none _ _ c.before.before.before.before.clear.ensures, c.before.before.before.before.before.before.before.before.before.before.before.before.before.before.requires.1))
+run-requires c κs = (c.requires.0, (knows_none _ _ c.clear.ensures, c.requires.1))
 
-same-length-2 : tie.Need-same-length-2
-same-length-2 c = search rules
+shape_of-new : tie.Need-shape_of-new
+shape_of-new c = search rules
 
-same-length-3 : tie.Need-same-length-3
-same-length-3 c = search rules
+shape_of-bits : tie.Need-shape_of-bits
+shape_of-bits c = search rules
 
-returns-2 : tie.Need-returns-2
-returns-2 c = c.before.before.before.before.run.ensures.0
+returns : tie.Need-returns
+returns c = c.run.ensures.0
 
-pub make-ro-spec : {M : Type 1} → statement M
-make-ro-spec =
+pub make_ro_spec : {M : Type 1} → statement M
+make_ro_spec =
     tie.close
     (tie.spec
     word-requires
-    is-flat-requires
-    slice-aggregate-operate
-    slice-aggregate-operate-2
+    is_flat-requires
+    slice_bounds-operate-end
+    slice_bounds-operate-end-then-is_flat
     operate-requires
-    same_length
-    returns
+    shape_of-new-then-is_flat
+    returns-then-is_flat
     clear-requires
     run-requires
-    same-length-2
-    same-length-3
-    returns-2)
+    shape_of-new
+    shape_of-bits
+    returns)

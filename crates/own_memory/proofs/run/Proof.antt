@@ -6,58 +6,58 @@ use Rattle.own_memory.proofs.run.Statement.{statement}
 use Rattle.own_memory.proofs.run.Tie as tie
 
 word-requires : tie.Need-word-requires
-word-requires c κs = let c₀ = c.before.before.before.before.before in let s = asked_store c₀.args.op c₀.args.old.now c₀.args.new.now c₀.args.used c₀.args.a c₀.requires.0 in (s.0, s.1)
+word-requires c κs = let s = asked_store c.args.op c.args.old.now c.args.new.now c.args.used c.args.a c.requires.0 in (s.0, s.1)
 
-slice-aggregate-operate : tie.Need-slice-aggregate-operate
-slice-aggregate-operate c = search rules
+slice_bounds-operate-end : tie.Need-slice_bounds-operate-end
+slice_bounds-operate-end c = search rules
 
 operate-requires : tie.Need-operate-requires
-operate-requires c κs = let s = c.before.before.before.before.before.before.before.before.before.before in (s.requires.0, (zeros 0, s.requires.1))
+operate-requires c κs = (c.requires.0, (zeros 0, c.requires.1))
 
-same_length : tie.Need-same-length
-same_length c = search rules
+shape_of-new-then-word-lt-FIRST_WITH_PARTS : tie.Need-shape_of-new-then-word-lt-FIRST_WITH_PARTS
+shape_of-new-then-word-lt-FIRST_WITH_PARTS c = search rules
 
-same-length-2 : tie.Need-same-length-2
-same-length-2 c = search rules
+shape_of-known-then-word-lt-FIRST_WITH_PARTS : tie.Need-shape_of-known-then-word-lt-FIRST_WITH_PARTS
+shape_of-known-then-word-lt-FIRST_WITH_PARTS c = search rules
 
-returns : tie.Need-returns
-returns c = c.before.before.before.before.before.operate.ensures
+returns-then-word-lt-FIRST_WITH_PARTS : tie.Need-returns-then-word-lt-FIRST_WITH_PARTS
+returns-then-word-lt-FIRST_WITH_PARTS c = c.operate.ensures
 
-is-small-requires : tie.Need-is-small-requires
-is-small-requires c κs = let c₀ = c.before.before.before.before.before.before.before.before in asked_store c₀.args.op c₀.args.old.now c₀.args.new.now c₀.args.used c₀.args.a c₀.requires.0
+is_small-few-requires : tie.Need-is_small-few-requires
+is_small-few-requires c κs = asked_store c.args.op c.args.old.now c.args.new.now c.args.used c.args.a c.requires.0
 
-add-lines-for : tie.Need-overflow-add-lines-for
-add-lines-for c = search rules
+overflow_add-old : tie.Need-overflow_add-old
+overflow_add-old c = search rules
 
-lines-for-requires : tie.Need-lines-for-requires
-lines-for-requires c = search rules
+lines_for-lines-requires : tie.Need-lines_for-lines-requires
+lines_for-lines-requires c = search rules
 
 sized-requires : tie.Need-sized-requires
-sized-requires c κs = c.before.before.before.before.before.before.before.before.before.before.before.before.requires
+sized-requires c κs = c.requires
 
-same-length-3 : tie.Need-same-length-3
-same-length-3 c = search rules
+shape_of-new : tie.Need-shape_of-new
+shape_of-new c = search rules
 
-same-length-4 : tie.Need-same-length-4
-same-length-4 c = search rules
+shape_of-known : tie.Need-shape_of-known
+shape_of-known c = search rules
 
-returns-2 : tie.Need-returns-2
-returns-2 c = c.before.before.before.before.sized.ensures
+returns : tie.Need-returns
+returns c = c.sized.ensures
 
 pub run_spec : {M : Type 1} → statement M
 run_spec =
     tie.close
     (tie.spec
     word-requires
-    slice-aggregate-operate
+    slice_bounds-operate-end
     operate-requires
-    same_length
-    same-length-2
-    returns
-    is-small-requires
-    add-lines-for
-    lines-for-requires
+    shape_of-new-then-word-lt-FIRST_WITH_PARTS
+    shape_of-known-then-word-lt-FIRST_WITH_PARTS
+    returns-then-word-lt-FIRST_WITH_PARTS
+    is_small-few-requires
+    overflow_add-old
+    lines_for-lines-requires
     sized-requires
-    same-length-3
-    same-length-4
-    returns-2)
+    shape_of-new
+    shape_of-known
+    returns)

@@ -4,47 +4,47 @@ use borrow.Author.Rules.{rules}
 use Rattle.own_memory.proofs.up_to_2048.Statement.{statement}
 use Rattle.own_memory.proofs.up_to_2048.Tie as tie
 
-slice-aggregate-operate : tie.Need-slice-aggregate-operate
-slice-aggregate-operate c = search rules
+slice_bounds-operate-end : tie.Need-slice_bounds-operate-end
+slice_bounds-operate-end c = search rules
 
 operate-requires : tie.Need-operate-requires
-operate-requires c κs = let s = c.before.before.before.before.before.before.before.before in (s.requires.0, (zeros 1024, s.requires.1))
+operate-requires c κs = (c.requires.0, (zeros 1024, c.requires.1))
 
-same_length : tie.Need-same-length
-same_length c = search rules
+shape_of-new-then-lines-le1024 : tie.Need-shape_of-new-then-lines-le1024
+shape_of-new-then-lines-le1024 c = search rules
 
-same-length-2 : tie.Need-same-length-2
-same-length-2 c = search rules
+shape_of-known-then-lines-le1024 : tie.Need-shape_of-known-then-lines-le1024
+shape_of-known-then-lines-le1024 c = search rules
 
-returns : tie.Need-returns
-returns c = c.before.before.before.before.before.operate.ensures
+returns-then-lines-le1024 : tie.Need-returns-then-lines-le1024
+returns-then-lines-le1024 c = c.operate.ensures
 
-slice-aggregate-operate-2 : tie.Need-slice-aggregate-operate-2
-slice-aggregate-operate-2 c = search rules
+slice_bounds-operate-end-2 : tie.Need-slice_bounds-operate-end-2
+slice_bounds-operate-end-2 c = search rules
 
 operate-requires-2 : tie.Need-operate-requires-2
-operate-requires-2 c κs = let s = c.before.before.before.before.before.before.before.before in (s.requires.0, (zeros 2048, s.requires.1))
+operate-requires-2 c κs = (c.requires.0, (zeros 2048, c.requires.1))
 
-same-length-3 : tie.Need-same-length-3
-same-length-3 c = search rules
+shape_of-new : tie.Need-shape_of-new
+shape_of-new c = search rules
 
-same-length-4 : tie.Need-same-length-4
-same-length-4 c = search rules
+shape_of-known : tie.Need-shape_of-known
+shape_of-known c = search rules
 
-returns-2 : tie.Need-returns-2
-returns-2 c = c.before.before.before.before.before.operate2.ensures
+returns : tie.Need-returns
+returns c = c.operate-2.ensures
 
-pub up-to-2048-spec : {M : Type 1} → statement M
-up-to-2048-spec =
+pub up_to_2048_spec : {M : Type 1} → statement M
+up_to_2048_spec =
     tie.close
     (tie.spec
-    slice-aggregate-operate
+    slice_bounds-operate-end
     operate-requires
-    same_length
-    same-length-2
-    returns
-    slice-aggregate-operate-2
+    shape_of-new-then-lines-le1024
+    shape_of-known-then-lines-le1024
+    returns-then-lines-le1024
+    slice_bounds-operate-end-2
     operate-requires-2
-    same-length-3
-    same-length-4
-    returns-2)
+    shape_of-new
+    shape_of-known
+    returns)

@@ -4,27 +4,27 @@ use borrow.Author.Rules.{rules}
 use Rattle.own_memory.proofs.with_4096.Statement.{statement}
 use Rattle.own_memory.proofs.with_4096.Tie as tie
 
-slice-aggregate-operate : tie.Need-slice-aggregate-operate
-slice-aggregate-operate c = search rules
+slice_bounds-operate-end : tie.Need-slice_bounds-operate-end
+slice_bounds-operate-end c = search rules
 
 operate-requires : tie.Need-operate-requires
-operate-requires c κs = let s = c.before.before.before.before.before.before.before in (s.requires.0, (zeros 4096, s.requires.1))
+operate-requires c κs = (c.requires.0, (zeros 4096, c.requires.1))
 
-same_length : tie.Need-same-length
-same_length c = search rules
+shape_of-new : tie.Need-shape_of-new
+shape_of-new c = search rules
 
-same-length-2 : tie.Need-same-length-2
-same-length-2 c = search rules
+shape_of-known : tie.Need-shape_of-known
+shape_of-known c = search rules
 
 returns : tie.Need-returns
-returns c = c.before.before.before.before.before.operate.ensures
+returns c = c.operate.ensures
 
-pub with-4096-spec : {M : Type 1} → statement M
-with-4096-spec =
+pub with_4096_spec : {M : Type 1} → statement M
+with_4096_spec =
     tie.close
     (tie.spec
-    slice-aggregate-operate
+    slice_bounds-operate-end
     operate-requires
-    same_length
-    same-length-2
+    shape_of-new
+    shape_of-known
     returns)
