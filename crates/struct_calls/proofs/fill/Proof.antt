@@ -5,39 +5,39 @@ use borrow.Author.Rules.{rules}
 use Rattle.struct_calls.proofs.fill.Statement.{statement}
 use Rattle.struct_calls.proofs.fill.Tie as tie
 
-enum_told : tie.Need-enum-told
-enum_told c = search rules
+enum_told-1 : tie.Need-enum_told-1
+enum_told-1 c = search rules
 
-fill-fields-requires : tie.Need-fill-fields-requires
-fill-fields-requires c κs = let s = c.before.before.before.before.before in fields_fill _ _ _ _ (as_fill c.before.enum_told.given.1 s.args.s _ s.requires)
+fill_fields-requires : tie.Need-fill_fields-requires
+fill_fields-requires c κs = fields_fill _ _ _ _ (as_fill c.in-Fields.is c.args.s _ c.requires)
 
-enum-told-2 : tie.Need-enum-told-2
-enum-told-2 c = search rules
+enum_told-in-Offsets : tie.Need-enum_told-in-Offsets
+enum_told-in-Offsets c = search rules
 
-fill-offsets-requires : tie.Need-fill-offsets-requires
-fill-offsets-requires c κs = let s = c.before.before.before.before.before in offsets_fill _ _ _ _ (as_fill c.before.enum-told2.given.1 s.args.s _ s.requires)
+fill_offsets-requires : tie.Need-fill_offsets-requires
+fill_offsets-requires c κs = offsets_fill _ _ _ _ (as_fill c.in-Offsets.is c.args.s _ c.requires)
 
-same_length : tie.Need-same-length
-same_length c = search rules
+shape_of-output-in-Fields : tie.Need-shape_of-output-in-Fields
+shape_of-output-in-Fields c = search rules
 
-returns : tie.Need-returns
-returns c = let s = c.before.before.before.before.before.before.before.before in as_filled c.before.before.before.before.enum_told.given.1 s.args.s _ _ _ c.before.before.fill-fields.ensures
+returns-in-Fields : tie.Need-returns-in-Fields
+returns-in-Fields c = as_filled c.in-Fields.is c.args.s _ _ _ c.fill_fields.ensures
 
-same-length-2 : tie.Need-same-length-2
-same-length-2 c = search rules
+shape_of-output-in-Offsets : tie.Need-shape_of-output-in-Offsets
+shape_of-output-in-Offsets c = search rules
 
-returns-2 : tie.Need-returns-2
-returns-2 c = let s = c.before.before.before.before.before.before.before.before in as_filled c.before.before.before.before.enum-told2.given.1 s.args.s _ _ _ c.before.before.fill-offsets.ensures
+returns-in-Offsets : tie.Need-returns-in-Offsets
+returns-in-Offsets c = as_filled c.in-Offsets.is c.args.s _ _ _ c.fill_offsets.ensures
 
 pub fill_spec : {M : Type 1} → statement M
 fill_spec =
     tie.close
     (tie.spec
-    enum_told
-    fill-fields-requires
-    enum-told-2
-    fill-offsets-requires
-    same_length
-    returns
-    same-length-2
-    returns-2)
+    enum_told-1
+    fill_fields-requires
+    enum_told-in-Offsets
+    fill_offsets-requires
+    shape_of-output-in-Fields
+    returns-in-Fields
+    shape_of-output-in-Offsets
+    returns-in-Offsets)

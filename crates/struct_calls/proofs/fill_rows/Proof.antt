@@ -7,21 +7,21 @@ use borrow.Author.Rules.{rules}
 use Rattle.struct_calls.proofs.fill_rows.Statement.{statement}
 use Rattle.struct_calls.proofs.fill_rows.Tie as tie
 
-filling-rows-requires : tie.Need-filling-rows-requires
-filling-rows-requires c κs = search rules
+filling_rows-no-requires : tie.Need-filling_rows-no-requires
+filling_rows-no-requires c κs = search rules
 
-returns : tie.Need-returns
-returns c = first_rows _ _ _ c.before.filling-rows.ensures c.if1.true
+returns-then-no-ne0 : tie.Need-returns-then-no-ne0
+returns-then-no-ne0 c = first_rows _ _ _ c.filling_rows-no.ensures c.if-no-ne0.true
 
 filled-requires : tie.Need-filled-requires
 filled-requires c κs = search rules
 
-returns-2 : tie.Need-returns-2
-returns-2 c = fill_11 (filling_rows c.before.before.before.before.before.before.args.filling c.before.before.before.before.before.before.args.s) (filled_words c.before.before.before.before.before.before.args.filling c.before.before.before.before.before.before.args.s) _ (take c.before.before.before.before.before.before.args.used c.before.before.before.before.before.before.args.words.now) _ c.before.before.before.filling-rows.ensures c.before.before.if1.false _ c.before.filled.ensures c.if2.true
+returns-then-n-filled : tie.Need-returns-then-n-filled
+returns-then-n-filled c = fill_11 (filling_rows c.args.filling c.args.s) (filled_words c.args.filling c.args.s) _ (take c.args.used c.args.words.now) _ c.filling_rows-no.ensures c.if-no-ne0.false _ c.filled.ensures c.if-n-filled.true
 
-returns-3 : tie.Need-returns-3
-returns-3 c = fill_0 (filling_rows c.before.before.before.before.before.before.args.filling c.before.before.before.before.before.before.args.s) (filled_words c.before.before.before.before.before.before.args.filling c.before.before.before.before.before.before.args.s) _ (take c.before.before.before.before.before.before.args.used c.before.before.before.before.before.before.args.words.now) _ c.before.before.before.filling-rows.ensures c.before.before.if1.false _ c.before.filled.ensures c.if2.false
+returns : tie.Need-returns
+returns c = fill_0 (filling_rows c.args.filling c.args.s) (filled_words c.args.filling c.args.s) _ (take c.args.used c.args.words.now) _ c.filling_rows-no.ensures c.if-no-ne0.false _ c.filled.ensures c.if-n-filled.false
 
-pub fill-rows-spec : {M : Type 1} → statement M
-fill-rows-spec =
-    tie.close (tie.spec filling-rows-requires returns filled-requires returns-2 returns-3)
+pub fill_rows_spec : {M : Type 1} → statement M
+fill_rows_spec =
+    tie.close (tie.spec filling_rows-no-requires returns-then-no-ne0 filled-requires returns-then-n-filled returns)

@@ -6,39 +6,39 @@ use borrow.Author.Rules.{rules}
 use Rattle.struct_calls.proofs.filled.Statement.{statement}
 use Rattle.struct_calls.proofs.filled.Tie as tie
 
-slice-aggregate-word : tie.Need-slice-aggregate-word
-slice-aggregate-word c = search rules
+slice_bounds-word-end : tie.Need-slice_bounds-word-end
+slice_bounds-word-end c = search rules
 
-word-requires : tie.Need-word-requires
-word-requires c κs = search rules
+word-n-requires : tie.Need-word-n-requires
+word-n-requires c κs = search rules
 
-enum_told : tie.Need-enum-told
-enum_told c = search rules
+enum_told-1 : tie.Need-enum_told-1
+enum_told-1 c = search rules
 
-mul-result : tie.Need-overflow-mul-result
-mul-result c = search rules
+overflow_mul-result : tie.Need-overflow_mul-result
+overflow_mul-result c = search rules
 
-enum-told-2 : tie.Need-enum-told-2
-enum-told-2 c = search rules
+enum_told-in-Offsets : tie.Need-enum_told-in-Offsets
+enum_told-in-Offsets c = search rules
 
-add-result : tie.Need-overflow-add-result
-add-result c = search rules
+overflow_add-result : tie.Need-overflow_add-result
+overflow_add-result c = search rules
 
-returns : tie.Need-returns
-returns c = as_length c.enum_told.given.1 _ _ (fields_length (take c.before.before.before.before.before.args.used c.before.before.before.before.before.args.words.now) c.before.before.before.before.before.args.s _ c.before.before.word.ensures)
+returns-in-Fields : tie.Need-returns-in-Fields
+returns-in-Fields c = as_length c.in-Fields.is _ _ (fields_length (take c.args.used c.args.words.now) c.args.s _ c.word-n.ensures)
 
-returns-2 : tie.Need-returns-2
-returns-2 c = as_length c.enum-told2.given.1 _ _ (places_length (take c.before.before.before.before.before.args.used c.before.before.before.before.before.args.words.now) c.before.before.before.before.before.args.s _ c.before.before.word.ensures)
+returns-in-Offsets : tie.Need-returns-in-Offsets
+returns-in-Offsets c = as_length c.in-Offsets.is _ _ (places_length (take c.args.used c.args.words.now) c.args.s _ c.word-n.ensures)
 
-pub filled-spec : {M : Type 1} → statement M
-filled-spec =
+pub filled_spec : {M : Type 1} → statement M
+filled_spec =
     tie.close
     (tie.spec
-    slice-aggregate-word
-    word-requires
-    enum_told
-    mul-result
-    enum-told-2
-    add-result
-    returns
-    returns-2)
+    slice_bounds-word-end
+    word-n-requires
+    enum_told-1
+    overflow_mul-result
+    enum_told-in-Offsets
+    overflow_add-result
+    returns-in-Fields
+    returns-in-Offsets)

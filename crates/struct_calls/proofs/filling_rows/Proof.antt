@@ -4,25 +4,25 @@ use borrow.Author.Rules.{rules}
 use Rattle.struct_calls.proofs.filling_rows.Statement.{statement}
 use Rattle.struct_calls.proofs.filling_rows.Tie as tie
 
-enum_told : tie.Need-enum-told
-enum_told c = search rules
+enum_told-1 : tie.Need-enum_told-1
+enum_told-1 c = search rules
 
-fields-rows-requires : tie.Need-fields-rows-requires
-fields-rows-requires c κs = search rules
+fields_rows-requires : tie.Need-fields_rows-requires
+fields_rows-requires c κs = search rules
 
-enum-told-2 : tie.Need-enum-told-2
-enum-told-2 c = search rules
+enum_told-in-Offsets : tie.Need-enum_told-in-Offsets
+enum_told-in-Offsets c = search rules
 
-offsets-rows-requires : tie.Need-offsets-rows-requires
-offsets-rows-requires c κs = search rules
+offsets_rows-requires : tie.Need-offsets_rows-requires
+offsets_rows-requires c κs = search rules
 
-returns : tie.Need-returns
-returns c = as_filling c.before.enum_told.given.1 _ _ c.fields-rows.ensures
+returns-in-Fields : tie.Need-returns-in-Fields
+returns-in-Fields c = as_filling c.in-Fields.is _ _ c.fields_rows.ensures
 
-returns-2 : tie.Need-returns-2
-returns-2 c = as_filling c.before.enum-told2.given.1 _ _ c.offsets-rows.ensures
+returns-in-Offsets : tie.Need-returns-in-Offsets
+returns-in-Offsets c = as_filling c.in-Offsets.is _ _ c.offsets_rows.ensures
 
-pub filling-rows-spec : {M : Type 1} → statement M
-filling-rows-spec =
+pub filling_rows_spec : {M : Type 1} → statement M
+filling_rows_spec =
     tie.close
-    (tie.spec enum_told fields-rows-requires enum-told-2 offsets-rows-requires returns returns-2)
+    (tie.spec enum_told-1 fields_rows-requires enum_told-in-Offsets offsets_rows-requires returns-in-Fields returns-in-Offsets)

@@ -4,17 +4,17 @@ use borrow.Author.Rules.{rules}
 use Rattle.struct_calls.proofs.place.Statement.{statement}
 use Rattle.struct_calls.proofs.place.Tie as tie
 
-enum-known-p : tie.Need-enum-known-p
-enum-known-p c = search rules
+enum_known-p : tie.Need-enum_known-p
+enum_known-p c = search rules
 
-enum_told : tie.Need-enum-told
-enum_told c = search rules
+enum_told-1 : tie.Need-enum_told-1
+enum_told-1 c = search rules
 
-returns : tie.Need-returns
-returns c = search at_place
+returns-in-At : tie.Need-returns-in-At
+returns-in-At c = search at_place
 
-returns-2 : tie.Need-returns-2
-returns-2 c = search rules
+returns-in-Absent : tie.Need-returns-in-Absent
+returns-in-Absent c = search rules
 
-pub place-spec : {M : Type 1} → statement M
-place-spec = tie.close (tie.spec enum-known-p enum_told returns returns-2)
+pub place_spec : {M : Type 1} → statement M
+place_spec = tie.close (tie.spec enum_known-p enum_told-1 returns-in-At returns-in-Absent)

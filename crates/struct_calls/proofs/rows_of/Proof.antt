@@ -4,103 +4,103 @@ use borrow.Author.Rules.{rules}
 use Rattle.struct_calls.proofs.rows_of.Statement.{statement}
 use Rattle.struct_calls.proofs.rows_of.Tie as tie
 
-enum_told : tie.Need-enum-told
-enum_told c = search rules
+enum_told-1 : tie.Need-enum_told-1
+enum_told-1 c = search rules
 
-kind-rows-requires : tie.Need-kind-rows-requires
-kind-rows-requires c κs = search rules
+kind_rows-requires : tie.Need-kind_rows-requires
+kind_rows-requires c κs = search rules
 
-enum-known-of : tie.Need-enum-known-of
-enum-known-of c = search rules
+enum_known-of : tie.Need-enum_known-of
+enum_known-of c = search rules
 
-find-rows-requires : tie.Need-find-rows-requires
-find-rows-requires c κs = search rules
+find_rows-requires : tie.Need-find_rows-requires
+find_rows-requires c κs = search rules
 
-enum-known-of-2 : tie.Need-enum-known-of-2
-enum-known-of-2 c = search rules
+enum_known-of-in-FindAlias-1 : tie.Need-enum_known-of-in-FindAlias-1
+enum_known-of-in-FindAlias-1 c = search rules
 
-find-alias-rows-requires : tie.Need-find-alias-rows-requires
-find-alias-rows-requires c κs = search rules
+find_alias_rows-requires : tie.Need-find_alias_rows-requires
+find_alias_rows-requires c κs = search rules
 
-enum-told-2 : tie.Need-enum-told-2
-enum-told-2 c = search rules
+enum_told-in-IsAry : tie.Need-enum_told-in-IsAry
+enum_told-in-IsAry c = search rules
 
-fields-rows-requires : tie.Need-fields-rows-requires
-fields-rows-requires c κs = search rules
+fields_rows-requires : tie.Need-fields_rows-requires
+fields_rows-requires c κs = search rules
 
-enum-known-of-3 : tie.Need-enum-known-of-3
-enum-known-of-3 c = search rules
+enum_known-of-in-Offset-1 : tie.Need-enum_known-of-in-Offset-1
+enum_known-of-in-Offset-1 c = search rules
 
-offset-rows-requires : tie.Need-offset-rows-requires
-offset-rows-requires c κs = search rules
+offset_rows-requires : tie.Need-offset_rows-requires
+offset_rows-requires c κs = search rules
 
-enum-told-3 : tie.Need-enum-told-3
-enum-told-3 c = search rules
+enum_told-in-AryBase : tie.Need-enum_told-in-AryBase
+enum_told-in-AryBase c = search rules
 
-ary-base-rows-requires : tie.Need-ary-base-rows-requires
-ary-base-rows-requires c κs = search rules
+ary_base_rows-requires : tie.Need-ary_base_rows-requires
+ary_base_rows-requires c κs = search rules
 
-enum-told-4 : tie.Need-enum-told-4
-enum-told-4 c = search rules
+enum_told-in-AryScale : tie.Need-enum_told-in-AryScale
+enum_told-in-AryScale c = search rules
 
-ary-scale-rows-requires : tie.Need-ary-scale-rows-requires
-ary-scale-rows-requires c κs = search rules
+ary_scale_rows-requires : tie.Need-ary_scale_rows-requires
+ary_scale_rows-requires c κs = search rules
 
-enum-known-of-4 : tie.Need-enum-known-of-4
-enum-known-of-4 c = search rules
+enum_known-of-in-Fill-1 : tie.Need-enum_known-of-in-Fill-1
+enum_known-of-in-Fill-1 c = search rules
 
-fill-rows-requires : tie.Need-fill-rows-requires
-fill-rows-requires c κs = search rules
+fill_rows-requires : tie.Need-fill_rows-requires
+fill_rows-requires c κs = search rules
 
-returns : tie.Need-returns
-returns c = as_rows c.before.enum_told.given.1 _ _ c.kind-rows.ensures
+returns-in-Name : tie.Need-returns-in-Name
+returns-in-Name c = as_rows c.in-Name.is _ _ c.kind_rows.ensures
 
-returns-2 : tie.Need-returns-2
-returns-2 c = as_rows c.before.before.of.given.1 _ _ c.find-rows.ensures
+returns-in-Find : tie.Need-returns-in-Find
+returns-in-Find c = as_rows c.in-Find.is _ _ c.find_rows.ensures
 
-returns-3 : tie.Need-returns-3
-returns-3 c = as_rows c.before.before.of2.given.1 _ _ c.find-alias-rows.ensures
+returns-in-FindAlias : tie.Need-returns-in-FindAlias
+returns-in-FindAlias c = as_rows c.in-FindAlias.is _ _ c.find_alias_rows.ensures
 
-returns-4 : tie.Need-returns-4
-returns-4 c = as_rows c.before.enum-told2.given.1 _ _ c.fields-rows.ensures
+returns-in-IsAry : tie.Need-returns-in-IsAry
+returns-in-IsAry c = as_rows c.in-IsAry.is _ _ c.fields_rows.ensures
 
-returns-5 : tie.Need-returns-5
-returns-5 c = as_rows c.before.before.of3.given.1 _ _ c.offset-rows.ensures
+returns-in-Offset : tie.Need-returns-in-Offset
+returns-in-Offset c = as_rows c.in-Offset.is _ _ c.offset_rows.ensures
 
-returns-6 : tie.Need-returns-6
-returns-6 c = as_rows c.before.enum-told3.given.1 _ _ c.ary-base-rows.ensures
+returns-in-AryBase : tie.Need-returns-in-AryBase
+returns-in-AryBase c = as_rows c.in-AryBase.is _ _ c.ary_base_rows.ensures
 
-returns-7 : tie.Need-returns-7
-returns-7 c = as_rows c.before.enum-told4.given.1 _ _ c.ary-scale-rows.ensures
+returns-in-AryScale : tie.Need-returns-in-AryScale
+returns-in-AryScale c = as_rows c.in-AryScale.is _ _ c.ary_scale_rows.ensures
 
-returns-8 : tie.Need-returns-8
-returns-8 c = as_rows c.before.before.of4.given.1 _ _ c.fill-rows.ensures
+returns-in-Fill : tie.Need-returns-in-Fill
+returns-in-Fill c = as_rows c.in-Fill.is _ _ c.fill_rows.ensures
 
-pub rows-of-spec : {M : Type 1} → statement M
-rows-of-spec =
+pub rows_of_spec : {M : Type 1} → statement M
+rows_of_spec =
     tie.close
     (tie.spec
-    enum_told
-    kind-rows-requires
-    enum-known-of
-    find-rows-requires
-    enum-known-of-2
-    find-alias-rows-requires
-    enum-told-2
-    fields-rows-requires
-    enum-known-of-3
-    offset-rows-requires
-    enum-told-3
-    ary-base-rows-requires
-    enum-told-4
-    ary-scale-rows-requires
-    enum-known-of-4
-    fill-rows-requires
-    returns
-    returns-2
-    returns-3
-    returns-4
-    returns-5
-    returns-6
-    returns-7
-    returns-8)
+    enum_told-1
+    kind_rows-requires
+    enum_known-of
+    find_rows-requires
+    enum_known-of-in-FindAlias-1
+    find_alias_rows-requires
+    enum_told-in-IsAry
+    fields_rows-requires
+    enum_known-of-in-Offset-1
+    offset_rows-requires
+    enum_told-in-AryBase
+    ary_base_rows-requires
+    enum_told-in-AryScale
+    ary_scale_rows-requires
+    enum_known-of-in-Fill-1
+    fill_rows-requires
+    returns-in-Name
+    returns-in-Find
+    returns-in-FindAlias
+    returns-in-IsAry
+    returns-in-Offset
+    returns-in-AryBase
+    returns-in-AryScale
+    returns-in-Fill)

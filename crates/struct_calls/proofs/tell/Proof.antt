@@ -11,119 +11,119 @@ use borrow.Author.Rules.{rules}
 use Rattle.struct_calls.proofs.tell.Statement.{statement}
 use Rattle.struct_calls.proofs.tell.Tie as tie
 
-enum_told : tie.Need-enum-told
-enum_told c = search rules
+enum_told-1 : tie.Need-enum_told-1
+enum_told-1 c = search rules
 
-slice-aggregate-word : tie.Need-slice-aggregate-word
-slice-aggregate-word c = search rules
+slice_bounds-word-end : tie.Need-slice_bounds-word-end
+slice_bounds-word-end c = search rules
 
-add-word : tie.Need-overflow-add-word
-add-word c = let s = c.before.before.before.before in omega (arith, kind_used is_struct s.args.s (as_cleared c.before.enum_told.given.1 s.args.s s.requires), within s.requires)
+overflow_add-s : tie.Need-overflow_add-s
+overflow_add-s c = omega (arith, kind_used is_struct c.args.s (as_cleared c.in-Name.is c.args.s c.requires), within c.requires)
 
 word-requires : tie.Need-word-requires
 word-requires c κs = search rules
 
-enum-known-of : tie.Need-enum-known-of
-enum-known-of c = search rules
+enum_known-of : tie.Need-enum_known-of
+enum_known-of c = search rules
 
 find-requires : tie.Need-find-requires
-find-requires c κs = let s = c.before.before.before.before in find_need _ _ _ _ (as_cleared c.before.of.given.1 s.args.s s.requires)
+find-requires c κs = find_need _ _ _ _ (as_cleared c.in-Find.is c.args.s c.requires)
 
 place-requires : tie.Need-place-requires
 place-requires c κs = search rules
 
-enum-known-of-2 : tie.Need-enum-known-of-2
-enum-known-of-2 c = search rules
+enum_known-of-in-FindAlias-1 : tie.Need-enum_known-of-in-FindAlias-1
+enum_known-of-in-FindAlias-1 c = search rules
 
-find-alias-requires : tie.Need-find-alias-requires
-find-alias-requires c κs = let s = c.before.before.before.before in alias_need _ _ _ _ (as_cleared c.before.of2.given.1 s.args.s s.requires)
+find_alias-requires : tie.Need-find_alias-requires
+find_alias-requires c κs = alias_need _ _ _ _ (as_cleared c.in-FindAlias.is c.args.s c.requires)
 
-place-requires-2 : tie.Need-place-requires-2
-place-requires-2 c κs = search rules
+place-requires-in-FindAlias : tie.Need-place-requires-in-FindAlias
+place-requires-in-FindAlias c κs = search rules
 
-enum-told-2 : tie.Need-enum-told-2
-enum-told-2 c = search rules
+enum_told-in-IsAry : tie.Need-enum_told-in-IsAry
+enum_told-in-IsAry c = search rules
 
-is-ary-requires : tie.Need-is-ary-requires
-is-ary-requires c κs = search rules
+is_ary-requires : tie.Need-is_ary-requires
+is_ary-requires c κs = search rules
 
-enum-known-of-3 : tie.Need-enum-known-of-3
-enum-known-of-3 c = search rules
+enum_known-of-in-Offset-1 : tie.Need-enum_known-of-in-Offset-1
+enum_known-of-in-Offset-1 c = search rules
 
 offset-requires : tie.Need-offset-requires
-offset-requires c κs = let s = c.before.before.before.before in offset_need _ _ _ _ (as_cleared c.before.of3.given.1 s.args.s s.requires)
+offset-requires c κs = offset_need _ _ _ _ (as_cleared c.in-Offset.is c.args.s c.requires)
 
-enum-told-3 : tie.Need-enum-told-3
-enum-told-3 c = search rules
+enum_told-in-AryBase : tie.Need-enum_told-in-AryBase
+enum_told-in-AryBase c = search rules
 
-offset-requires-2 : tie.Need-offset-requires-2
-offset-requires-2 c κs = let s = c.before.before.before in base_need _ _ _ (as_cleared c.enum-told3.given.1 s.args.s s.requires)
+offset-requires-in-AryBase : tie.Need-offset-requires-in-AryBase
+offset-requires-in-AryBase c κs = base_need _ _ _ (as_cleared c.in-AryBase.is c.args.s c.requires)
 
-enum-told-4 : tie.Need-enum-told-4
-enum-told-4 c = search rules
+enum_told-in-AryScale : tie.Need-enum_told-in-AryScale
+enum_told-in-AryScale c = search rules
 
-ary-scale-requires : tie.Need-ary-scale-requires
-ary-scale-requires c κs = let s = c.before.before.before in scale_need _ _ _ (as_cleared c.enum-told4.given.1 s.args.s s.requires)
+ary_scale-requires : tie.Need-ary_scale-requires
+ary_scale-requires c κs = scale_need _ _ _ (as_cleared c.in-AryScale.is c.args.s c.requires)
 
-enum-known-of-4 : tie.Need-enum-known-of-4
-enum-known-of-4 c = search rules
+enum_known-of-in-Fill-1 : tie.Need-enum_known-of-in-Fill-1
+enum_known-of-in-Fill-1 c = search rules
 
 filled-requires : tie.Need-filled-requires
 filled-requires c κs = search rules
 
-returns : tie.Need-returns
-returns c = as_told c.before.before.enum_told.given.1 _ _ (ap handle c.word.ensures)
+returns-in-Name : tie.Need-returns-in-Name
+returns-in-Name c = as_told c.in-Name.is _ _ (ap handle c.word.ensures)
 
-returns-2 : tie.Need-returns-2
-returns-2 c = as_told c.before.before.before.of.given.1 _ _ (c.place.ensures ∙ ap placed c.before.find.ensures)
+returns-in-Find : tie.Need-returns-in-Find
+returns-in-Find c = as_told c.in-Find.is _ _ (c.place.ensures ∙ ap placed c.find.ensures)
 
-returns-3 : tie.Need-returns-3
-returns-3 c = as_told c.before.before.before.of2.given.1 _ _ (c.place2.ensures ∙ ap placed c.before.find_alias.ensures)
+returns-in-FindAlias : tie.Need-returns-in-FindAlias
+returns-in-FindAlias c = as_told c.in-FindAlias.is _ _ (c.place-in-FindAlias.ensures ∙ ap placed c.find_alias.ensures)
 
-returns-4 : tie.Need-returns-4
-returns-4 c = as_told c.before.enum-told2.given.1 _ _ (ap flag c.is_ary.ensures)
+returns-in-IsAry : tie.Need-returns-in-IsAry
+returns-in-IsAry c = as_told c.in-IsAry.is _ _ (ap flag c.is_ary.ensures)
 
-returns-5 : tie.Need-returns-5
-returns-5 c = as_told c.before.before.of3.given.1 _ _ (ap number c.offset.ensures)
+returns-in-Offset : tie.Need-returns-in-Offset
+returns-in-Offset c = as_told c.in-Offset.is _ _ (ap number c.offset.ensures)
 
-returns-6 : tie.Need-returns-6
-returns-6 c = as_told c.before.enum-told3.given.1 _ _ (ap number c.offset2.ensures)
+returns-in-AryBase : tie.Need-returns-in-AryBase
+returns-in-AryBase c = as_told c.in-AryBase.is _ _ (ap number c.offset-in-AryBase.ensures)
 
-returns-7 : tie.Need-returns-7
-returns-7 c = as_told c.before.enum-told4.given.1 _ _ (ap number c.ary_scale.ensures)
+returns-in-AryScale : tie.Need-returns-in-AryScale
+returns-in-AryScale c = as_told c.in-AryScale.is _ _ (ap number c.ary_scale.ensures)
 
-returns-8 : tie.Need-returns-8
-returns-8 c = as_told c.before.before.of4.given.1 _ _ (ap number c.filled.ensures)
+returns-in-Fill : tie.Need-returns-in-Fill
+returns-in-Fill c = as_told c.in-Fill.is _ _ (ap number c.filled.ensures)
 
-pub tell-spec : {M : Type 1} → statement M
-tell-spec =
+pub tell_spec : {M : Type 1} → statement M
+tell_spec =
     tie.close
     (tie.spec
-    enum_told
-    slice-aggregate-word
-    add-word
+    enum_told-1
+    slice_bounds-word-end
+    overflow_add-s
     word-requires
-    enum-known-of
+    enum_known-of
     find-requires
     place-requires
-    enum-known-of-2
-    find-alias-requires
-    place-requires-2
-    enum-told-2
-    is-ary-requires
-    enum-known-of-3
+    enum_known-of-in-FindAlias-1
+    find_alias-requires
+    place-requires-in-FindAlias
+    enum_told-in-IsAry
+    is_ary-requires
+    enum_known-of-in-Offset-1
     offset-requires
-    enum-told-3
-    offset-requires-2
-    enum-told-4
-    ary-scale-requires
-    enum-known-of-4
+    enum_told-in-AryBase
+    offset-requires-in-AryBase
+    enum_told-in-AryScale
+    ary_scale-requires
+    enum_known-of-in-Fill-1
     filled-requires
-    returns
-    returns-2
-    returns-3
-    returns-4
-    returns-5
-    returns-6
-    returns-7
-    returns-8)
+    returns-in-Name
+    returns-in-Find
+    returns-in-FindAlias
+    returns-in-IsAry
+    returns-in-Offset
+    returns-in-AryBase
+    returns-in-AryScale
+    returns-in-Fill)
