@@ -4,55 +4,55 @@ use borrow.Author.Rules.{rules}
 use Rattle.lent_memory.proofs.is_final.Statement.{statement}
 use Rattle.lent_memory.proofs.is_final.Tie as tie
 
-is-final-requires : tie.Need-is-final-requires
-is-final-requires c κs = search rules
+is_final-requires : tie.Need-is_final-requires
+is_final-requires c κs = search rules
 
-same_length : tie.Need-same-length
-same_length c = search rules
+shape_of-scratch-then-n-eq0 : tie.Need-shape_of-scratch-then-n-eq0
+shape_of-scratch-then-n-eq0 c = search rules
+
+returns-then-n-eq0 : tie.Need-returns-then-n-eq0
+returns-then-n-eq0 c = search rules
+
+overflow_mul-n : tie.Need-overflow_mul-n
+overflow_mul-n c = search rules
+
+overflow_mul-n-2 : tie.Need-overflow_mul-n-2
+overflow_mul-n-2 c = search rules
+
+offset_bounds-memory-n : tie.Need-offset_bounds-memory-n
+offset_bounds-memory-n c = search rules
+
+slice_bounds-is_final-count : tie.Need-slice_bounds-is_final-count
+slice_bounds-is_final-count c = search rules
+
+slice_bounds-is_final-start : tie.Need-slice_bounds-is_final-start
+slice_bounds-is_final-start c = search rules
+
+slice_bounds-is_final-end : tie.Need-slice_bounds-is_final-end
+slice_bounds-is_final-end c = search rules
+
+is_final-requires-2 : tie.Need-is_final-requires-2
+is_final-requires-2 c κs = (c.requires.0, finals_lent c.requires.1)
+
+shape_of-memory : tie.Need-shape_of-memory
+shape_of-memory c = search rules
 
 returns : tie.Need-returns
-returns c = search rules
+returns c = (c.is_final-2.ensures.0, final_lent c.requires.1 c.is_final-2.ensures.1 c.is_final-2.auto.known)
 
-mul-is-final : tie.Need-overflow-mul-is-final
-mul-is-final c = search rules
-
-mul-is-final-2 : tie.Need-overflow-mul-is-final-2
-mul-is-final-2 c = search rules
-
-mul-is-final-3 : tie.Need-overflow-mul-is-final-3
-mul-is-final-3 c = search rules
-
-sub-is-final : tie.Need-overflow-sub-is-final
-sub-is-final c = search rules
-
-part-is-final-start : tie.Need-slice-bounds-is-final-start
-part-is-final-start c = search rules
-
-part-is-final-end : tie.Need-slice-bounds-is-final-end
-part-is-final-end c = search rules
-
-is-final-requires-2 : tie.Need-is-final-requires-2
-is-final-requires-2 c κs = (c.before.before.before.before.before.before.requires.0, finals_lent c.before.before.before.before.before.before.requires.1)
-
-same-length-2 : tie.Need-same-length-2
-same-length-2 c = search rules
-
-returns-2 : tie.Need-returns-2
-returns-2 c = (c.before.before.is-final2.ensures.0, final_lent c.before.before.before.before.before.before.before.before.before.requires.1 c.before.before.is-final2.ensures.1 c.before.before.is-final2.auto.1.1.1.1.0)
-
-pub is-final-spec : {M : Type 1} → statement M
-is-final-spec =
+pub is_final_spec : {M : Type 1} → statement M
+is_final_spec =
     tie.close
     (tie.spec
-    is-final-requires
-    same_length
-    returns
-    mul-is-final
-    mul-is-final-2
-    mul-is-final-3
-    sub-is-final
-    part-is-final-start
-    part-is-final-end
-    is-final-requires-2
-    same-length-2
-    returns-2)
+    is_final-requires
+    shape_of-scratch-then-n-eq0
+    returns-then-n-eq0
+    overflow_mul-n
+    overflow_mul-n-2
+    offset_bounds-memory-n
+    slice_bounds-is_final-count
+    slice_bounds-is_final-start
+    slice_bounds-is_final-end
+    is_final-requires-2
+    shape_of-memory
+    returns)

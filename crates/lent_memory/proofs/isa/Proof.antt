@@ -5,74 +5,73 @@ use borrow.Author.Rules.{rules}
 use Rattle.lent_memory.proofs.isa.Statement.{statement}
 use Rattle.lent_memory.proofs.isa.Tie as tie
 
-slice-aggregate-ask : tie.Need-slice-aggregate-ask
-slice-aggregate-ask c = used_words_is c.before.before.before.before.before.requires.0
+slice_bounds-ask-end : tie.Need-slice_bounds-ask-end
+slice_bounds-ask-end c = used_words_is c.requires.0
 
-slice-aggregate-ask-2 : tie.Need-slice-aggregate-ask-2
-slice-aggregate-ask-2 c = search rules
+slice_bounds-ask-end-then-n-eq0 : tie.Need-slice_bounds-ask-end-then-n-eq0
+slice_bounds-ask-end-then-n-eq0 c = search rules
 
-ask-requires : tie.Need-ask-requires
-ask-requires c κs = let s = c.before.before.before.before.before.before in (ask_ready s.requires.0, ask_covers s.requires.0 s.requires.1.1)
+ask-m-requires : tie.Need-ask-m-requires
+ask-m-requires c κs = (ask_ready c.requires.0, ask_covers c.requires.0 c.requires.1.1)
 
-is-second-requires : tie.Need-is-second-requires
-is-second-requires c κs = search rules
+is_second-requires : tie.Need-is_second-requires
+is_second-requires c κs = search rules
+
+returns-then-n-eq0 : tie.Need-returns-then-n-eq0
+returns-then-n-eq0 c = (isa_second c.requires.0 _ _ c.ask-m.ensures _ c.is_second.ensures, c.requires.1.0)
+
+slice_bounds-meet_type-end : tie.Need-slice_bounds-meet_type-end
+slice_bounds-meet_type-end c = used_words_is c.requires.0
+
+slice_bounds-meet_type-end-2 : tie.Need-slice_bounds-meet_type-end-2
+slice_bounds-meet_type-end-2 c = search rules
+
+overflow_mul-n : tie.Need-overflow_mul-n
+overflow_mul-n c = search rules
+
+offset_bounds-memory-n : tie.Need-offset_bounds-memory-n
+offset_bounds-memory-n c = search rules
+
+slice_bounds-meet_type-count : tie.Need-slice_bounds-meet_type-count
+slice_bounds-meet_type-count c = search rules
+
+slice_bounds-meet_type-start : tie.Need-slice_bounds-meet_type-start
+slice_bounds-meet_type-start c = search rules
+
+slice_bounds-meet_type-end-3 : tie.Need-slice_bounds-meet_type-end-3
+slice_bounds-meet_type-end-3 c = search rules
+
+meet_type-m-requires : tie.Need-meet_type-m-requires
+meet_type-m-requires c κs = (ask_ready c.requires.0, (meets_lent (ask_right c.requires.0 c.requires.1.0), ask_covers c.requires.0 c.requires.1.1))
+
+is_second-requires-2 : tie.Need-is_second-requires-2
+is_second-requires-2 c κs = search rules
+
+shape_of-memory : tie.Need-shape_of-memory
+shape_of-memory c = search rules
 
 returns : tie.Need-returns
-returns c = let s = c.before.before.before.before.before.before.before.before.before in (isa_second s.requires.0 _ _ c.before.before.ask.ensures _ c.is_second.ensures, s.requires.1.0)
+returns c =
+    let m = c.meet_type-m in
+    (isa_second c.requires.0 _ _ m.ensures.0 _ c.is_second-2.ensures, isa_right c.requires.0 _ _ m.ensures.0 m.auto.new c.requires.1.0 m.ensures.1 m.auto.memo)
 
-slice-aggregate-meet-type : tie.Need-slice-aggregate-meet-type
-slice-aggregate-meet-type c = used_words_is c.before.before.before.before.before.requires.0
-
-slice-aggregate-meet-type-2 : tie.Need-slice-aggregate-meet-type-2
-slice-aggregate-meet-type-2 c = search rules
-
-mul-meet-type : tie.Need-overflow-mul-meet-type
-mul-meet-type c = search rules
-
-mul-meet-type-2 : tie.Need-overflow-mul-meet-type-2
-mul-meet-type-2 c = search rules
-
-sub-meet-type : tie.Need-overflow-sub-meet-type
-sub-meet-type c = search rules
-
-part-meet-type-start : tie.Need-slice-bounds-meet-type-start
-part-meet-type-start c = search rules
-
-part-meet-type-end : tie.Need-slice-bounds-meet-type-end
-part-meet-type-end c = search rules
-
-meet-type-requires : tie.Need-meet-type-requires
-meet-type-requires c κs = let s = c.before.before.before.before.before.before.before in (ask_ready s.requires.0, (meets_lent (ask_right s.requires.0 s.requires.1.0), ask_covers s.requires.0 s.requires.1.1))
-
-is-second-requires-2 : tie.Need-is-second-requires-2
-is-second-requires-2 c κs = search rules
-
-same_length : tie.Need-same-length
-same_length c = search rules
-
-returns-2 : tie.Need-returns-2
-returns-2 c =
-    let s = c.before.before.before.before.before.before.before.before.before.before.before.before in
-    let m = c.before.before.before.before.meet-type in
-    (isa_second s.requires.0 _ _ m.ensures.0 _ c.is-second2.ensures, isa_right s.requires.0 _ _ m.ensures.0 m.auto.1.0 s.requires.1.0 m.ensures.1 m.auto.1.1.1.1.1.0)
-
-pub isa-spec : {M : Type 1} → statement M
-isa-spec =
+pub isa_spec : {M : Type 1} → statement M
+isa_spec =
     tie.close
     (tie.spec
-    slice-aggregate-ask
-    slice-aggregate-ask-2
-    ask-requires
-    is-second-requires
-    returns
-    slice-aggregate-meet-type
-    slice-aggregate-meet-type-2
-    mul-meet-type
-    mul-meet-type-2
-    sub-meet-type
-    part-meet-type-start
-    part-meet-type-end
-    meet-type-requires
-    is-second-requires-2
-    same_length
-    returns-2)
+    slice_bounds-ask-end
+    slice_bounds-ask-end-then-n-eq0
+    ask-m-requires
+    is_second-requires
+    returns-then-n-eq0
+    slice_bounds-meet_type-end
+    slice_bounds-meet_type-end-2
+    overflow_mul-n
+    offset_bounds-memory-n
+    slice_bounds-meet_type-count
+    slice_bounds-meet_type-start
+    slice_bounds-meet_type-end-3
+    meet_type-m-requires
+    is_second-requires-2
+    shape_of-memory
+    returns)

@@ -8,44 +8,44 @@ use Rattle.lent_memory.proofs.join.Tie as tie
 join-requires : tie.Need-join-requires
 join-requires c κs = search rules
 
-same_length : tie.Need-same-length
-same_length c = search rules
+shape_of-new-then-n-eq0 : tie.Need-shape_of-new-then-n-eq0
+shape_of-new-then-n-eq0 c = search rules
 
-returns : tie.Need-returns
-returns c = joined_own c.before.before.before.before.before.before.before.before.before.requires.0 c.before.before.before.before.before.before.before.before.before.requires.1.0 _ c.before.before.join.ensures
+returns-then-n-eq0 : tie.Need-returns-then-n-eq0
+returns-then-n-eq0 c = joined_own c.requires.0 c.requires.1.0 _ c.join.ensures
 
-mul-join : tie.Need-overflow-mul-join
-mul-join c = search rules
+overflow_mul-n : tie.Need-overflow_mul-n
+overflow_mul-n c = search rules
 
-slice-relend-prefix-join : tie.Need-slice-relend-prefix-join
-slice-relend-prefix-join c = search rules
+slice_bounds-join-end : tie.Need-slice_bounds-join-end
+slice_bounds-join-end c = search rules
 
-slice-aggregate-join : tie.Need-slice-aggregate-join
-slice-aggregate-join c = front_long c.before.before.before.before.before.before.before.args.memory.now
+slice_bounds-join-end-2 : tie.Need-slice_bounds-join-end-2
+slice_bounds-join-end-2 c = front_long c.args.memory.now
 
 join-requires-2 : tie.Need-join-requires-2
-join-requires-2 c κs = (c.before.before.before.before.before.before.before.requires.0, (both_lent c.before.before.before.before.before.before.before.requires.1.0, c.before.before.before.before.before.before.before.requires.1.1))
+join-requires-2 c κs = (c.requires.0, (both_lent c.requires.1.0, c.requires.1.1))
 
-same-length-2 : tie.Need-same-length-2
-same-length-2 c = search rules
+shape_of-new : tie.Need-shape_of-new
+shape_of-new c = search rules
 
-same-length-3 : tie.Need-same-length-3
-same-length-3 c = search rules
+shape_of-memory : tie.Need-shape_of-memory
+shape_of-memory c = search rules
 
-returns-2 : tie.Need-returns-2
-returns-2 c = joined_lent c.before.before.before.before.before.before.before.before.before.before.before.before.requires.0 c.before.before.before.before.before.before.before.before.before.before.before.before.requires.1.0 _ c.before.before.before.before.join2.ensures.0 c.before.before.before.before.join2.ensures.1 c.before.before.before.before.join2.auto.1.1.1.1.1.0
+returns : tie.Need-returns
+returns c = joined_lent c.requires.0 c.requires.1.0 _ c.join-2.ensures.0 c.join-2.ensures.1 c.join-2.auto.memory
 
-pub join-spec : {M : Type 1} → statement M
-join-spec =
+pub join_spec : {M : Type 1} → statement M
+join_spec =
     tie.close
     (tie.spec
     join-requires
-    same_length
-    returns
-    mul-join
-    slice-relend-prefix-join
-    slice-aggregate-join
+    shape_of-new-then-n-eq0
+    returns-then-n-eq0
+    overflow_mul-n
+    slice_bounds-join-end
+    slice_bounds-join-end-2
     join-requires-2
-    same-length-2
-    same-length-3
-    returns-2)
+    shape_of-new
+    shape_of-memory
+    returns)

@@ -4,21 +4,21 @@ use borrow.Author.Rules.{rules}
 use Rattle.lent_memory.proofs.make_ro_small.Statement.{statement}
 use Rattle.lent_memory.proofs.make_ro_small.Tie as tie
 
-slice-aggregate-make-ro : tie.Need-slice-aggregate-make-ro
-slice-aggregate-make-ro c = search rules
+slice_bounds-make_ro-end : tie.Need-slice_bounds-make_ro-end
+slice_bounds-make_ro-end c = search rules
 
-make-ro-requires : tie.Need-make-ro-requires
-make-ro-requires c κs = (c.before.before.before.before.before.before.before.requires.0, (record { lines = c.before.before.before.before.before.before.before.requires.1.0; finals = knows_blank _ 0 }, c.before.before.before.before.before.before.before.requires.1.1))
+make_ro-requires : tie.Need-make_ro-requires
+make_ro-requires c κs = (c.requires.0, (record { lines = c.requires.1.0; finals = knows_blank _ 0 }, c.requires.1.1))
 
-same_length : tie.Need-same-length
-same_length c = search rules
+shape_of-new : tie.Need-shape_of-new
+shape_of-new c = search rules
 
-same-length-2 : tie.Need-same-length-2
-same-length-2 c = search rules
+shape_of-memo : tie.Need-shape_of-memo
+shape_of-memo c = search rules
 
 returns : tie.Need-returns
-returns c = (c.before.before.before.before.before.make_ro.ensures.0, record { is = λ h v e. (c.before.before.before.before.before.make_ro.ensures.1.is h v e).lines })
+returns c = (c.make_ro.ensures.0, record { is = λ h v e. (c.make_ro.ensures.1.is h v e).lines })
 
-pub make-ro-small-spec : {M : Type 1} → statement M
-make-ro-small-spec =
-    tie.close (tie.spec slice-aggregate-make-ro make-ro-requires same_length same-length-2 returns)
+pub make_ro_small_spec : {M : Type 1} → statement M
+make_ro_small_spec =
+    tie.close (tie.spec slice_bounds-make_ro-end make_ro-requires shape_of-new shape_of-memo returns)

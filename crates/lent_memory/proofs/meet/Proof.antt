@@ -5,59 +5,59 @@ use borrow.Author.Rules.{rules}
 use Rattle.lent_memory.proofs.meet.Statement.{statement}
 use Rattle.lent_memory.proofs.meet.Tie as tie
 
-slice-aggregate-run : tie.Need-slice-aggregate-run
-slice-aggregate-run c = search rules
+slice_bounds-run-end : tie.Need-slice_bounds-run-end
+slice_bounds-run-end c = search rules
 
 run-requires : tie.Need-run-requires
-run-requires c κs = (c.before.before.before.before.before.before.before.requires.0, (knows_blank _ 0, c.before.before.before.before.before.before.before.requires.1.1))
+run-requires c κs = (c.requires.0, (knows_blank _ 0, c.requires.1.1))
 
-same_length : tie.Need-same-length
-same_length c = search rules
+shape_of-new-then-n-eq0 : tie.Need-shape_of-new-then-n-eq0
+shape_of-new-then-n-eq0 c = search rules
+
+returns-then-n-eq0 : tie.Need-returns-then-n-eq0
+returns-then-n-eq0 c = met_own c.requires.0 c.requires.1.0 c.run.ensures.0
+
+overflow_mul-n : tie.Need-overflow_mul-n
+overflow_mul-n c = search rules
+
+offset_bounds-memory-n : tie.Need-offset_bounds-memory-n
+offset_bounds-memory-n c = search rules
+
+slice_bounds-meet_type-count : tie.Need-slice_bounds-meet_type-count
+slice_bounds-meet_type-count c = search rules
+
+slice_bounds-meet_type-start : tie.Need-slice_bounds-meet_type-start
+slice_bounds-meet_type-start c = search rules
+
+slice_bounds-meet_type-end : tie.Need-slice_bounds-meet_type-end
+slice_bounds-meet_type-end c = search rules
+
+meet_type-requires : tie.Need-meet_type-requires
+meet_type-requires c κs = (c.requires.0, (meets_lent c.requires.1.0, c.requires.1.1))
+
+shape_of-new : tie.Need-shape_of-new
+shape_of-new c = search rules
+
+shape_of-memory : tie.Need-shape_of-memory
+shape_of-memory c = search rules
 
 returns : tie.Need-returns
-returns c = met_own c.before.before.before.before.before.before.before.before.before.before.before.requires.0 c.before.before.before.before.before.before.before.before.before.before.before.requires.1.0 c.before.before.before.run.ensures.0
+returns c = met_lent c.requires.0 c.requires.1.0 c.meet_type.ensures.0 c.meet_type.ensures.1.after c.meet_type.auto.memo
 
-mul-meet-type : tie.Need-overflow-mul-meet-type
-mul-meet-type c = search rules
-
-mul-meet-type-2 : tie.Need-overflow-mul-meet-type-2
-mul-meet-type-2 c = search rules
-
-sub-meet-type : tie.Need-overflow-sub-meet-type
-sub-meet-type c = search rules
-
-part-meet-type-start : tie.Need-slice-bounds-meet-type-start
-part-meet-type-start c = search rules
-
-part-meet-type-end : tie.Need-slice-bounds-meet-type-end
-part-meet-type-end c = search rules
-
-meet-type-requires : tie.Need-meet-type-requires
-meet-type-requires c κs = (c.before.before.before.before.before.before.before.requires.0, (meets_lent c.before.before.before.before.before.before.before.requires.1.0, c.before.before.before.before.before.before.before.requires.1.1))
-
-same-length-2 : tie.Need-same-length-2
-same-length-2 c = search rules
-
-same-length-3 : tie.Need-same-length-3
-same-length-3 c = search rules
-
-returns-2 : tie.Need-returns-2
-returns-2 c = met_lent c.before.before.before.before.before.before.before.before.before.before.before.before.requires.0 c.before.before.before.before.before.before.before.before.before.before.before.before.requires.1.0 c.before.before.before.before.meet-type.ensures.0 c.before.before.before.before.meet-type.ensures.1.after c.before.before.before.before.meet-type.auto.1.1.1.1.1.0
-
-pub meet-spec : {M : Type 1} → statement M
-meet-spec =
+pub meet_spec : {M : Type 1} → statement M
+meet_spec =
     tie.close
     (tie.spec
-    slice-aggregate-run
+    slice_bounds-run-end
     run-requires
-    same_length
-    returns
-    mul-meet-type
-    mul-meet-type-2
-    sub-meet-type
-    part-meet-type-start
-    part-meet-type-end
-    meet-type-requires
-    same-length-2
-    same-length-3
-    returns-2)
+    shape_of-new-then-n-eq0
+    returns-then-n-eq0
+    overflow_mul-n
+    offset_bounds-memory-n
+    slice_bounds-meet_type-count
+    slice_bounds-meet_type-start
+    slice_bounds-meet_type-end
+    meet_type-requires
+    shape_of-new
+    shape_of-memory
+    returns)

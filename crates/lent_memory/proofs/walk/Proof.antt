@@ -5,67 +5,67 @@ use borrow.Author.Rules.{rules}
 use Rattle.lent_memory.proofs.walk.Statement.{statement}
 use Rattle.lent_memory.proofs.walk.Tie as tie
 
-slice-aggregate-run : tie.Need-slice-aggregate-run
-slice-aggregate-run c = search rules
+slice_bounds-run-end : tie.Need-slice_bounds-run-end
+slice_bounds-run-end c = search rules
 
 run-requires : tie.Need-run-requires
-run-requires c κs = (c.before.before.before.before.before.before.before.requires.0, (knows_blank _ 0, c.before.before.before.before.before.before.before.requires.1.1))
+run-requires c κs = (c.requires.0, (knows_blank _ 0, c.requires.1.1))
 
-same_length : tie.Need-same-length
-same_length c = search rules
+shape_of-new-then-n-eq0 : tie.Need-shape_of-new-then-n-eq0
+shape_of-new-then-n-eq0 c = search rules
+
+returns-then-n-eq0 : tie.Need-returns-then-n-eq0
+returns-then-n-eq0 c = walked_own c.requires.0 c.requires.1.0 c.run.ensures.0
+
+part_of-requires : tie.Need-part_of-requires
+part_of-requires c κs = search rules
+
+overflow_mul-from : tie.Need-overflow_mul-from
+overflow_mul-from c = let h = walk_end c.args.memory.now c.args.op c.part_of.result c.part_of.ensures in search rules
+
+overflow_add-end : tie.Need-overflow_add-end
+overflow_add-end c = let h = walk_end c.args.memory.now c.args.op c.part_of.result c.part_of.ensures in search rules
+
+offset_bounds-memory-from : tie.Need-offset_bounds-memory-from
+offset_bounds-memory-from c = let h = walk_end c.args.memory.now c.args.op c.part_of.result c.part_of.ensures in search rules
+
+slice_bounds-walk_type-count : tie.Need-slice_bounds-walk_type-count
+slice_bounds-walk_type-count c = search rules
+
+slice_bounds-walk_type-start : tie.Need-slice_bounds-walk_type-start
+slice_bounds-walk_type-start c = search rules
+
+slice_bounds-walk_type-end : tie.Need-slice_bounds-walk_type-end
+slice_bounds-walk_type-end c = let h = walk_end c.args.memory.now c.args.op c.part_of.result c.part_of.ensures in search rules
+
+walk_type-requires : tie.Need-walk_type-requires
+walk_type-requires c κs = (c.requires.0, (walks_lent c.requires.1.0 _ _ c.part_of.ensures, c.requires.1.1))
+
+shape_of-new : tie.Need-shape_of-new
+shape_of-new c = search rules
+
+shape_of-memory : tie.Need-shape_of-memory
+shape_of-memory c = search rules
 
 returns : tie.Need-returns
-returns c = walked_own c.before.before.before.before.before.before.before.before.before.before.before.requires.0 c.before.before.before.before.before.before.before.before.before.before.before.requires.1.0 c.before.before.before.run.ensures.0
+returns c = walked_lent c.requires.0 c.requires.1.0 c.walk_type.ensures.0 c.walk_type.ensures.1 _ c.part_of.ensures c.walk_type.auto.memo
 
-part-of-requires : tie.Need-part-of-requires
-part-of-requires c κs = search rules
-
-mul-from : tie.Need-overflow-mul-from
-mul-from c = let h = walk_end c.before.before.before.before.before.before.args.memory.now c.before.before.before.before.before.before.args.op c.part_of.result c.part_of.ensures in search rules
-
-add-end : tie.Need-overflow-add-end
-add-end c = let h = walk_end c.before.before.before.before.before.before.args.memory.now c.before.before.before.before.before.before.args.op c.part_of.result c.part_of.ensures in search rules
-
-mul-walk-type : tie.Need-overflow-mul-walk-type
-mul-walk-type c = let h = walk_end c.before.before.before.before.before.before.before.args.memory.now c.before.before.before.before.before.before.before.args.op c.before.part_of.result c.before.part_of.ensures in search rules
-
-sub-walk-type : tie.Need-overflow-sub-walk-type
-sub-walk-type c = search rules
-
-part-walk-type-start : tie.Need-slice-bounds-walk-type-start
-part-walk-type-start c = search rules
-
-part-walk-type-end : tie.Need-slice-bounds-walk-type-end
-part-walk-type-end c = let h = walk_end c.before.before.before.before.before.before.before.args.memory.now c.before.before.before.before.before.before.before.args.op c.before.part_of.result c.before.part_of.ensures in search rules
-
-walk-type-requires : tie.Need-walk-type-requires
-walk-type-requires c κs = (c.before.before.before.before.before.before.before.before.requires.0, (walks_lent c.before.before.before.before.before.before.before.before.requires.1.0 _ _ c.before.before.part_of.ensures, c.before.before.before.before.before.before.before.before.requires.1.1))
-
-same-length-2 : tie.Need-same-length-2
-same-length-2 c = search rules
-
-same-length-3 : tie.Need-same-length-3
-same-length-3 c = search rules
-
-returns-2 : tie.Need-returns-2
-returns-2 c = walked_lent c.before.before.before.before.before.before.before.before.before.before.before.before.before.requires.0 c.before.before.before.before.before.before.before.before.before.before.before.before.before.requires.1.0 c.before.before.before.before.walk-type.ensures.0 c.before.before.before.before.walk-type.ensures.1 _ c.before.before.before.before.before.before.before.part_of.ensures c.before.before.before.before.walk-type.auto.1.1.1.1.1.0
-
-pub walk-spec : {M : Type 1} → statement M
-walk-spec =
+pub walk_spec : {M : Type 1} → statement M
+walk_spec =
     tie.close
     (tie.spec
-    slice-aggregate-run
+    slice_bounds-run-end
     run-requires
-    same_length
-    returns
-    part-of-requires
-    mul-from
-    add-end
-    mul-walk-type
-    sub-walk-type
-    part-walk-type-start
-    part-walk-type-end
-    walk-type-requires
-    same-length-2
-    same-length-3
-    returns-2)
+    shape_of-new-then-n-eq0
+    returns-then-n-eq0
+    part_of-requires
+    overflow_mul-from
+    overflow_add-end
+    offset_bounds-memory-from
+    slice_bounds-walk_type-count
+    slice_bounds-walk_type-start
+    slice_bounds-walk_type-end
+    walk_type-requires
+    shape_of-new
+    shape_of-memory
+    returns)
