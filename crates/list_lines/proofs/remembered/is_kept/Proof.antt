@@ -4,43 +4,43 @@ use borrow.Author.Rules.{rules}
 use Rattle.list_lines.proofs.remembered.is_kept.Statement.{statement}
 use Rattle.list_lines.proofs.remembered.is_kept.Tie as tie
 
-returns : tie.Need-returns
-returns c = search too_short
+returns-then-kept-n : tie.Need-returns-then-kept-n
+returns-then-kept-n c = search too_short
 
-shared-slice-read-if2 : tie.Need-shared-slice-read-if2
-shared-slice-read-if2 c = search rules
+bounds-kept-0 : tie.Need-bounds-kept-0
+bounds-kept-0 c = search rules
 
-returns-2 : tie.Need-returns-2
-returns-2 c = search other_first
+returns-then-kept-n-2 : tie.Need-returns-then-kept-n-2
+returns-then-kept-n-2 c = search other_first
 
-add_same : tie.Need-overflow-add-same
-add_same c = search rules
+overflow_add-n : tie.Need-overflow_add-n
+overflow_add-n c = search rules
 
-sub_same : tie.Need-overflow-sub-same
-sub_same c = search rules
+slice_bounds-same-count : tie.Need-slice_bounds-same-count
+slice_bounds-same-count c = search rules
 
-part-same-start : tie.Need-slice-bounds-same-start
-part-same-start c = search rules
+slice_bounds-same-start : tie.Need-slice_bounds-same-start
+slice_bounds-same-start c = search rules
 
-part-same-end : tie.Need-slice-bounds-same-end
-part-same-end c = search rules
+slice_bounds-same-end : tie.Need-slice_bounds-same-end
+slice_bounds-same-end c = search rules
 
 same-requires : tie.Need-same-requires
 same-requires c κs = search rules
 
-returns-3 : tie.Need-returns-3
-returns-3 c = search same_first
+returns : tie.Need-returns
+returns c = search same_first
 
-pub is-kept-spec : {M : Type 1} → statement M
-is-kept-spec =
+pub is_kept_spec : {M : Type 1} → statement M
+is_kept_spec =
     tie.close
     (tie.spec
-    returns
-    shared-slice-read-if2
-    returns-2
-    add_same
-    sub_same
-    part-same-start
-    part-same-end
+    returns-then-kept-n
+    bounds-kept-0
+    returns-then-kept-n-2
+    overflow_add-n
+    slice_bounds-same-count
+    slice_bounds-same-start
+    slice_bounds-same-end
     same-requires
-    returns-3)
+    returns)

@@ -4,23 +4,23 @@ use borrow.Author.Rules.{rules}
 use Rattle.list_lines.proofs.remembered.keep.Statement.{statement}
 use Rattle.list_lines.proofs.remembered.keep.Tie as tie
 
-sub-write : tie.Need-overflow-sub-write
-sub-write c = search rules
+slice_bounds-write-count : tie.Need-slice_bounds-write-count
+slice_bounds-write-count c = search rules
 
-part-write-start : tie.Need-slice-bounds-write-start
-part-write-start c = search rules
+slice_bounds-write-start : tie.Need-slice_bounds-write-start
+slice_bounds-write-start c = search rules
 
-part-write-end : tie.Need-slice-bounds-write-end
-part-write-end c = search rules
+slice_bounds-write-end : tie.Need-slice_bounds-write-end
+slice_bounds-write-end c = search rules
 
 write-requires : tie.Need-write-requires
 write-requires c κs = search rules
 
-slice-write-kept : tie.Need-slice-write-kept
-slice-write-kept c = search rules
+bounds-kept-0 : tie.Need-bounds-kept-0
+bounds-kept-0 c = search rules
 
-same_length : tie.Need-same-length
-same_length c = search rules
+shape_of-kept : tie.Need-shape_of-kept
+shape_of-kept c = search rules
 
 returns : tie.Need-returns
 returns c = search put
@@ -29,10 +29,10 @@ pub keep_spec : {M : Type 1} → statement M
 keep_spec =
     tie.close
     (tie.spec
-    sub-write
-    part-write-start
-    part-write-end
+    slice_bounds-write-count
+    slice_bounds-write-start
+    slice_bounds-write-end
     write-requires
-    slice-write-kept
-    same_length
+    bounds-kept-0
+    shape_of-kept
     returns)
