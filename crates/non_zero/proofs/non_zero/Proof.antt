@@ -4,69 +4,66 @@ use borrow.Author.Rules.{rules}
 use Rattle.non_zero.proofs.non_zero.Statement.{statement}
 use Rattle.non_zero.proofs.non_zero.Tie as tie
 
-word-requires : tie.Need-word-requires
-word-requires c κs = search rules
+word-k-requires : tie.Need-word-k-requires
+word-k-requires c κs = search rules
 
-add-word : tie.Need-overflow-add-word
-add-word c = search rules
+overflow_add-a : tie.Need-overflow_add-a
+overflow_add-a c = search rules
 
-word-requires-2 : tie.Need-word-requires-2
-word-requires-2 c κs = search rules
+word-min-requires : tie.Need-word-min-requires
+word-min-requires c κs = search rules
 
-add-word-2 : tie.Need-overflow-add-word-2
-add-word-2 c = search rules
+overflow_add-a-then-k-eq-INT : tie.Need-overflow_add-a-then-k-eq-INT
+overflow_add-a-then-k-eq-INT c = search rules
 
-word-requires-3 : tie.Need-word-requires-3
-word-requires-3 c κs = search rules
+word-max-requires : tie.Need-word-max-requires
+word-max-requires c κs = search rules
 
-non-zero-int-requires : tie.Need-non-zero-int-requires
-non-zero-int-requires c κs = int_ready c.before.before.before.before.before.before.before.before.before.before.before.before.requires.0 c.before.before.before.before.before.before.before.before.before.before.before.before.requires.1.1
+non_zero_int-requires : tie.Need-non_zero_int-requires
+non_zero_int-requires c κs = int_ready c.requires.0 c.requires.1.1
 
-same_length : tie.Need-same-length
-same_length c = search rules
+shape_of-new-then-k-eq-INT : tie.Need-shape_of-new-then-k-eq-INT
+shape_of-new-then-k-eq-INT c = search rules
 
-returns : tie.Need-returns
-returns c =
-    let start = c.before.before.before.before.before.before.before.before.before.before.before.before.before.before.before in
-    an_int start.requires.0 start.requires.1.0 _ c.before.before.before.before.before.before.before.before.before.word.ensures c.before.before.before.before.before.before.before.before.if1.true _ _ c.before.before.before.before.before.before.word2.ensures c.before.before.before.before.word3.ensures c.before.before.non-zero-int.ensures
+returns-then-k-eq-INT : tie.Need-returns-then-k-eq-INT
+returns-then-k-eq-INT c =
+    an_int c.requires.0 c.requires.1.0 _ c.word-k.ensures c.if-k-eq-INT.true _ _ c.word-min.ensures c.word-max.ensures c.non_zero_int.ensures
 
-same-length-2 : tie.Need-same-length-2
-same-length-2 c = search rules
+shape_of-new-then-k-eq-MEM_PTR : tie.Need-shape_of-new-then-k-eq-MEM_PTR
+shape_of-new-then-k-eq-MEM_PTR c = search rules
 
-returns-2 : tie.Need-returns-2
-returns-2 c =
-    let start = c.before.before.before.before.before.before.before.before in
-    a_pointer start.requires.0 start.requires.1.0 _ c.before.before.word.ensures c.before.if1.false c.if2.true
+returns-then-k-eq-MEM_PTR : tie.Need-returns-then-k-eq-MEM_PTR
+returns-then-k-eq-MEM_PTR c =
+    a_pointer c.requires.0 c.requires.1.0 _ c.word-k.ensures c.if-k-eq-INT.false c.if-k-eq-MEM_PTR.true
 
 walk-requires : tie.Need-walk-requires
 walk-requires c κs = search rules
 
-same-length-3 : tie.Need-same-length-3
-same-length-3 c = search rules
+shape_of-new : tie.Need-shape_of-new
+shape_of-new c = search rules
 
-same-length-4 : tie.Need-same-length-4
-same-length-4 c = search rules
+shape_of-memory : tie.Need-shape_of-memory
+shape_of-memory c = search rules
 
-returns-3 : tie.Need-returns-3
-returns-3 c =
-    let start = c.before.before.before.before.before.before.before.before.before.before.before.before.before.before.before in
-    another start.requires.0 start.requires.1.0 _ c.before.before.before.before.before.before.before.before.before.word.ensures c.before.before.before.before.before.before.before.before.if1.false c.before.before.before.before.before.before.before.if2.false c.before.before.before.before.walk.ensures
+returns : tie.Need-returns
+returns c =
+    another c.requires.0 c.requires.1.0 _ c.word-k.ensures c.if-k-eq-INT.false c.if-k-eq-MEM_PTR.false c.walk.ensures
 
-pub non-zero-spec : {M : Type 1} → statement M
-non-zero-spec =
+pub non_zero_spec : {M : Type 1} → statement M
+non_zero_spec =
     tie.close
     (tie.spec
-    word-requires
-    add-word
-    word-requires-2
-    add-word-2
-    word-requires-3
-    non-zero-int-requires
-    same_length
-    returns
-    same-length-2
-    returns-2
+    word-k-requires
+    overflow_add-a
+    word-min-requires
+    overflow_add-a-then-k-eq-INT
+    word-max-requires
+    non_zero_int-requires
+    shape_of-new-then-k-eq-INT
+    returns-then-k-eq-INT
+    shape_of-new-then-k-eq-MEM_PTR
+    returns-then-k-eq-MEM_PTR
     walk-requires
-    same-length-3
-    same-length-4
-    returns-3)
+    shape_of-new
+    shape_of-memory
+    returns)

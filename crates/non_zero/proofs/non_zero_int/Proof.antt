@@ -4,47 +4,47 @@ use borrow.Author.Rules.{rules}
 use Rattle.non_zero.proofs.non_zero_int.Statement.{statement}
 use Rattle.non_zero.proofs.non_zero_int.Tie as tie
 
-is-less-requires : tie.Need-is-less-requires
-is-less-requires c κs = search rules
+is_less-requires : tie.Need-is_less-requires
+is_less-requires c κs = search rules
 
-returns : tie.Need-returns
-returns c = search int_high
+returns-then-is_less : tie.Need-returns-then-is_less
+returns-then-is_less c = search int_high
 
-larger-of-requires : tie.Need-larger-of-requires
-larger-of-requires c κs = search rules
+larger_of-requires : tie.Need-larger_of-requires
+larger_of-requires c κs = search rules
 
 int-requires : tie.Need-int-requires
 int-requires c κs = search rules
 
-same_length : tie.Need-same-length
-same_length c = search rules
+shape_of-new-then-min-eq0 : tie.Need-shape_of-new-then-min-eq0
+shape_of-new-then-min-eq0 c = search rules
 
-returns-2 : tie.Need-returns-2
-returns-2 c = search int_begins
+returns-then-min-eq0 : tie.Need-returns-then-min-eq0
+returns-then-min-eq0 c = search int_begins
 
-int-requires-2 : tie.Need-int-requires-2
-int-requires-2 c κs = search rules
+int-requires-then-max-eq0 : tie.Need-int-requires-then-max-eq0
+int-requires-then-max-eq0 c κs = search rules
 
-same-length-2 : tie.Need-same-length-2
-same-length-2 c = search rules
+shape_of-new-then-max-eq0 : tie.Need-shape_of-new-then-max-eq0
+shape_of-new-then-max-eq0 c = search rules
 
-returns-3 : tie.Need-returns-3
-returns-3 c = search int_ends
+returns-then-max-eq0 : tie.Need-returns-then-max-eq0
+returns-then-max-eq0 c = search int_ends
 
-returns-4 : tie.Need-returns-4
-returns-4 c = search int_stays
+returns : tie.Need-returns
+returns c = search int_stays
 
-pub non-zero-int-spec : {M : Type 1} → statement M
-non-zero-int-spec =
+pub non_zero_int_spec : {M : Type 1} → statement M
+non_zero_int_spec =
     tie.close
     (tie.spec
-    is-less-requires
-    returns
-    larger-of-requires
+    is_less-requires
+    returns-then-is_less
+    larger_of-requires
     int-requires
-    same_length
-    returns-2
-    int-requires-2
-    same-length-2
-    returns-3
-    returns-4)
+    shape_of-new-then-min-eq0
+    returns-then-min-eq0
+    int-requires-then-max-eq0
+    shape_of-new-then-max-eq0
+    returns-then-max-eq0
+    returns)
