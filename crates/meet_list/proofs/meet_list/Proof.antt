@@ -10,96 +10,90 @@ use borrow.Author.Rules.{rules}
 use Rattle.meet_list.proofs.meet_list.Statement.{statement}
 use Rattle.meet_list.proofs.meet_list.Tie as tie
 
-abbrev invariant-loop : tie.invariant-loop
-invariant-loop old new₀ used types memory₀ index t₀ v₀ i₀ new memory t v i = (i ≤ length types) × (length new ≡ length new₀) × (length memory ≡ length memory₀) × Merging old new₀ used types new t v i × Right (take v (old ++ new)) memory
+abbrev invariant-loop-i : tie.invariant-loop-i
+invariant-loop-i old new₀ used types memory₀ index t₀ v₀ i₀ new memory t v i = (i ≤ length types) × (length new ≡ length new₀) × (length memory ≡ length memory₀) × Merging old new₀ used types new t v i × Right (take v (old ++ new)) memory
 
-abbrev decreases-loop : tie.decreases-loop
-decreases-loop old new₀ used types memory₀ index t₀ v₀ i₀ new memory t v i = length types - i
+abbrev decreases-loop-i : tie.decreases-loop-i
+decreases-loop-i old new₀ used types memory₀ index t₀ v₀ i₀ new memory t v i = length types - i
 
-abbrev start : tie.At-loop invariant-loop decreases-loop → tie.Start invariant-loop decreases-loop
+abbrev start : tie.At-loop-i invariant-loop-i decreases-loop-i → tie.Start invariant-loop-i decreases-loop-i
 start l = l.before.before.before.before.before.before
 
 -- the turn in which a meet was made
-abbrev turn : tie.After-meet invariant-loop decreases-loop → tie.In-loop invariant-loop decreases-loop
+abbrev turn : tie.After-meet-m invariant-loop-i decreases-loop-i → tie.In-loop-i invariant-loop-i decreases-loop-i
 turn m = m.before.before.before.before
 
-loop-holds : tie.Need-loop-init invariant-loop decreases-loop
-loop-holds c = let s = c.before.before.before.before.before in (search rules, refl, refl, merging_begin s.requires.0, s.requires.1.0)
+loop-i-init : tie.Need-loop-i-init invariant-loop-i decreases-loop-i
+loop-i-init c = (search rules, refl, refl, merging_begin c.requires.0, c.requires.1.0)
 
-mul-meet : tie.Need-overflow-mul-meet invariant-loop decreases-loop
-mul-meet c = search rules
+offset_bounds-types-i : tie.Need-offset_bounds-types-i invariant-loop-i decreases-loop-i
+offset_bounds-types-i c = search rules
 
-shared-slice-read-meet : tie.Need-shared-slice-read-meet invariant-loop decreases-loop
-shared-slice-read-meet c = search rules
+bounds-types-i : tie.Need-bounds-types-i invariant-loop-i decreases-loop-i
+bounds-types-i c = search rules
 
-meet-requires : tie.Need-meet-requires invariant-loop decreases-loop
-meet-requires c κs =
-    let l = c.before.before.before in
-    let s = start l.before in
-    let inv = l.before.loop.invariant in
-    (merging_ready s.pre.0 inv.3 l.loop-test.true, (inv.4, grew_covers inv.3.grew s.pre.1.1))
+meet-m-requires : tie.Need-meet-m-requires invariant-loop-i decreases-loop-i
+meet-m-requires c κs =
+    let inv = c.loop-i.invariant in
+    (merging_ready c.requires.0 inv.3 c.loop-i-test.true, (inv.4, grew_covers inv.3.grew c.requires.1.1))
 
-enum-known-m : tie.Need-enum-known-m invariant-loop decreases-loop
-enum-known-m c = search rules
+enum_known-m : tie.Need-enum_known-m invariant-loop-i decreases-loop-i
+enum_known-m c = search rules
 
-enum_told : tie.Need-enum-told invariant-loop decreases-loop
-enum_told c = search rules
+enum_told-1 : tie.Need-enum_told-1 invariant-loop-i decreases-loop-i
+enum_told-1 c = search rules
 
-same_length : tie.Need-same-length invariant-loop decreases-loop
-same_length c = search rules
+shape_of-new-in-Full : tie.Need-shape_of-new-in-Full invariant-loop-i decreases-loop-i
+shape_of-new-in-Full c = search rules
 
-same-length-2 : tie.Need-same-length-2 invariant-loop decreases-loop
-same-length-2 c = search rules
+shape_of-memory-in-Full : tie.Need-shape_of-memory-in-Full invariant-loop-i decreases-loop-i
+shape_of-memory-in-Full c = search rules
 
-returns : tie.Need-returns invariant-loop decreases-loop
+returns-in-Full : tie.Need-returns-in-Full invariant-loop-i decreases-loop-i
+returns-in-Full c =
+    let full = c.in-Full.is in
+    (merging_full (start c.before.before.before.before.before.before.before.before.before.before).requires.0 c.loop-i.invariant.3 c.loop-i-test.true _ _ c.meet-m.ensures.0 full, then_full)
+
+overflow_add-i : tie.Need-overflow_add-i invariant-loop-i decreases-loop-i
+overflow_add-i c = search rules
+
+loop-i-smaller : tie.Need-loop-i-smaller invariant-loop-i decreases-loop-i
+loop-i-smaller c = search rules
+
+loop-i-preserved : tie.Need-loop-i-preserved invariant-loop-i decreases-loop-i
+loop-i-preserved c =
+    let at = c.in-At.is in
+    (search rules, search rules, search rules, merging_more (start c.before.before.before.before.before.before.before.before.before.before).requires.0 c.loop-i.invariant.3 c.loop-i-test.true _ _ c.meet-m.ensures.0 _ _ at, c.meet-m.ensures.1.is _ _ at)
+
+shape_of-new : tie.Need-shape_of-new invariant-loop-i decreases-loop-i
+shape_of-new c = search rules
+
+shape_of-memory : tie.Need-shape_of-memory invariant-loop-i decreases-loop-i
+shape_of-memory c = search rules
+
+returns : tie.Need-returns invariant-loop-i decreases-loop-i
 returns c =
-    let m = c.before.before.before.before.before.before in
-    let l = turn m in
-    let full = c.enum_told.given.1 in
-    (merging_full (start l.before).pre.0 l.before.loop.inv.3 l.loop-test.taken _ _ m.meet.ensures.0 full, then_full)
+    let inv = c.loop-i.invariant in
+    (merging_done (start c.before).requires.0 inv.3 c.loop-i-test.false, then_now inv.4)
 
-add-i : tie.Need-overflow-add-i invariant-loop decreases-loop
-add-i c = search rules
-
-loop-less : tie.Need-loop-smaller invariant-loop decreases-loop
-loop-less c = search rules
-
-loop-again : tie.Need-loop-preserved invariant-loop decreases-loop
-loop-again c =
-    let m = c.before.before.before.before.before.before.before in
-    let l = turn m in
-    let at = c.before.m.given.1 in
-    (search rules, search rules, search rules, merging_more (start l.before).pre.0 l.before.loop.inv.3 l.loop-test.taken _ _ m.meet.ensures.0 _ _ at, m.meet.ensures.1.is _ _ at)
-
-same-length-3 : tie.Need-same-length-3 invariant-loop decreases-loop
-same-length-3 c = search rules
-
-same-length-4 : tie.Need-same-length-4 invariant-loop decreases-loop
-same-length-4 c = search rules
-
-returns-2 : tie.Need-returns-2 invariant-loop decreases-loop
-returns-2 c =
-    let inv = c.before.loop.invariant in
-    (merging_done (start c.before).pre.0 inv.3 c.loop-test.false, then_now inv.4)
-
-pub meet-list-spec : {M : Type 1} → statement M
-meet-list-spec =
+pub meet_list_spec : {M : Type 1} → statement M
+meet_list_spec =
     tie.close
     (tie.spec
-    invariant-loop
-    decreases-loop
-    loop-holds
-    mul-meet
-    shared-slice-read-meet
-    meet-requires
-    enum-known-m
-    enum_told
-    same_length
-    same-length-2
-    returns
-    add-i
-    loop-less
-    loop-again
-    same-length-3
-    same-length-4
-    returns-2)
+    invariant-loop-i
+    decreases-loop-i
+    loop-i-init
+    offset_bounds-types-i
+    bounds-types-i
+    meet-m-requires
+    enum_known-m
+    enum_told-1
+    shape_of-new-in-Full
+    shape_of-memory-in-Full
+    returns-in-Full
+    overflow_add-i
+    loop-i-smaller
+    loop-i-preserved
+    shape_of-new
+    shape_of-memory
+    returns)
