@@ -7,31 +7,27 @@ use borrow.Author.Rules.{rules}
 use Rattle.asking.proofs.fill.Statement.{statement}
 use Rattle.asking.proofs.fill.Tie as tie
 
-is-refused-requires : tie.Need-is-refused-requires
-is-refused-requires c κs = search rules
+is_refused-requires : tie.Need-is_refused-requires
+is_refused-requires c κs = search rules
 
-returns : tie.Need-returns
-returns c =
-    let s = c.before.before.before.before in
-    turned (filling_rows s.args.filling s.args.s) (filled_words s.args.filling s.args.s) s.args.words.now s.args.output.now _ (s.requires ∙ filling_is s.args.filling s.args.s _ _) (sym c.before.is-refused.ensures ∙ c.if1.true)
+returns-then-is_refused : tie.Need-returns-then-is_refused
+returns-then-is_refused c =
+    turned (filling_rows c.args.filling c.args.s) (filled_words c.args.filling c.args.s) c.args.words.now c.args.output.now _ (c.requires ∙ filling_is c.args.filling c.args.s _ _) (sym c.is_refused.ensures ∙ c.if-is_refused.true)
 
-shared-slice-read-fill : tie.Need-shared-slice-read-fill
-shared-slice-read-fill c =
-    let s = c.before.before.before.before.before in
-    some_words (filling_rows s.args.filling s.args.s) (filled_words s.args.filling s.args.s) s.args.words.now s.args.output.now _ (s.requires ∙ filling_is s.args.filling s.args.s _ _) (sym c.before.before.is-refused.ensures ∙ c.before.if1.false)
+bounds-words-0 : tie.Need-bounds-words-0
+bounds-words-0 c =
+    some_words (filling_rows c.args.filling c.args.s) (filled_words c.args.filling c.args.s) c.args.words.now c.args.output.now _ (c.requires ∙ filling_is c.args.filling c.args.s _ _) (sym c.is_refused.ensures ∙ c.if-is_refused.false)
 
 fill-requires : tie.Need-fill-requires
 fill-requires c κs =
-    let s = c.before.before.before.before.before.before in
-    cleared (filling_rows s.args.filling s.args.s) (filled_words s.args.filling s.args.s) s.args.words.now s.args.output.now _ (s.requires ∙ filling_is s.args.filling s.args.s _ _) (sym c.before.before.before.is-refused.ensures ∙ c.before.before.if1.false)
+    cleared (filling_rows c.args.filling c.args.s) (filled_words c.args.filling c.args.s) c.args.words.now c.args.output.now _ (c.requires ∙ filling_is c.args.filling c.args.s _ _) (sym c.is_refused.ensures ∙ c.if-is_refused.false)
 
-same_length : tie.Need-same-length
-same_length c = search rules
+shape_of-output : tie.Need-shape_of-output
+shape_of-output c = search rules
 
-returns-2 : tie.Need-returns-2
-returns-2 c =
-    let s = c.before.before.before.before.before.before.before.before.before in
-    filled_in (filling_rows s.args.filling s.args.s) (filled_words s.args.filling s.args.s) s.args.words.now s.args.output.now _ (s.requires ∙ filling_is s.args.filling s.args.s _ _) (sym c.before.before.before.before.before.before.is-refused.ensures ∙ c.before.before.before.before.before.if1.false) _ c.before.before.fill.ensures
+returns : tie.Need-returns
+returns c =
+    filled_in (filling_rows c.args.filling c.args.s) (filled_words c.args.filling c.args.s) c.args.words.now c.args.output.now _ (c.requires ∙ filling_is c.args.filling c.args.s _ _) (sym c.is_refused.ensures ∙ c.if-is_refused.false) _ c.fill.ensures
 
 pub fill_spec : {M : Type 1} → statement M
-fill_spec = tie.close (tie.spec is-refused-requires returns shared-slice-read-fill fill-requires same_length returns-2)
+fill_spec = tie.close (tie.spec is_refused-requires returns-then-is_refused bounds-words-0 fill-requires shape_of-output returns)

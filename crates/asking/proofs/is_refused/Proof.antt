@@ -4,8 +4,8 @@ use Rattle.asking.proofs.is_refused.Statement.{statement}
 use Rattle.asking.proofs.is_refused.Tie as tie
 
 -- one line a need, in the order of the arms, and then what is returned
-pub is-refused-spec : {M : Type 1} → statement M
-is-refused-spec =
+pub is_refused_spec : {M : Type 1} → statement M
+is_refused_spec =
     tie.close
     (tie.spec
     (λ c. search rules)

@@ -11,8 +11,8 @@ use Rattle.asking.proofs.tell.Statement.{statement}
 use Rattle.asking.proofs.tell.Tie as tie
 
 -- one line a need, in the order of the arms
-pub tell-spec : {M : Type 1} → statement M
-tell-spec =
+pub tell_spec : {M : Type 1} → statement M
+tell_spec =
     tie.close
     (tie.spec
     (λ c. search rules)
@@ -21,26 +21,26 @@ tell-spec =
     (λ c. search rules)
     (λ c κs. search rules)
     (λ c. search rules)
-    (λ c κs. let s = c.before.before.before.before.before.before.before.before in (ready_two _ _ (as_cleared c.before.before.asking3.given.1 s.requires.0), s.requires.1))
+    (λ c κs. let s = c.before.before.before.before.before.before.before.before in (ready_two _ _ (as_cleared c.before.before.asking-in-Isa-1.given.1 s.requires.0), s.requires.1))
     (λ c. search rules)
     (λ c. search rules)
-    (λ c κs. let s = c.before.before.before.before.before.before.before.before.before.before in (ready_one _ (as_cleared c.before.before.before.before.asking4.given.1 s.requires.0), s.requires.1.0))
+    (λ c κs. let s = c.before.before.before.before.before.before.before.before.before.before in (ready_one _ (as_cleared c.before.before.before.before.asking-in-IsFinal-1.given.1 s.requires.0), s.requires.1.0))
     (λ c. search rules)
     (λ c κs. within c.before.before.before.before.before.before.before.requires.0)
     (λ c. search rules)
-    (λ c κs. int_need _ (as_cleared c.before.asking6.given.1 c.before.before.before.before.before.before.before.requires.0))
+    (λ c κs. int_need _ (as_cleared c.before.asking-in-Int-1.given.1 c.before.before.before.before.before.before.before.requires.0))
     (λ c. search rules)
-    (λ c κs. float_need _ (as_cleared c.before.asking7.given.1 c.before.before.before.before.before.before.before.requires.0))
+    (λ c κs. float_need _ (as_cleared c.before.asking-in-Float-1.given.1 c.before.before.before.before.before.before.before.requires.0))
     (λ c. search rules)
-    (λ c κs. as_cleared c.before.asking8.given.1 c.before.before.before.before.before.before.before.requires.0)
-    (λ c. (as_answer c.before.before.before.asking.given.1 _ (ap number c.kind-on.ensures), c.before.before.before.before.before.before.before.before.before.requires.1.0))
-    (λ c. (as_answer c.before.before.asking2.given.1 _ (ap handle c.bool_at.ensures), c.before.before.before.before.before.before.before.before.requires.1.0))
+    (λ c κs. as_cleared c.before.asking-in-Struct-1.given.1 c.before.before.before.before.before.before.before.requires.0)
+    (λ c. (as_answer c.before.before.before.asking-1.given.1 _ (ap number c.kind_on.ensures), c.before.before.before.before.before.before.before.before.before.requires.1.0))
+    (λ c. (as_answer c.before.before.asking-in-GetBool-1.given.1 _ (ap handle c.bool_at.ensures), c.before.before.before.before.before.before.before.before.requires.1.0))
     (λ c. search rules)
-    (λ c. (as_answer c.before.before.before.before.before.asking3.given.1 _ (ap flag c.before.before.isa.ensures.0), c.before.before.isa.ensures.1))
+    (λ c. (as_answer c.before.before.before.before.before.asking-in-Isa-1.given.1 _ (ap flag c.before.before.isa.ensures.0), c.before.before.isa.ensures.1))
     (λ c. search rules)
     (λ c. search rules)
-    (λ c. (as_answer c.before.before.before.before.before.before.before.before.before.asking4.given.1 _ (ap flag (c.before.before.before.before.is_final.ensures.0.is (suc c.before.before.before.before.before.before.before.before.before.asking4.given.0.0) (omega arith))), c.before.before.before.before.is_final.ensures.1))
-    (λ c. (as_answer c.before.before.asking5.given.1 _ c.tell.ensures, c.before.before.before.before.before.before.before.before.requires.1.0))
-    (λ c. (as_answer c.before.before.asking6.given.1 _ c.tell-int.ensures, c.before.before.before.before.before.before.before.before.requires.1.0))
-    (λ c. (as_answer c.before.before.asking7.given.1 _ c.tell-float.ensures, c.before.before.before.before.before.before.before.before.requires.1.0))
-    (λ c. (as_answer c.before.before.asking8.given.1 _ c.tell2.ensures, c.before.before.before.before.before.before.before.before.requires.1.0)))
+    (λ c. (as_answer c.before.before.before.before.before.before.before.before.before.asking-in-IsFinal-1.given.1 _ (ap flag (c.before.before.before.before.is_final-yes.ensures.0.is (suc c.before.before.before.before.before.before.before.before.before.asking-in-IsFinal-1.given.0.0) (omega arith))), c.before.before.before.before.is_final-yes.ensures.1))
+    (λ c. (as_answer c.before.before.asking-in-Type-1.given.1 _ c.tell.ensures, c.before.before.before.before.before.before.before.before.requires.1.0))
+    (λ c. (as_answer c.before.before.asking-in-Int-1.given.1 _ c.tell_int.ensures, c.before.before.before.before.before.before.before.before.requires.1.0))
+    (λ c. (as_answer c.before.before.asking-in-Float-1.given.1 _ c.tell_float.ensures, c.before.before.before.before.before.before.before.before.requires.1.0))
+    (λ c. (as_answer c.before.before.asking-in-Struct-1.given.1 _ c.tell-in-Struct.ensures, c.before.before.before.before.before.before.before.before.requires.1.0)))
