@@ -304,6 +304,23 @@ def block(text, it, labels, own, function, path, said, helpers):
         it = next(iter(all_of.values())) if all_of else Function({})
     if place is None:
         root = None
+    listed = re.search(rf"\(({ALIAS})\.spec\n", text)
+    if listed:
+        # answers that stand in the list itself
+        it = all_of[listed.group(1)]
+        entries = re.split(r"\n(?=    [^ ])", text[listed.end() :])
+        ats = list(it.at.values())
+        first_goal = len(it.loops)
+        for k, entry in enumerate(entries):
+            if entry.lstrip().startswith("(λ c") and 0 <= k - first_goal < len(ats):
+                entries[k] = turned(entry, it, all_of, "c", ats[k - first_goal], labels, own, function, path, said, helpers, name)
+            else:
+                entries[k] = turned(entry, it, all_of, None, None, labels, own, function, path, said, helpers, name)
+        return turned(text[: listed.end()], it, all_of, None, None, labels, own, function, path, said, helpers, name) + "\n".join(entries)
+    return turned(text, it, all_of, root, place, labels, own, function, path, said, helpers, name)
+
+
+def turned(text, it, all_of, root, place, labels, own, function, path, said, helpers, name):
     # the variables that a `let` binds to a place above
     above = {root: []} if root else {}
     bare = {}
