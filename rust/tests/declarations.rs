@@ -48,7 +48,7 @@ fn as_passed(argument: &str) -> Vec<String> {
 fn of_the_archive(source: &str) -> Functions {
     let mut functions = Functions::new();
     let mut rest = source;
-    while let Some((name, behind)) = between(rest, "#[no_mangle]\npub extern \"C\" fn ", "(") {
+    while let Some((name, behind)) = between(rest, "#[unsafe(no_mangle)]\npub extern \"C\" fn ", "(") {
         let (arguments, behind) = behind.split_once(')').expect("the arguments end");
         let (returns, behind) = between(behind, "->", "\n").expect("a function returns something");
         let arguments = arguments.split(',').filter(|a| !a.trim().is_empty()).flat_map(as_passed).collect();
@@ -190,5 +190,5 @@ fn a_changed_argument_is_seen() {
 fn a_missing_function_is_seen() {
     assert_eq!(seen(CRATE, of_the_crate, "fn ferigulan_meet(", "fn ferigulan_merge("), 2);
     assert_eq!(seen(HEADER, of_the_header, "uint32_t ferigulan_opened_meet(", "uint32_t ferigulan_opened_merge("), 2);
-    assert_eq!(seen(ARCHIVE, of_the_archive, "#[no_mangle]\npub extern \"C\" fn ferigulan_dual(", "pub fn dual("), 1);
+    assert_eq!(seen(ARCHIVE, of_the_archive, "#[unsafe(no_mangle)]\npub extern \"C\" fn ferigulan_dual(", "pub fn dual("), 1);
 }
