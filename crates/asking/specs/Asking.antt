@@ -1,5 +1,5 @@
 -- The calls that only read, as the values that the functions take: which call each is, its rows and its answer on the used words `u`. That `run` of the call is the
--- rows and then the answer is `Asked-is` (proofs/As.antt), each line by computation.
+-- rows and then the answer is `asked_is` (proofs/As.antt), each line by computation.
 use Rattle.std.specs.Prelude.{Bool, true, false, not, cond, List, [], ◌∷◌, ℕ, eqb}
 use Rattle.wellformed.specs.Entry.{is_flag}
 use Rattle.call.specs.Call.{Reply, handle, number, flag, accepted, refused, signed_number, absent, constant_bits, size_alone, ◌when◌, filled_output}
