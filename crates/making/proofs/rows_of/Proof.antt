@@ -5,8 +5,8 @@ use Rattle.making.proofs.rows_of.Statement.{statement}
 use Rattle.making.proofs.rows_of.Tie as tie
 
 -- one line a need, in the order of the arms
-pub rows-of-spec : {M : Type 1} → statement M
-rows-of-spec =
+pub rows_of_spec : {M : Type 1} → statement M
+rows_of_spec =
     tie.close
     (tie.spec
     (λ c. search rules)
@@ -43,18 +43,18 @@ rows-of-spec =
     (λ c. search rules)
     (λ c. search rules)
     (λ c κs. search rules)
-    (λ c. let s = c.before.before.before.before.before.before in as_rows c.enum_told.given.1 s.args.list.now s.args.text.now _ refl)
-    (λ c. let s = c.before.before.before.before.before.before.before.before in as_rows c.before.before.making.given.1 s.args.list.now s.args.text.now _ c.float-rows.ensures)
-    (λ c. let s = c.before.before.before.before.before.before.before in as_rows c.before.enum-told2.given.1 s.args.list.now s.args.text.now _ c.str-rows.ensures)
-    (λ c. let s = c.before.before.before.before.before.before.before in as_rows c.before.enum-told3.given.1 s.args.list.now s.args.text.now _ c.tuple-rows.ensures)
-    (λ c. let s = c.before.before.before.before.before.before.before.before in as_rows c.before.before.making2.given.1 s.args.list.now s.args.text.now _ c.struct-rows.ensures)
-    (λ c. let s = c.before.before.before.before.before.before.before.before in as_rows c.before.before.making3.given.1 s.args.list.now s.args.text.now _ c.ary-rows.ensures)
-    (λ c. let s = c.before.before.before.before.before.before.before.before in as_rows c.before.before.making4.given.1 s.args.list.now s.args.text.now _ c.fref-rows.ensures)
-    (λ c. let s = c.before.before.before.before.before.before.before.before in as_rows c.before.before.making5.given.1 s.args.list.now s.args.text.now _ c.part-rows.ensures)
-    (λ c. let s = c.before.before.before.before.before.before.before.before in as_rows c.before.before.making6.given.1 s.args.list.now s.args.text.now _ c.part-rows2.ensures)
-    (λ c. let s = c.before.before.before.before.before.before.before.before.before in as_rows c.before.before.before.making7.given.1 s.args.list.now s.args.text.now _ c.types-rows.ensures)
-    (λ c. let s = c.before.before.before.before.before.before.before in as_rows c.before.enum-told4.given.1 s.args.list.now s.args.text.now _ c.list-rows.ensures)
-    (λ c. let s = c.before.before.before.before.before.before.before.before.before in as_rows c.before.before.before.making8.given.1 s.args.list.now s.args.text.now _ c.types-rows2.ensures)
-    (λ c. let s = c.before.before.before.before.before.before.before.before.before in as_rows c.before.before.before.making9.given.1 s.args.list.now s.args.text.now _ c.types-rows3.ensures)
-    (λ c. let s = c.before.before.before.before.before.before.before.before.before in as_rows c.before.before.before.making10.given.1 s.args.list.now s.args.text.now _ c.types-rows4.ensures)
-    (λ c. let s = c.before.before.before.before.before.before.before.before.before in as_rows c.before.before.before.making11.given.1 s.args.list.now s.args.text.now _ c.types-rows5.ensures))
+    (λ c. let s = c.before.before.before.before.before.before in as_rows c.enum_told-1.given.1 s.args.list.now s.args.text.now _ refl)
+    (λ c. let s = c.before.before.before.before.before.before.before.before in as_rows c.before.before.making-1.given.1 s.args.list.now s.args.text.now _ c.float_rows.ensures)
+    (λ c. let s = c.before.before.before.before.before.before.before in as_rows c.before.enum_told-in-GetStr-1.given.1 s.args.list.now s.args.text.now _ c.str_rows.ensures)
+    (λ c. let s = c.before.before.before.before.before.before.before in as_rows c.before.enum_told-in-GetTuple-1.given.1 s.args.list.now s.args.text.now _ c.tuple_rows.ensures)
+    (λ c. let s = c.before.before.before.before.before.before.before.before in as_rows c.before.before.making-in-GetStruct-1.given.1 s.args.list.now s.args.text.now _ c.struct_rows.ensures)
+    (λ c. let s = c.before.before.before.before.before.before.before.before in as_rows c.before.before.making-in-MakeAry-1.given.1 s.args.list.now s.args.text.now _ c.ary_rows.ensures)
+    (λ c. let s = c.before.before.before.before.before.before.before.before in as_rows c.before.before.making-in-MakeStructFref-1.given.1 s.args.list.now s.args.text.now _ c.fref_rows.ensures)
+    (λ c. let s = c.before.before.before.before.before.before.before.before in as_rows c.before.before.making-in-GetMemPtr-1.given.1 s.args.list.now s.args.text.now _ c.part_rows.ensures)
+    (λ c. let s = c.before.before.before.before.before.before.before.before in as_rows c.before.before.making-in-GetMem-1.given.1 s.args.list.now s.args.text.now _ c.part_rows-in-GetMem.ensures)
+    (λ c. let s = c.before.before.before.before.before.before.before.before.before in as_rows c.before.before.before.making-in-Meet-1.given.1 s.args.list.now s.args.text.now _ c.types_rows.ensures)
+    (λ c. let s = c.before.before.before.before.before.before.before in as_rows c.before.enum_told-in-MeetList-1.given.1 s.args.list.now s.args.text.now _ c.list_rows.ensures)
+    (λ c. let s = c.before.before.before.before.before.before.before.before.before in as_rows c.before.before.before.making-in-Join-1.given.1 s.args.list.now s.args.text.now _ c.types_rows-in-Join.ensures)
+    (λ c. let s = c.before.before.before.before.before.before.before.before.before in as_rows c.before.before.before.making-in-Walk-1.given.1 s.args.list.now s.args.text.now _ c.types_rows-in-Walk.ensures)
+    (λ c. let s = c.before.before.before.before.before.before.before.before.before in as_rows c.before.before.before.making-in-MakeRo-1.given.1 s.args.list.now s.args.text.now _ c.types_rows-in-MakeRo.ensures)
+    (λ c. let s = c.before.before.before.before.before.before.before.before.before in as_rows c.before.before.before.making-in-NonZero-1.given.1 s.args.list.now s.args.text.now _ c.types_rows-in-NonZero.ensures))
