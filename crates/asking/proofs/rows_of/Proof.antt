@@ -32,7 +32,7 @@ rows_of_spec =
     (λ c. as_rows c.in-GetBool.is _ c.bool_rows.ensures)
     (λ c. as_rows c.in-Isa.is _ c.types_rows-in-Isa.ensures)
     (λ c. as_rows c.in-IsFinal.is _ c.types_rows-in-IsFinal.ensures)
-    (λ c. as_rows c.in-Type.is _ c.rows_of_lem.ensures)
+    (λ c. as_rows c.in-Type.is _ c.rows_of.ensures)
     (λ c. as_rows c.in-Int.is _ c.kind_rows.ensures)
     (λ c. as_rows c.in-Float.is _ c.kind_rows-in-Float.ensures)
     (λ c. as_rows c.in-Struct.is _ c.rows_of-in-Struct.ensures))
