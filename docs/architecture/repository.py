@@ -8,7 +8,7 @@ from pathlib import Path
 TOP = Path(__file__).resolve().parent.parent.parent
 
 # The libraries that crates.txt names and the Rattle kit has.
-KIT = {"bytes", "check", "io", "libc", "os"}
+KIT = {"check", "io"}
 
 
 @dataclass
@@ -25,8 +25,11 @@ def crates(problems):
         if line.startswith("#"):
             heading = line.lstrip("# ")
         elif line.strip():
-            name, _, needs = line.partition("#")[0].partition(":")
-            found.append(Crate(name.strip(), heading, needs.split()))
+            head, _, needs = line.partition("#")[0].partition(":")
+            name, *kind = head.split()
+            found.append(Crate(name, heading, needs.split()))
+            if kind not in ([], ["staticlib"]):
+                problems.append(f"crates.txt:{number}: {name} is '{' '.join(kind)}', which is no kind of crate")
             if not heading:
                 problems.append(f"crates.txt:{number}: {name} stands under no heading")
     check_folders([crate.name for crate in found], problems)
