@@ -1,6 +1,6 @@
 #!/bin/sh
 # run.sh [SCRIPT..]: runs scripts of calls (standard input if none is named) and prints one line a call. Builds the program first, where
-# it is not built yet: only a proved program is built, which takes some minutes once.
+# it is not built yet: only a proved program is built, so that it takes as long as its proofs once.
 top=$(cd "$(dirname "$0")" && pwd) || exit 2
 program=$top/target/bin/calls
 if [ ! -x "$program" ]; then
