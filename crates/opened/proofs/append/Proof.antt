@@ -34,7 +34,7 @@ same-length-2 c = search rules
 returns : tie.Need-returns
 returns c =
     let s = c.before.before.before.before.before.before.before.before.before.before.before in
-    (turned _ _ _ _ (used_is _ s.requires.well) (used_some _ s.requires.well) _ c.before.rows_of_lem.ensures c.if1.true ∙ sym (appended_is s.args.making s.args.list.now s.args.text.now s.args.words.now), s.requires)
+    (turned _ _ _ _ (used_is _ s.requires.well) (used_some _ s.requires.well) _ c.before.rows_of.ensures c.if1.true ∙ sym (appended_is s.args.making s.args.list.now s.args.text.now s.args.words.now), s.requires)
 
 slice-aggregate-append : tie.Need-slice-aggregate-append
 slice-aggregate-append c = search rules
@@ -54,7 +54,7 @@ part-append-end c = search rules
 append-requires : tie.Need-append-requires
 append-requires c κs =
     let s = c.before.before.before.before.before.before.before.before.before.before.before.before.before.before.before.before in
-    let q = sym c.before.before.before.before.before.before.rows_of_lem.ensures ∙ c.before.before.before.before.before.if1.false in
+    let q = sym c.before.before.before.before.before.before.rows_of.ensures ∙ c.before.before.before.before.before.if1.false in
     ((used_is _ s.requires.well, used_some _ s.requires.well), (q, (s.requires.right, lent_covers s.requires _ c.before.before.before.before.before.before.before.before.before.marks-size.ensures.0)))
 
 extend-requires : tie.Need-extend-requires

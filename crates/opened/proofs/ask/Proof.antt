@@ -25,7 +25,7 @@ rows-of-requires c κs = let s = c.before.before.before.before.before.before in 
 returns : tie.Need-returns
 returns c =
     let s = c.before.before.before.before.before.before.before.before in
-    (read_back _ _ _ _ (used_is _ s.requires.well) (used_some _ s.requires.well) _ c.before.rows_of_lem.ensures c.if1.true ∙ sym (asked_is s.args.asking s.args.words.now), s.requires)
+    (read_back _ _ _ _ (used_is _ s.requires.well) (used_some _ s.requires.well) _ c.before.rows_of.ensures c.if1.true ∙ sym (asked_is s.args.asking s.args.words.now), s.requires)
 
 slice-aggregate-tell : tie.Need-slice-aggregate-tell
 slice-aggregate-tell c = search rules
@@ -45,7 +45,7 @@ part-tell-end c = search rules
 tell-requires : tie.Need-tell-requires
 tell-requires c κs =
     let s = c.before.before.before.before.before.before.before.before.before.before.before in
-    let q = sym c.before.before.before.before.rows_of_lem.ensures ∙ c.before.before.before.if1.false in
+    let q = sym c.before.before.before.before.rows_of.ensures ∙ c.before.before.before.if1.false in
     (whole _ _ _ (begun _ _ (used_is _ s.requires.well) (used_some _ s.requires.well)) q, (s.requires.right, lent_covers s.requires _ c.before.before.before.before.before.before.marks-size.ensures.0))
 
 same_length : tie.Need-same-length
@@ -54,7 +54,7 @@ same_length c = search rules
 returns-2 : tie.Need-returns-2
 returns-2 c =
     let s = c.before.before.before.before.before.before.before.before.before.before.before.before.before.before.before in
-    let q = sym c.before.before.before.before.before.before.before.before.rows_of_lem.ensures ∙ c.before.before.before.before.before.before.before.if1.false in (
+    let q = sym c.before.before.before.before.before.before.before.before.rows_of.ensures ∙ c.before.before.before.before.before.before.before.if1.false in (
       answered _ _ _ _ (used_is _ s.requires.well) (used_some _ s.requires.well) q _ c.before.before.before.tell.ensures.0 ∙ sym (asked_is s.args.asking s.args.words.now),
       record { well = s.requires.well; whole = s.requires.whole; right = c.before.before.before.tell.ensures.1 },
     )

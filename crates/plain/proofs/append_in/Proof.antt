@@ -29,7 +29,7 @@ same-length-4 : tie.Need-same-length-4
 same-length-4 c = search rules
 
 returns-2 : tie.Need-returns-2
-returns-2 c = let s = c.before.before.before.before.before.before.before.before.before.before.before.before.before.before in turned _ _ _ _ c.before.before.before.before.before.before.before.begin.ensures.is c.before.before.before.before.if1.false _ c.before.rows_of_lem.ensures c.if2.true ∙ sym (appended_is s.args.making s.args.list.now s.args.text.now s.args.words.now)
+returns-2 c = let s = c.before.before.before.before.before.before.before.before.before.before.before.before.before.before in turned _ _ _ _ c.before.before.before.before.before.before.before.begin.ensures.is c.before.before.before.before.if1.false _ c.before.rows_of.ensures c.if2.true ∙ sym (appended_is s.args.making s.args.list.now s.args.text.now s.args.words.now)
 
 slice-aggregate-append : tie.Need-slice-aggregate-append
 slice-aggregate-append c = search rules
@@ -41,7 +41,7 @@ append-requires : tie.Need-append-requires
 append-requires c κs =
     let is = c.before.before.before.before.before.before.before.before.before.before.before.begin.ensures.is in
     let ne = c.before.before.before.before.before.before.before.before.if1.false in
-    let q = sym c.before.before.before.before.before.rows_of_lem.ensures ∙ c.before.before.before.before.if2.false in
+    let q = sym c.before.before.before.before.before.rows_of.ensures ∙ c.before.before.before.before.if2.false in
     ((is, ne), (q, (right_none _, (begun _ _ is ne).covers)))
 
 same-length-5 : tie.Need-same-length-5

@@ -24,7 +24,7 @@ same-length-2 : tie.Need-same-length-2
 same-length-2 c = search rules
 
 returns-2 : tie.Need-returns-2
-returns-2 c = let s = c.before.before.before.before.before.before.before.before.before.before in read_back _ _ _ _ c.before.before.before.before.before.before.begin.ensures.is c.before.before.before.if1.false _ c.before.rows_of_lem.ensures c.if2.true ∙ sym (asked_is s.args.asking s.args.words.now)
+returns-2 c = let s = c.before.before.before.before.before.before.before.before.before.before in read_back _ _ _ _ c.before.before.before.before.before.before.begin.ensures.is c.before.before.before.if1.false _ c.before.rows_of.ensures c.if2.true ∙ sym (asked_is s.args.asking s.args.words.now)
 
 slice-aggregate-tell : tie.Need-slice-aggregate-tell
 slice-aggregate-tell c = search rules
@@ -36,7 +36,7 @@ tell-requires : tie.Need-tell-requires
 tell-requires c κs =
     let is = c.before.before.before.before.before.before.before.before.before.begin.ensures.is in
     let ne = c.before.before.before.before.before.before.if1.false in
-    let q = sym c.before.before.before.before.rows_of_lem.ensures ∙ c.before.before.before.if2.false in
+    let q = sym c.before.before.before.before.rows_of.ensures ∙ c.before.before.before.if2.false in
     let b = begun _ _ is ne in
     (whole _ _ _ b q, (right_none _, b.covers))
 
@@ -46,7 +46,7 @@ same-length-3 c = search rules
 returns-3 : tie.Need-returns-3
 returns-3 c =
     let s = c.before.before.before.before.before.before.before.before.before.before.before.before.before.before.before.before.before in
-    let q = sym c.before.before.before.before.before.before.before.before.rows_of_lem.ensures ∙ c.before.before.before.before.before.before.before.if2.false in
+    let q = sym c.before.before.before.before.before.before.before.before.rows_of.ensures ∙ c.before.before.before.before.before.before.before.if2.false in
     answered _ _ _ _ c.before.before.before.before.before.before.before.before.before.before.before.before.before.begin.ensures.is c.before.before.before.before.before.before.before.before.before.before.if1.false q _ c.before.before.before.tell.ensures.0 ∙ sym (asked_is s.args.asking s.args.words.now)
 
 pub ask-in-spec : {M : Type 1} → statement M
