@@ -5,81 +5,81 @@ use borrow.Fn.PlainCycle.{Measures, is, falls, and}
 use borrow.Author.Rules.{rules}
 use Rattle.plain.proofs.append_for.Reads as append-for
 use Rattle.plain.proofs.append_for.Kinds as append-for-kinds
-use Rattle.plain.proofs.+append_for.Lts-append_for as append-for-lts
+use Rattle.plain.proofs.+append_for.Lts-append_for as append_for_lts
 use Rattle.plain.proofs.append_in.Reads as append-in-reads
 use Rattle.plain.proofs.append_large.Reads as append-large-reads
 use Rattle.plain.proofs.append_middle.Reads as append-middle-reads
 use Rattle.plain.proofs.+append_for.{statement}
 use Rattle.plain.proofs.+append_for.Tie.{close}
 
-abbrev μ-append-for : Measures 3 append-for-kinds.ps ℕ
-μ-append-for κs a = a.0
+abbrev μ_append_for : Measures 3 append-for-kinds.ps ℕ
+μ_append_for κs a = a.0
 
-abbrev append-for-at : ℕ → In 3 append-for-kinds.ps
-append-for-at t = and 3 append-for-kinds.ps (is 3 append-for-kinds.ps μ-append-for t) append-for.Pre
+abbrev append_for_at : ℕ → In 3 append-for-kinds.ps
+append_for_at t = and 3 append-for-kinds.ps (is 3 append-for-kinds.ps μ_append_for t) append-for.Pre
 
-abbrev append-for-below : ℕ → In 3 append-for-kinds.ps
-append-for-below t = and 3 append-for-kinds.ps (falls 3 append-for-kinds.ps ◌<◌ μ-append-for t) append-for.Pre
+abbrev append_for_below : ℕ → In 3 append-for-kinds.ps
+append_for_below t = and 3 append-for-kinds.ps (falls 3 append-for-kinds.ps ◌<◌ μ_append_for t) append-for.Pre
 
-abbrev append-for-K : ℕ → append-for-lts.Claims
-append-for-K t = (append-in-reads.Asked, append-in-reads.Learnt, append-middle-reads.Asked, append-middle-reads.Learnt, append-large-reads.Asked, append-large-reads.Learnt, append-for-below t, append-for.Post)
+abbrev append_for_K : ℕ → append_for_lts.Claims
+append_for_K t = (append-in-reads.Asked, append-in-reads.Learnt, append-middle-reads.Asked, append-middle-reads.Learnt, append-large-reads.Asked, append-large-reads.Learnt, append_for_below t, append-for.Post)
 
-append-for-slice-aggregate-append-in : (t : ℕ) → append-for-lts.Need-slice-aggregate-append-in (append-for-K t) (append-for-at t) append-for.Post
-append-for-slice-aggregate-append-in t c = search rules
+append_for-slice_bounds-append_in-end : (t : ℕ) → append_for_lts.Need-slice_bounds-append_in-end (append_for_K t) (append_for_at t) append-for.Post
+append_for-slice_bounds-append_in-end t c = search rules
 
-append-for-append-in-requires : (t : ℕ) → append-for-lts.Need-append-in-requires (append-for-K t) (append-for-at t) append-for.Post
-append-for-append-in-requires t c κs = search rules
+append_for-append_in-requires : (t : ℕ) → append_for_lts.Need-append_in-requires (append_for_K t) (append_for_at t) append-for.Post
+append_for-append_in-requires t c κs = search rules
 
-append-for-same-length : (t : ℕ) → append-for-lts.Need-same-length (append-for-K t) (append-for-at t) append-for.Post
-append-for-same-length t c = search rules
+append_for-shape_of-words-then-n-le-SMALL_LIST : (t : ℕ) → append_for_lts.Need-shape_of-words-then-n-le-SMALL_LIST (append_for_K t) (append_for_at t) append-for.Post
+append_for-shape_of-words-then-n-le-SMALL_LIST t c = search rules
 
-append-for-returns : (t : ℕ) → append-for-lts.Need-returns (append-for-K t) (append-for-at t) append-for.Post
-append-for-returns t c = search rules
+append_for-returns-then-n-le-SMALL_LIST : (t : ℕ) → append_for_lts.Need-returns-then-n-le-SMALL_LIST (append_for_K t) (append_for_at t) append-for.Post
+append_for-returns-then-n-le-SMALL_LIST t c = search rules
 
-append-for-append-middle-requires : (t : ℕ) → append-for-lts.Need-append-middle-requires (append-for-K t) (append-for-at t) append-for.Post
-append-for-append-middle-requires t c κs = search rules
+append_for-append_middle-requires : (t : ℕ) → append_for_lts.Need-append_middle-requires (append_for_K t) (append_for_at t) append-for.Post
+append_for-append_middle-requires t c κs = search rules
 
-append-for-same-length-2 : (t : ℕ) → append-for-lts.Need-same-length-2 (append-for-K t) (append-for-at t) append-for.Post
-append-for-same-length-2 t c = search rules
+append_for-shape_of-words-then-n-le-MIDDLE_LIST : (t : ℕ) → append_for_lts.Need-shape_of-words-then-n-le-MIDDLE_LIST (append_for_K t) (append_for_at t) append-for.Post
+append_for-shape_of-words-then-n-le-MIDDLE_LIST t c = search rules
 
-append-for-returns-2 : (t : ℕ) → append-for-lts.Need-returns-2 (append-for-K t) (append-for-at t) append-for.Post
-append-for-returns-2 t c = search rules
+append_for-returns-then-n-le-MIDDLE_LIST : (t : ℕ) → append_for_lts.Need-returns-then-n-le-MIDDLE_LIST (append_for_K t) (append_for_at t) append-for.Post
+append_for-returns-then-n-le-MIDDLE_LIST t c = search rules
 
-append-for-append-large-requires : (t : ℕ) → append-for-lts.Need-append-large-requires (append-for-K t) (append-for-at t) append-for.Post
-append-for-append-large-requires t c κs = search rules
+append_for-append_large-requires : (t : ℕ) → append_for_lts.Need-append_large-requires (append_for_K t) (append_for_at t) append-for.Post
+append_for-append_large-requires t c κs = search rules
 
-append-for-same-length-3 : (t : ℕ) → append-for-lts.Need-same-length-3 (append-for-K t) (append-for-at t) append-for.Post
-append-for-same-length-3 t c = search rules
+append_for-shape_of-words-then-n-le-LARGE_LIST : (t : ℕ) → append_for_lts.Need-shape_of-words-then-n-le-LARGE_LIST (append_for_K t) (append_for_at t) append-for.Post
+append_for-shape_of-words-then-n-le-LARGE_LIST t c = search rules
 
-append-for-returns-3 : (t : ℕ) → append-for-lts.Need-returns-3 (append-for-K t) (append-for-at t) append-for.Post
-append-for-returns-3 t c = search rules
+append_for-returns-then-n-le-LARGE_LIST : (t : ℕ) → append_for_lts.Need-returns-then-n-le-LARGE_LIST (append_for_K t) (append_for_at t) append-for.Post
+append_for-returns-then-n-le-LARGE_LIST t c = search rules
 
-append-for-append-for-requires : (t : ℕ) → append-for-lts.Need-append-for-requires (append-for-K t) (append-for-at t) append-for.Post
-append-for-append-for-requires t c κs = search rules
+append_for-append_for-requires : (t : ℕ) → append_for_lts.Need-append_for-requires (append_for_K t) (append_for_at t) append-for.Post
+append_for-append_for-requires t c κs = search rules
 
-append-for-same-length-4 : (t : ℕ) → append-for-lts.Need-same-length-4 (append-for-K t) (append-for-at t) append-for.Post
-append-for-same-length-4 t c = search rules
+append_for-shape_of-words : (t : ℕ) → append_for_lts.Need-shape_of-words (append_for_K t) (append_for_at t) append-for.Post
+append_for-shape_of-words t c = search rules
 
-append-for-returns-4 : (t : ℕ) → append-for-lts.Need-returns-4 (append-for-K t) (append-for-at t) append-for.Post
-append-for-returns-4 t c = search rules
+append_for-returns : (t : ℕ) → append_for_lts.Need-returns (append_for_K t) (append_for_at t) append-for.Post
+append_for-returns t c = search rules
 
-pub +append-for-spec : {M : Type 1} → statement M
-+append-for-spec =
+pub +append_for_spec : {M : Type 1} → statement M
++append_for_spec =
     close
-    μ-append-for
-    λ t. append-for-lts.spec (append-for-K t)
-    (append-for-at t)
+    μ_append_for
+    λ t. append_for_lts.spec (append_for_K t)
+    (append_for_at t)
     append-for.Post
-    (append-for-slice-aggregate-append-in t)
-    (append-for-append-in-requires t)
-    (append-for-same-length t)
-    (append-for-returns t)
-    (append-for-append-middle-requires t)
-    (append-for-same-length-2 t)
-    (append-for-returns-2 t)
-    (append-for-append-large-requires t)
-    (append-for-same-length-3 t)
-    (append-for-returns-3 t)
-    (append-for-append-for-requires t)
-    (append-for-same-length-4 t)
-    (append-for-returns-4 t)
+    (append_for-slice_bounds-append_in-end t)
+    (append_for-append_in-requires t)
+    (append_for-shape_of-words-then-n-le-SMALL_LIST t)
+    (append_for-returns-then-n-le-SMALL_LIST t)
+    (append_for-append_middle-requires t)
+    (append_for-shape_of-words-then-n-le-MIDDLE_LIST t)
+    (append_for-returns-then-n-le-MIDDLE_LIST t)
+    (append_for-append_large-requires t)
+    (append_for-shape_of-words-then-n-le-LARGE_LIST t)
+    (append_for-returns-then-n-le-LARGE_LIST t)
+    (append_for-append_for-requires t)
+    (append_for-shape_of-words t)
+    (append_for-returns t)

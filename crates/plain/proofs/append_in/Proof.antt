@@ -7,67 +7,67 @@ use borrow.Author.Rules.{rules}
 use Rattle.plain.proofs.append_in.Statement.{statement}
 use Rattle.plain.proofs.append_in.Tie as tie
 
-begin-requires : tie.Need-begin-requires
-begin-requires c κs = search rules
+begin-used-requires : tie.Need-begin-used-requires
+begin-used-requires c κs = search rules
 
-same_length : tie.Need-same-length
-same_length c = search rules
+shape_of-words-then-used-eq0 : tie.Need-shape_of-words-then-used-eq0
+shape_of-words-then-used-eq0 c = search rules
 
-same-length-2 : tie.Need-same-length-2
-same-length-2 c = search rules
+shape_of-bits-then-used-eq0 : tie.Need-shape_of-bits-then-used-eq0
+shape_of-bits-then-used-eq0 c = search rules
 
-returns : tie.Need-returns
-returns c = let s = c.before.before.before.before.before.before.before.before.before.before in no_store _ _ _ _ c.before.before.before.begin.ensures.is c.if1.true ∙ sym (appended_is s.args.making s.args.list.now s.args.text.now s.args.words.now)
+returns-then-used-eq0 : tie.Need-returns-then-used-eq0
+returns-then-used-eq0 c = no_store _ _ _ _ c.begin-used.ensures.is c.if-used-eq0.true ∙ sym (appended_is c.args.making c.args.list.now c.args.text.now c.args.words.now)
 
-rows-of-requires : tie.Need-rows-of-requires
-rows-of-requires c κs = c.before.before.before.before.before.begin.ensures.ready c.before.before.if1.false
+rows_of-no-requires : tie.Need-rows_of-no-requires
+rows_of-no-requires c κs = c.begin-used.ensures.ready c.if-used-eq0.false
 
-same-length-3 : tie.Need-same-length-3
-same-length-3 c = search rules
+shape_of-words-then-no-ne0 : tie.Need-shape_of-words-then-no-ne0
+shape_of-words-then-no-ne0 c = search rules
 
-same-length-4 : tie.Need-same-length-4
-same-length-4 c = search rules
+shape_of-bits-then-no-ne0 : tie.Need-shape_of-bits-then-no-ne0
+shape_of-bits-then-no-ne0 c = search rules
 
-returns-2 : tie.Need-returns-2
-returns-2 c = let s = c.before.before.before.before.before.before.before.before.before.before.before.before.before.before in turned _ _ _ _ c.before.before.before.before.before.before.before.begin.ensures.is c.before.before.before.before.if1.false _ c.before.rows_of.ensures c.if2.true ∙ sym (appended_is s.args.making s.args.list.now s.args.text.now s.args.words.now)
+returns-then-no-ne0 : tie.Need-returns-then-no-ne0
+returns-then-no-ne0 c = turned _ _ _ _ c.begin-used.ensures.is c.if-used-eq0.false _ c.rows_of-no.ensures c.if-no-ne0.true ∙ sym (appended_is c.args.making c.args.list.now c.args.text.now c.args.words.now)
 
-slice-aggregate-append : tie.Need-slice-aggregate-append
-slice-aggregate-append c = search rules
+slice_bounds-append-end : tie.Need-slice_bounds-append-end
+slice_bounds-append-end c = search rules
 
-slice-aggregate-append-2 : tie.Need-slice-aggregate-append-2
-slice-aggregate-append-2 c = search rules
+slice_bounds-append-end-2 : tie.Need-slice_bounds-append-end-2
+slice_bounds-append-end-2 c = search rules
 
 append-requires : tie.Need-append-requires
 append-requires c κs =
-    let is = c.before.before.before.before.before.before.before.before.before.before.before.begin.ensures.is in
-    let ne = c.before.before.before.before.before.before.before.before.if1.false in
-    let q = sym c.before.before.before.before.before.rows_of.ensures ∙ c.before.before.before.before.if2.false in
+    let is = c.begin-used.ensures.is in
+    let ne = c.if-used-eq0.false in
+    let q = sym c.rows_of-no.ensures ∙ c.if-no-ne0.false in
     ((is, ne), (q, (right_none _, (begun _ _ is ne).covers)))
 
-same-length-5 : tie.Need-same-length-5
-same-length-5 c = search rules
+shape_of-words : tie.Need-shape_of-words
+shape_of-words c = search rules
 
-same-length-6 : tie.Need-same-length-6
-same-length-6 c = search rules
+shape_of-bits : tie.Need-shape_of-bits
+shape_of-bits c = search rules
 
-returns-3 : tie.Need-returns-3
-returns-3 c = c.before.before.before.before.before.append.ensures.0
+returns : tie.Need-returns
+returns c = c.append.ensures.0
 
-pub append-in-spec : {M : Type 1} → statement M
-append-in-spec =
+pub append_in_spec : {M : Type 1} → statement M
+append_in_spec =
     tie.close
     (tie.spec
-    begin-requires
-    same_length
-    same-length-2
-    returns
-    rows-of-requires
-    same-length-3
-    same-length-4
-    returns-2
-    slice-aggregate-append
-    slice-aggregate-append-2
+    begin-used-requires
+    shape_of-words-then-used-eq0
+    shape_of-bits-then-used-eq0
+    returns-then-used-eq0
+    rows_of-no-requires
+    shape_of-words-then-no-ne0
+    shape_of-bits-then-no-ne0
+    returns-then-no-ne0
+    slice_bounds-append-end
+    slice_bounds-append-end-2
     append-requires
-    same-length-5
-    same-length-6
-    returns-3)
+    shape_of-words
+    shape_of-bits
+    returns)

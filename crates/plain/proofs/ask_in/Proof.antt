@@ -8,59 +8,58 @@ use borrow.Author.Rules.{rules}
 use Rattle.plain.proofs.ask_in.Statement.{statement}
 use Rattle.plain.proofs.ask_in.Tie as tie
 
-begin-requires : tie.Need-begin-requires
-begin-requires c κs = search rules
+begin-used-requires : tie.Need-begin-used-requires
+begin-used-requires c κs = search rules
 
-same_length : tie.Need-same-length
-same_length c = search rules
+shape_of-bits-then-used-eq0 : tie.Need-shape_of-bits-then-used-eq0
+shape_of-bits-then-used-eq0 c = search rules
 
-returns : tie.Need-returns
-returns c = let s = c.before.before.before.before.before.before.before in unread _ _ _ _ c.before.before.before.begin.ensures.is c.if1.true ∙ sym (asked_is s.args.asking s.args.words.now)
+returns-then-used-eq0 : tie.Need-returns-then-used-eq0
+returns-then-used-eq0 c = unread _ _ _ _ c.begin-used.ensures.is c.if-used-eq0.true ∙ sym (asked_is c.args.asking c.args.words.now)
 
-rows-of-requires : tie.Need-rows-of-requires
-rows-of-requires c κs = c.before.before.before.before.begin.ensures.ready c.before.if1.false
+rows_of-no-requires : tie.Need-rows_of-no-requires
+rows_of-no-requires c κs = c.begin-used.ensures.ready c.if-used-eq0.false
 
-same-length-2 : tie.Need-same-length-2
-same-length-2 c = search rules
+shape_of-bits-then-no-ne0 : tie.Need-shape_of-bits-then-no-ne0
+shape_of-bits-then-no-ne0 c = search rules
 
-returns-2 : tie.Need-returns-2
-returns-2 c = let s = c.before.before.before.before.before.before.before.before.before.before in read_back _ _ _ _ c.before.before.before.before.before.before.begin.ensures.is c.before.before.before.if1.false _ c.before.rows_of.ensures c.if2.true ∙ sym (asked_is s.args.asking s.args.words.now)
+returns-then-no-ne0 : tie.Need-returns-then-no-ne0
+returns-then-no-ne0 c = read_back _ _ _ _ c.begin-used.ensures.is c.if-used-eq0.false _ c.rows_of-no.ensures c.if-no-ne0.true ∙ sym (asked_is c.args.asking c.args.words.now)
 
-slice-aggregate-tell : tie.Need-slice-aggregate-tell
-slice-aggregate-tell c = search rules
+slice_bounds-tell-end : tie.Need-slice_bounds-tell-end
+slice_bounds-tell-end c = search rules
 
-slice-aggregate-tell-2 : tie.Need-slice-aggregate-tell-2
-slice-aggregate-tell-2 c = search rules
+slice_bounds-tell-end-2 : tie.Need-slice_bounds-tell-end-2
+slice_bounds-tell-end-2 c = search rules
 
 tell-requires : tie.Need-tell-requires
 tell-requires c κs =
-    let is = c.before.before.before.before.before.before.before.before.before.begin.ensures.is in
-    let ne = c.before.before.before.before.before.before.if1.false in
-    let q = sym c.before.before.before.before.rows_of.ensures ∙ c.before.before.before.if2.false in
+    let is = c.begin-used.ensures.is in
+    let ne = c.if-used-eq0.false in
+    let q = sym c.rows_of-no.ensures ∙ c.if-no-ne0.false in
     let b = begun _ _ is ne in
     (whole _ _ _ b q, (right_none _, b.covers))
 
-same-length-3 : tie.Need-same-length-3
-same-length-3 c = search rules
+shape_of-bits : tie.Need-shape_of-bits
+shape_of-bits c = search rules
 
-returns-3 : tie.Need-returns-3
-returns-3 c =
-    let s = c.before.before.before.before.before.before.before.before.before.before.before.before.before.before.before.before.before in
-    let q = sym c.before.before.before.before.before.before.before.before.rows_of.ensures ∙ c.before.before.before.before.before.before.before.if2.false in
-    answered _ _ _ _ c.before.before.before.before.before.before.before.before.before.before.before.before.before.begin.ensures.is c.before.before.before.before.before.before.before.before.before.before.if1.false q _ c.before.before.before.tell.ensures.0 ∙ sym (asked_is s.args.asking s.args.words.now)
+returns : tie.Need-returns
+returns c =
+    let q = sym c.rows_of-no.ensures ∙ c.if-no-ne0.false in
+    answered _ _ _ _ c.begin-used.ensures.is c.if-used-eq0.false q _ c.tell.ensures.0 ∙ sym (asked_is c.args.asking c.args.words.now)
 
-pub ask-in-spec : {M : Type 1} → statement M
-ask-in-spec =
+pub ask_in_spec : {M : Type 1} → statement M
+ask_in_spec =
     tie.close
     (tie.spec
-    begin-requires
-    same_length
-    returns
-    rows-of-requires
-    same-length-2
-    returns-2
-    slice-aggregate-tell
-    slice-aggregate-tell-2
+    begin-used-requires
+    shape_of-bits-then-used-eq0
+    returns-then-used-eq0
+    rows_of-no-requires
+    shape_of-bits-then-no-ne0
+    returns-then-no-ne0
+    slice_bounds-tell-end
+    slice_bounds-tell-end-2
     tell-requires
-    same-length-3
-    returns-3)
+    shape_of-bits
+    returns)
