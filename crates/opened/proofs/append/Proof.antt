@@ -10,96 +10,92 @@ use borrow.Author.Rules.{rules}
 use Rattle.opened.proofs.append.Statement.{statement}
 use Rattle.opened.proofs.append.Tie as tie
 
-slice-read-used : tie.Need-slice-read-used
-slice-read-used c = first_word _ c.before.before.before.before.before.before.requires.well
+bounds-words-0 : tie.Need-bounds-words-0
+bounds-words-0 c = first_word _ c.requires.well
 
-marks-size-requires : tie.Need-marks-size-requires
-marks-size-requires c κs = few_words _ c.before.before.before.before.before.before.requires.well
+marks_size-k-requires : tie.Need-marks_size-k-requires
+marks_size-k-requires c κs = few_words _ c.requires.well
 
-slice-reshare-prefix-rows-of : tie.Need-slice-reshare-prefix-rows-of
-slice-reshare-prefix-rows-of c = search rules
+slice_bounds-rows_of-end : tie.Need-slice_bounds-rows_of-end
+slice_bounds-rows_of-end c = search rules
 
-slice-aggregate-rows-of : tie.Need-slice-aggregate-rows-of
-slice-aggregate-rows-of c = let s = c.before.before.before.before.before.before.before.before.before in marks_long s.args.words.now _ _ c.before.before.marks-size.ensures.0 s.requires.whole.room
+slice_bounds-rows_of-end-2 : tie.Need-slice_bounds-rows_of-end-2
+slice_bounds-rows_of-end-2 c = marks_long c.args.words.now _ _ c.marks_size-k.ensures.0 c.requires.whole.room
 
-rows-of-requires : tie.Need-rows-of-requires
-rows-of-requires c κs = let s = c.before.before.before.before.before.before.before.before.before in marked_rows s.requires _ c.before.before.marks-size.ensures.0
+rows_of-no-requires : tie.Need-rows_of-no-requires
+rows_of-no-requires c κs = marked_rows c.requires _ c.marks_size-k.ensures.0
 
-same_length : tie.Need-same-length
-same_length c = search rules
+shape_of-words-then-no-ne0 : tie.Need-shape_of-words-then-no-ne0
+shape_of-words-then-no-ne0 c = search rules
 
-same-length-2 : tie.Need-same-length-2
-same-length-2 c = search rules
+shape_of-index-then-no-ne0 : tie.Need-shape_of-index-then-no-ne0
+shape_of-index-then-no-ne0 c = search rules
 
-returns : tie.Need-returns
-returns c =
-    let s = c.before.before.before.before.before.before.before.before.before.before.before in
-    (turned _ _ _ _ (used_is _ s.requires.well) (used_some _ s.requires.well) _ c.before.rows_of.ensures c.if1.true ∙ sym (appended_is s.args.making s.args.list.now s.args.text.now s.args.words.now), s.requires)
+returns-then-no-ne0 : tie.Need-returns-then-no-ne0
+returns-then-no-ne0 c =
+    (turned _ _ _ _ (used_is _ c.requires.well) (used_some _ c.requires.well) _ c.rows_of-no.ensures c.if-no-ne0.true ∙ sym (appended_is c.args.making c.args.list.now c.args.text.now c.args.words.now), c.requires)
 
-slice-aggregate-append : tie.Need-slice-aggregate-append
-slice-aggregate-append c = search rules
+slice_bounds-append-end : tie.Need-slice_bounds-append-end
+slice_bounds-append-end c = search rules
 
-mul-append : tie.Need-overflow-mul-append
-mul-append c = search rules
+offset_bounds-index-k : tie.Need-offset_bounds-index-k
+offset_bounds-index-k c = search rules
 
-sub-append : tie.Need-overflow-sub-append
-sub-append c = search rules
+slice_bounds-append-count : tie.Need-slice_bounds-append-count
+slice_bounds-append-count c = search rules
 
-part-append-start : tie.Need-slice-bounds-append-start
-part-append-start c = search rules
+slice_bounds-append-start : tie.Need-slice_bounds-append-start
+slice_bounds-append-start c = search rules
 
-part-append-end : tie.Need-slice-bounds-append-end
-part-append-end c = search rules
+slice_bounds-append-end-2 : tie.Need-slice_bounds-append-end-2
+slice_bounds-append-end-2 c = search rules
 
-append-requires : tie.Need-append-requires
-append-requires c κs =
-    let s = c.before.before.before.before.before.before.before.before.before.before.before.before.before.before.before.before in
-    let q = sym c.before.before.before.before.before.before.rows_of.ensures ∙ c.before.before.before.before.before.if1.false in
-    ((used_is _ s.requires.well, used_some _ s.requires.well), (q, (s.requires.right, lent_covers s.requires _ c.before.before.before.before.before.before.before.before.before.marks-size.ensures.0)))
+append-r-requires : tie.Need-append-r-requires
+append-r-requires c κs =
+    let q = sym c.rows_of-no.ensures ∙ c.if-no-ne0.false in
+    ((used_is _ c.requires.well, used_some _ c.requires.well), (q, (c.requires.right, lent_covers c.requires _ c.marks_size-k.ensures.0)))
 
 extend-requires : tie.Need-extend-requires
 extend-requires c κs =
-    let s = c.before.before.before.before.before.before.before.before.before.before.before.before.before.before.before.before.before.before.before.before.before.before.before.before in
-    let a = c.before.before.before.before.before.before.before.append in
-    let k = appended s.args.making s.args.list.now s.args.text.now in
-    (after_well _ _ k a.ensures.1.1 s.requires.well _ a.ensures.0, after_stale _ _ k a.ensures.1.1 s.requires.well _ a.ensures.0 _ a.auto.0 s.requires.whole)
+    let a = c.append-r in
+    let k = appended c.args.making c.args.list.now c.args.text.now in
+    (after_well _ _ k a.ensures.1.1 c.requires.well _ a.ensures.0, after_stale _ _ k a.ensures.1.1 c.requires.well _ a.ensures.0 _ a.auto.words c.requires.whole)
 
-same-length-3 : tie.Need-same-length-3
-same-length-3 c = search rules
+shape_of-words : tie.Need-shape_of-words
+shape_of-words c = search rules
 
-same-length-4 : tie.Need-same-length-4
-same-length-4 c = search rules
+shape_of-index : tie.Need-shape_of-index
+shape_of-index c = search rules
 
-same-length-5 : tie.Need-same-length-5
-same-length-5 c = search rules
+shape_of-memory : tie.Need-shape_of-memory
+shape_of-memory c = search rules
 
-returns-2 : tie.Need-returns-2
-returns-2 c =
-    let s = c.before.before.before.before.before.before.before.before.before.before.before.before.before.before.before.before.before.before.before.before.before.before.before.before.before.before.before in
-    let a = c.before.before.before.before.before.before.before.before.before.before.append in
-    let k = appended s.args.making s.args.list.now s.args.text.now in
-    (a.ensures.0, record { well = after_well _ _ k a.ensures.1.1 s.requires.well _ a.ensures.0; whole = c.before.before.extend.ensures; right = a.ensures.1.0 })
+returns : tie.Need-returns
+returns c =
+    let a = c.append-r in
+    let k = appended c.args.making c.args.list.now c.args.text.now in
+    (a.ensures.0, record { well = after_well _ _ k a.ensures.1.1 c.requires.well _ a.ensures.0; whole = c.extend.ensures; right = a.ensures.1.0 })
 
-pub append-spec : {M : Type 1} → statement M
-append-spec =
+pub append_spec : {M : Type 1} → statement M
+append_spec =
     tie.close
     (tie.spec
-    slice-read-used
-    marks-size-requires
-    slice-reshare-prefix-rows-of
-    slice-aggregate-rows-of
-    rows-of-requires
-    same_length
-    same-length-2
-    returns
-    slice-aggregate-append
-    mul-append
-    sub-append
-    part-append-start
-    part-append-end
-    append-requires
+    bounds-words-0
+    marks_size-k-requires
+    slice_bounds-rows_of-end
+    slice_bounds-rows_of-end-2
+    rows_of-no-requires
+    shape_of-words-then-no-ne0
+    shape_of-index-then-no-ne0
+    returns-then-no-ne0
+    slice_bounds-append-end
+    offset_bounds-index-k
+    slice_bounds-append-count
+    slice_bounds-append-start
+    slice_bounds-append-end-2
+    append-r-requires
     extend-requires
-    same-length-3
-    same-length-4
-    same-length-5
-    returns-2)
+    shape_of-words
+    shape_of-index
+    shape_of-memory
+    returns)

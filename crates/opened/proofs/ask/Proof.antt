@@ -10,69 +10,66 @@ use borrow.Author.Rules.{rules}
 use Rattle.opened.proofs.ask.Statement.{statement}
 use Rattle.opened.proofs.ask.Tie as tie
 
-shared-slice-read-used : tie.Need-shared-slice-read-used
-shared-slice-read-used c = first_word _ c.before.before.before.before.requires.well
+bounds-words-0 : tie.Need-bounds-words-0
+bounds-words-0 c = first_word _ c.requires.well
 
-marks-size-requires : tie.Need-marks-size-requires
-marks-size-requires c κs = few_words _ c.before.before.before.before.requires.well
+marks_size-k-requires : tie.Need-marks_size-k-requires
+marks_size-k-requires c κs = few_words _ c.requires.well
 
-slice-aggregate-rows-of : tie.Need-slice-aggregate-rows-of
-slice-aggregate-rows-of c = let s = c.before.before.before.before.before.before in marks_long s.args.words.now _ _ c.before.marks-size.ensures.0 s.requires.whole.room
+slice_bounds-rows_of-end : tie.Need-slice_bounds-rows_of-end
+slice_bounds-rows_of-end c = marks_long c.args.words.now _ _ c.marks_size-k.ensures.0 c.requires.whole.room
 
-rows-of-requires : tie.Need-rows-of-requires
-rows-of-requires c κs = let s = c.before.before.before.before.before.before in marked_rows s.requires _ c.before.marks-size.ensures.0
+rows_of-no-requires : tie.Need-rows_of-no-requires
+rows_of-no-requires c κs = marked_rows c.requires _ c.marks_size-k.ensures.0
 
-returns : tie.Need-returns
-returns c =
-    let s = c.before.before.before.before.before.before.before.before in
-    (read_back _ _ _ _ (used_is _ s.requires.well) (used_some _ s.requires.well) _ c.before.rows_of.ensures c.if1.true ∙ sym (asked_is s.args.asking s.args.words.now), s.requires)
+returns-then-no-ne0 : tie.Need-returns-then-no-ne0
+returns-then-no-ne0 c =
+    (read_back _ _ _ _ (used_is _ c.requires.well) (used_some _ c.requires.well) _ c.rows_of-no.ensures c.if-no-ne0.true ∙ sym (asked_is c.args.asking c.args.words.now), c.requires)
 
-slice-aggregate-tell : tie.Need-slice-aggregate-tell
-slice-aggregate-tell c = search rules
+slice_bounds-tell-end : tie.Need-slice_bounds-tell-end
+slice_bounds-tell-end c = search rules
 
-mul-tell : tie.Need-overflow-mul-tell
-mul-tell c = search rules
+offset_bounds-index-k : tie.Need-offset_bounds-index-k
+offset_bounds-index-k c = search rules
 
-sub-tell : tie.Need-overflow-sub-tell
-sub-tell c = search rules
+slice_bounds-tell-count : tie.Need-slice_bounds-tell-count
+slice_bounds-tell-count c = search rules
 
-part-tell-start : tie.Need-slice-bounds-tell-start
-part-tell-start c = search rules
+slice_bounds-tell-start : tie.Need-slice_bounds-tell-start
+slice_bounds-tell-start c = search rules
 
-part-tell-end : tie.Need-slice-bounds-tell-end
-part-tell-end c = search rules
+slice_bounds-tell-end-2 : tie.Need-slice_bounds-tell-end-2
+slice_bounds-tell-end-2 c = search rules
 
 tell-requires : tie.Need-tell-requires
 tell-requires c κs =
-    let s = c.before.before.before.before.before.before.before.before.before.before.before in
-    let q = sym c.before.before.before.before.rows_of.ensures ∙ c.before.before.before.if1.false in
-    (whole _ _ _ (begun _ _ (used_is _ s.requires.well) (used_some _ s.requires.well)) q, (s.requires.right, lent_covers s.requires _ c.before.before.before.before.before.before.marks-size.ensures.0))
+    let q = sym c.rows_of-no.ensures ∙ c.if-no-ne0.false in
+    (whole _ _ _ (begun _ _ (used_is _ c.requires.well) (used_some _ c.requires.well)) q, (c.requires.right, lent_covers c.requires _ c.marks_size-k.ensures.0))
 
-same_length : tie.Need-same-length
-same_length c = search rules
+shape_of-memory : tie.Need-shape_of-memory
+shape_of-memory c = search rules
 
-returns-2 : tie.Need-returns-2
-returns-2 c =
-    let s = c.before.before.before.before.before.before.before.before.before.before.before.before.before.before.before in
-    let q = sym c.before.before.before.before.before.before.before.before.rows_of.ensures ∙ c.before.before.before.before.before.before.before.if1.false in (
-      answered _ _ _ _ (used_is _ s.requires.well) (used_some _ s.requires.well) q _ c.before.before.before.tell.ensures.0 ∙ sym (asked_is s.args.asking s.args.words.now),
-      record { well = s.requires.well; whole = s.requires.whole; right = c.before.before.before.tell.ensures.1 },
+returns : tie.Need-returns
+returns c =
+    let q = sym c.rows_of-no.ensures ∙ c.if-no-ne0.false in (
+      answered _ _ _ _ (used_is _ c.requires.well) (used_some _ c.requires.well) q _ c.tell.ensures.0 ∙ sym (asked_is c.args.asking c.args.words.now),
+      record { well = c.requires.well; whole = c.requires.whole; right = c.tell.ensures.1 },
     )
 
-pub ask-spec : {M : Type 1} → statement M
-ask-spec =
+pub ask_spec : {M : Type 1} → statement M
+ask_spec =
     tie.close
     (tie.spec
-    shared-slice-read-used
-    marks-size-requires
-    slice-aggregate-rows-of
-    rows-of-requires
-    returns
-    slice-aggregate-tell
-    mul-tell
-    sub-tell
-    part-tell-start
-    part-tell-end
+    bounds-words-0
+    marks_size-k-requires
+    slice_bounds-rows_of-end
+    rows_of-no-requires
+    returns-then-no-ne0
+    slice_bounds-tell-end
+    offset_bounds-index-k
+    slice_bounds-tell-count
+    slice_bounds-tell-start
+    slice_bounds-tell-end-2
     tell-requires
-    same_length
-    returns-2)
+    shape_of-memory
+    returns)

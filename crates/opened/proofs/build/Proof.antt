@@ -6,67 +6,66 @@ use borrow.Author.Rules.{rules}
 use Rattle.opened.proofs.build.Statement.{statement}
 use Rattle.opened.proofs.build.Tie as tie
 
-marks-size-requires : tie.Need-marks-size-requires
-marks-size-requires c κs = few_words _ c.before.before.before.requires.0
+marks_size-k-requires : tie.Need-marks_size-k-requires
+marks_size-k-requires c κs = few_words _ c.requires.0
 
-slice-relend-prefix-clear : tie.Need-slice-relend-prefix-clear
-slice-relend-prefix-clear c = search rules
+slice_bounds-clear-end : tie.Need-slice_bounds-clear-end
+slice_bounds-clear-end c = search rules
 
-slice-aggregate-clear : tie.Need-slice-aggregate-clear
-slice-aggregate-clear c = let s = c.before.before.before.before.before in marks_long s.args.words.now s.args.index.now _ c.before.marks-size.ensures.0 s.requires.1
+slice_bounds-clear-end-2 : tie.Need-slice_bounds-clear-end-2
+slice_bounds-clear-end-2 c = marks_long c.args.words.now c.args.index.now _ c.marks_size-k.ensures.0 c.requires.1
 
 clear-requires : tie.Need-clear-requires
 clear-requires c κs = search rules
 
-mul-blank : tie.Need-overflow-mul-blank
-mul-blank c = search rules
+offset_bounds-index-k : tie.Need-offset_bounds-index-k
+offset_bounds-index-k c = search rules
 
-sub-blank : tie.Need-overflow-sub-blank
-sub-blank c = search rules
+slice_bounds-blank-count : tie.Need-slice_bounds-blank-count
+slice_bounds-blank-count c = search rules
 
-part-blank-start : tie.Need-slice-bounds-blank-start
-part-blank-start c = search rules
+slice_bounds-blank-start : tie.Need-slice_bounds-blank-start
+slice_bounds-blank-start c = search rules
 
-part-blank-end : tie.Need-slice-bounds-blank-end
-part-blank-end c = search rules
+slice_bounds-blank-end : tie.Need-slice_bounds-blank-end
+slice_bounds-blank-end c = search rules
 
 blank-requires : tie.Need-blank-requires
 blank-requires c κs = search rules
 
 extend-requires : tie.Need-extend-requires
 extend-requires c κs =
-    let s = c.before.before.before.before.before.before.before.before.before.before.before.before.before in
-    let bits = c.before.before.before.before.before.before.before.clear in
-    let chains = c.before.before.before.blank in
-    (s.requires.0, begin_index s.args.words.now s.args.index.now s.requires.0 _ c.before.before.before.before.before.before.before.before.before.marks-size.ensures.0 s.requires.1 bits.new.0 bits.auto.0 bits.ensures chains.new.0 chains.auto.0 chains.ensures)
+    let bits = c.clear in
+    let chains = c.blank in
+    (c.requires.0, begin_index c.args.words.now c.args.index.now c.requires.0 _ c.marks_size-k.ensures.0 c.requires.1 bits.new.bits bits.auto.bits bits.ensures chains.new.index chains.auto.index chains.ensures)
 
 clear-requires-2 : tie.Need-clear-requires-2
 clear-requires-2 c κs = search rules
 
-same_length : tie.Need-same-length
-same_length c = search rules
+shape_of-index : tie.Need-shape_of-index
+shape_of-index c = search rules
 
-same-length-2 : tie.Need-same-length-2
-same-length-2 c = search rules
+shape_of-memory : tie.Need-shape_of-memory
+shape_of-memory c = search rules
 
 returns : tie.Need-returns
-returns c = let s = c.before.before.before.before.before.before.before.before.before.before.before.before.before.before.before.before.before.before.before.before in built_store _ _ s.args.memory.now _ s.requires.0 c.before.before.before.before.before.before.extend.ensures c.before.before.clear2.ensures
+returns c = built_store _ _ c.args.memory.now _ c.requires.0 c.extend.ensures c.clear-2.ensures
 
-pub build-spec : {M : Type 1} → statement M
-build-spec =
+pub build_spec : {M : Type 1} → statement M
+build_spec =
     tie.close
     (tie.spec
-    marks-size-requires
-    slice-relend-prefix-clear
-    slice-aggregate-clear
+    marks_size-k-requires
+    slice_bounds-clear-end
+    slice_bounds-clear-end-2
     clear-requires
-    mul-blank
-    sub-blank
-    part-blank-start
-    part-blank-end
+    offset_bounds-index-k
+    slice_bounds-blank-count
+    slice_bounds-blank-start
+    slice_bounds-blank-end
     blank-requires
     extend-requires
     clear-requires-2
-    same_length
-    same-length-2
+    shape_of-index
+    shape_of-memory
     returns)

@@ -1,4 +1,6 @@
 -- `opened::open` meets its contract.
+use mathlib.Core.Bool.{not}
+use mathlib.Core.Path.{ap}
 use mathlib.Core.List.{[]}
 use Rattle.store_index.proofs.Store.{few_words}
 use Rattle.opened.proofs.Opens.{no_store, too_short, good_store, enough, opened_store}
@@ -6,55 +8,53 @@ use borrow.Author.Rules.{rules}
 use Rattle.opened.proofs.open.Statement.{statement}
 use Rattle.opened.proofs.open.Tie as tie
 
-well-formed-requires : tie.Need-well-formed-requires
-well-formed-requires c κs = search rules
+well_formed-requires : tie.Need-well_formed-requires
+well_formed-requires c κs = search rules
 
-returns : tie.Need-returns
-returns c = no_store _ _ _ _ c.before.well-formed-2.ensures c.if1.true
+returns-then-not-well_formed : tie.Need-returns-then-not-well_formed
+returns-then-not-well_formed c = no_store _ _ _ _ c.well_formed-2.ensures (ap not c.if-not-well_formed.true)
 
-marks-size-requires : tie.Need-marks-size-requires
-marks-size-requires c κs = few_words _ (good_store _ [] [] _ c.before.well-formed-2.ensures c.if1.false)
+marks_size-requires : tie.Need-marks_size-requires
+marks_size-requires c κs = few_words _ (good_store _ [] [] _ c.well_formed-2.ensures (ap not c.if-not-well_formed.false))
 
-mul-if2 : tie.Need-overflow-mul-if2
-mul-if2 c = search rules
+overflow_mul-n : tie.Need-overflow_mul-n
+overflow_mul-n c = search rules
 
-add-if2 : tie.Need-overflow-add-if2
-add-if2 c = search rules
+overflow_add-marks_size : tie.Need-overflow_add-marks_size
+overflow_add-marks_size c = search rules
 
-returns-2 : tie.Need-returns-2
-returns-2 c = too_short _ _ (good_store _ [] [] _ c.before.before.before.well-formed-2.ensures c.before.before.if1.false) _ c.before.marks-size.ensures.0 _ c.if2.true
+returns-then-index-marks_size : tie.Need-returns-then-index-marks_size
+returns-then-index-marks_size c = too_short _ _ (good_store _ [] [] _ c.well_formed-2.ensures (ap not c.if-not-well_formed.false)) _ c.marks_size.ensures.0 _ c.if-index-marks_size.true
 
 build-requires : tie.Need-build-requires
 build-requires c κs =
-    let s = c.before.before.before.before.before.before.before.before.before in
-    let ok = good_store s.args.words.now [] [] _ c.before.before.before.before.before.well-formed-2.ensures c.before.before.before.before.if1.false in
-    (ok, enough s.args.words.now s.args.index.now ok _ c.before.before.before.marks-size.ensures.0 c.before.before.if2.false)
+    let ok = good_store c.args.words.now [] [] _ c.well_formed-2.ensures (ap not c.if-not-well_formed.false) in
+    (ok, enough c.args.words.now c.args.index.now ok _ c.marks_size.ensures.0 c.if-index-marks_size.false)
 
-same_length : tie.Need-same-length
-same_length c = search rules
+shape_of-index : tie.Need-shape_of-index
+shape_of-index c = search rules
 
-same-length-2 : tie.Need-same-length-2
-same-length-2 c = search rules
+shape_of-memory : tie.Need-shape_of-memory
+shape_of-memory c = search rules
 
-returns-3 : tie.Need-returns-3
-returns-3 c =
-    let s = c.before.before.before.before.before.before.before.before.before.before.before.before.before.before in
-    let ws = s.args.words.now in
-    let ok = good_store ws [] [] _ c.before.before.before.before.before.before.before.before.before.before.well-formed-2.ensures c.before.before.before.before.before.before.before.before.before.if1.false in
-    let k = c.before.before.before.before.before.before.before.before.marks-size.ensures.0 in
-    opened_store ws s.args.index.now ok _ k (enough ws s.args.index.now ok _ k c.before.before.before.before.before.before.before.if2.false) _ _ _ c.before.before.before.before.build.ensures
+returns : tie.Need-returns
+returns c =
+    let ws = c.args.words.now in
+    let ok = good_store ws [] [] _ c.well_formed-2.ensures (ap not c.if-not-well_formed.false) in
+    let k = c.marks_size.ensures.0 in
+    opened_store ws c.args.index.now ok _ k (enough ws c.args.index.now ok _ k c.if-index-marks_size.false) _ _ _ c.build.ensures
 
 pub open_spec : {M : Type 1} → statement M
 open_spec =
     tie.close
     (tie.spec
-    well-formed-requires
-    returns
-    marks-size-requires
-    mul-if2
-    add-if2
-    returns-2
+    well_formed-requires
+    returns-then-not-well_formed
+    marks_size-requires
+    overflow_mul-n
+    overflow_add-marks_size
+    returns-then-index-marks_size
     build-requires
-    same_length
-    same-length-2
-    returns-3)
+    shape_of-index
+    shape_of-memory
+    returns)
