@@ -4,107 +4,107 @@ use borrow.Author.Rules.{rules}
 use Rattle.codes.proofs.of_answer_which.Statement.{statement}
 use Rattle.codes.proofs.of_answer_which.Tie as tie
 
-enum-known-m : tie.Need-enum-known-m
-enum-known-m c = search rules
+enum_known-m : tie.Need-enum_known-m
+enum_known-m c = search rules
 
-tell-which-requires : tie.Need-tell-which-requires
-tell-which-requires c κs = search rules
+tell_which-requires : tie.Need-tell_which-requires
+tell_which-requires c κs = search rules
 
-enum-known-m-2 : tie.Need-enum-known-m-2
-enum-known-m-2 c = search rules
+enum_known-m-in-Number-1 : tie.Need-enum_known-m-in-Number-1
+enum_known-m-in-Number-1 c = search rules
 
-tell-which-requires-2 : tie.Need-tell-which-requires-2
-tell-which-requires-2 c κs = search rules
+tell_which-requires-in-Number : tie.Need-tell_which-requires-in-Number
+tell_which-requires-in-Number c κs = search rules
 
-enum-known-m-3 : tie.Need-enum-known-m-3
-enum-known-m-3 c = search rules
+enum_known-m-in-Flag-1 : tie.Need-enum_known-m-in-Flag-1
+enum_known-m-in-Flag-1 c = search rules
 
-flag-word-requires : tie.Need-flag-word-requires
-flag-word-requires c κs = search rules
+flag_word-requires : tie.Need-flag_word-requires
+flag_word-requires c κs = search rules
 
-tell-which-requires-3 : tie.Need-tell-which-requires-3
-tell-which-requires-3 c κs = search rules
+tell_which-requires-in-Flag : tie.Need-tell_which-requires-in-Flag
+tell_which-requires-in-Flag c κs = search rules
 
-enum-known-m-4 : tie.Need-enum-known-m-4
-enum-known-m-4 c = search rules
+enum_known-m-in-Refused-1 : tie.Need-enum_known-m-in-Refused-1
+enum_known-m-in-Refused-1 c = search rules
 
 refusal-requires : tie.Need-refusal-requires
 refusal-requires c κs = search rules
 
-enum-known-m-5 : tie.Need-enum-known-m-5
-enum-known-m-5 c = search rules
+enum_known-m-in-Signed-1 : tie.Need-enum_known-m-in-Signed-1
+enum_known-m-in-Signed-1 c = search rules
 
-tell-which-requires-4 : tie.Need-tell-which-requires-4
-tell-which-requires-4 c κs = search rules
+tell_which-requires-in-Signed : tie.Need-tell_which-requires-in-Signed
+tell_which-requires-in-Signed c κs = search rules
 
-enum_told : tie.Need-enum-told
-enum_told c = search rules
+enum_told-1 : tie.Need-enum_told-1
+enum_told-1 c = search rules
 
 tell-requires : tie.Need-tell-requires
 tell-requires c κs = search rules
 
-enum-known-m-6 : tie.Need-enum-known-m-6
-enum-known-m-6 c = search rules
+enum_known-m-in-Constant-1 : tie.Need-enum_known-m-in-Constant-1
+enum_known-m-in-Constant-1 c = search rules
 
-tell-which-requires-5 : tie.Need-tell-which-requires-5
-tell-which-requires-5 c κs = search rules
+tell_which-requires-in-Constant : tie.Need-tell_which-requires-in-Constant
+tell_which-requires-in-Constant c κs = search rules
 
-enum-known-m-7 : tie.Need-enum-known-m-7
-enum-known-m-7 c = search rules
+enum_known-m-in-Size-1 : tie.Need-enum_known-m-in-Size-1
+enum_known-m-in-Size-1 c = search rules
 
-tell-which-requires-6 : tie.Need-tell-which-requires-6
-tell-which-requires-6 c κs = search rules
+tell_which-requires-in-Size : tie.Need-tell_which-requires-in-Size
+tell_which-requires-in-Size c κs = search rules
 
-returns : tie.Need-returns
-returns c = search rules
+returns-in-Handle : tie.Need-returns-in-Handle
+returns-in-Handle c = search rules
 
-returns-2 : tie.Need-returns-2
-returns-2 c = search rules
+returns-in-Number : tie.Need-returns-in-Number
+returns-in-Number c = search rules
 
-returns-3 : tie.Need-returns-3
-returns-3 c = told_flag_which _ _ _ _ _ _ _ _ c.before.before.before.before.before.m3.given.1 c.before.before.before.flag_word.ensures c.tell-which3.ensures
+returns-in-Flag : tie.Need-returns-in-Flag
+returns-in-Flag c = told_flag_which _ _ _ _ _ _ _ _ c.in-Flag.is c.flag_word.ensures c.tell_which-in-Flag.ensures
 
-returns-4 : tie.Need-returns-4
-returns-4 c = search rules
+returns-in-Refused : tie.Need-returns-in-Refused
+returns-in-Refused c = search rules
 
-returns-5 : tie.Need-returns-5
-returns-5 c = search rules
+returns-in-Signed : tie.Need-returns-in-Signed
+returns-in-Signed c = search rules
 
-returns-6 : tie.Need-returns-6
-returns-6 c = search rules
+returns-in-Absent : tie.Need-returns-in-Absent
+returns-in-Absent c = search rules
 
-returns-7 : tie.Need-returns-7
-returns-7 c = search rules
+returns-in-Constant : tie.Need-returns-in-Constant
+returns-in-Constant c = search rules
 
-returns-8 : tie.Need-returns-8
-returns-8 c = search rules
+returns-in-Size : tie.Need-returns-in-Size
+returns-in-Size c = search rules
 
-pub of-answer-which-spec : {M : Type 1} → statement M
-of-answer-which-spec =
+pub of_answer_which_spec : {M : Type 1} → statement M
+of_answer_which_spec =
     tie.close
     (tie.spec
-    enum-known-m
-    tell-which-requires
-    enum-known-m-2
-    tell-which-requires-2
-    enum-known-m-3
-    flag-word-requires
-    tell-which-requires-3
-    enum-known-m-4
+    enum_known-m
+    tell_which-requires
+    enum_known-m-in-Number-1
+    tell_which-requires-in-Number
+    enum_known-m-in-Flag-1
+    flag_word-requires
+    tell_which-requires-in-Flag
+    enum_known-m-in-Refused-1
     refusal-requires
-    enum-known-m-5
-    tell-which-requires-4
-    enum_told
+    enum_known-m-in-Signed-1
+    tell_which-requires-in-Signed
+    enum_told-1
     tell-requires
-    enum-known-m-6
-    tell-which-requires-5
-    enum-known-m-7
-    tell-which-requires-6
-    returns
-    returns-2
-    returns-3
-    returns-4
-    returns-5
-    returns-6
-    returns-7
-    returns-8)
+    enum_known-m-in-Constant-1
+    tell_which-requires-in-Constant
+    enum_known-m-in-Size-1
+    tell_which-requires-in-Size
+    returns-in-Handle
+    returns-in-Number
+    returns-in-Flag
+    returns-in-Refused
+    returns-in-Signed
+    returns-in-Absent
+    returns-in-Constant
+    returns-in-Size)
