@@ -48,7 +48,12 @@ def line_of(line):
 def call(items):
     name = items[0].text
     arguments = [argument(item, name) for item in items[1:]]
-    return f"{name}({', '.join(arguments)})"
+    return f"{function_of(name)}({', '.join(arguments)})"
+
+
+def function_of(name):
+    """The function that a call's name means: _is stands behind it where a definition has the function's name already."""
+    return name.removesuffix("_is")
 
 
 def argument(item, name):
