@@ -13,145 +13,138 @@ use borrow.Author.Rules.{rules}
 use Rattle.opened_lists.proofs.meet_list.Statement.{statement}
 use Rattle.opened_lists.proofs.meet_list.Tie as tie
 
-slice-read-used : tie.Need-slice-read-used
-slice-read-used c = first_word _ c.before.before.before.before.before.requires.well
+bounds-words-0 : tie.Need-bounds-words-0
+bounds-words-0 c = first_word _ c.requires.well
 
-marks-size-requires : tie.Need-marks-size-requires
-marks-size-requires c κs = few_words _ c.before.before.before.before.before.requires.well
+marks_size-k-requires : tie.Need-marks_size-k-requires
+marks_size-k-requires c κs = few_words _ c.requires.well
 
-slice-reshare-prefix-list-rows : tie.Need-slice-reshare-prefix-list-rows
-slice-reshare-prefix-list-rows c = search rules
+slice_bounds-list_rows-end : tie.Need-slice_bounds-list_rows-end
+slice_bounds-list_rows-end c = search rules
 
-slice-aggregate-list-rows : tie.Need-slice-aggregate-list-rows
-slice-aggregate-list-rows c = let s = c.before.before.before.before.before.before.before.before in marks_long s.args.words.now _ _ c.before.before.marks-size.ensures.0 s.requires.whole.room
+slice_bounds-list_rows-end-2 : tie.Need-slice_bounds-list_rows-end-2
+slice_bounds-list_rows-end-2 c = marks_long c.args.words.now _ _ c.marks_size-k.ensures.0 c.requires.whole.room
 
-list-rows-requires : tie.Need-list-rows-requires
-list-rows-requires c κs = marked_rows c.before.before.before.before.before.before.before.before.requires _ c.before.before.marks-size.ensures.0
+list_rows-no-requires : tie.Need-list_rows-no-requires
+list_rows-no-requires c κs = marked_rows c.requires _ c.marks_size-k.ensures.0
 
-same_length : tie.Need-same-length
-same_length c = search rules
+shape_of-words-then-no-ne0 : tie.Need-shape_of-words-then-no-ne0
+shape_of-words-then-no-ne0 c = search rules
 
-same-length-2 : tie.Need-same-length-2
-same-length-2 c = search rules
+shape_of-index-then-no-ne0 : tie.Need-shape_of-index-then-no-ne0
+shape_of-index-then-no-ne0 c = search rules
 
-returns : tie.Need-returns
-returns c =
-    let s = c.before.before.before.before.before.before.before.before.before.before in
-    (turned (meet_list_rows s.args.types.now) (meet_list_of s.args.types.now) _ _ (used_is _ s.requires.well) (used_some _ s.requires.well) _ c.before.list-rows.ensures (λ z. omega (arith, z, c.if1.true)), s.requires)
+returns-then-no-ne0 : tie.Need-returns-then-no-ne0
+returns-then-no-ne0 c =
+    (turned (meet_list_rows c.args.types.now) (meet_list_of c.args.types.now) _ _ (used_is _ c.requires.well) (used_some _ c.requires.well) _ c.list_rows-no.ensures (λ z. omega (arith, z, c.if-no-ne0.true)), c.requires)
 
-mul-merge : tie.Need-overflow-mul-merge
-mul-merge c = search rules
+offset_bounds-index-k : tie.Need-offset_bounds-index-k
+offset_bounds-index-k c = search rules
 
-sub-merge : tie.Need-overflow-sub-merge
-sub-merge c = search rules
+slice_bounds-merge-count : tie.Need-slice_bounds-merge-count
+slice_bounds-merge-count c = search rules
 
-part-merge-start : tie.Need-slice-bounds-merge-start
-part-merge-start c = search rules
+slice_bounds-merge-start : tie.Need-slice_bounds-merge-start
+slice_bounds-merge-start c = search rules
 
-part-merge-end : tie.Need-slice-bounds-merge-end
-part-merge-end c = search rules
+slice_bounds-merge-end : tie.Need-slice_bounds-merge-end
+slice_bounds-merge-end c = search rules
 
-merge-requires : tie.Need-merge-requires
-merge-requires c κs =
-    let s = c.before.before.before.before.before.before.before.before.before.before.before.before.before in
-    let q = sym c.before.before.before.before.list-rows.ensures ∙ c.before.before.before.if1.false in
-    let k = c.before.before.before.before.before.before.before.marks-size.ensures.0 in
-    (list_ready _ _ _ _ s.requires q _ k, (lent_opened _ _ _ _ s.requires q _ k, s.requires.right))
+merge-r-requires : tie.Need-merge-r-requires
+merge-r-requires c κs =
+    let q = sym c.list_rows-no.ensures ∙ c.if-no-ne0.false in
+    let k = c.marks_size-k.ensures.0 in
+    (list_ready _ _ _ _ c.requires q _ k, (lent_opened _ _ _ _ c.requires q _ k, c.requires.right))
 
-finish-requires : tie.Need-finish-requires
-finish-requires c κs =
-    let s = c.before.before.before.before.before.before.before.before.before.before.before.before.before.before.before.before.before.before.before.before.before in
-    let k = c.before.before.before.before.before.before.before.merge.auto.0 in
-    (omega (arith, first_word _ s.requires.well, k), omega (arith, used_within _ s.requires.well, k))
+finish-m-requires : tie.Need-finish-m-requires
+finish-m-requires c κs =
+    let k = c.merge-r.auto.words in
+    (omega (arith, first_word _ c.requires.well, k), omega (arith, used_within _ c.requires.well, k))
 
-enum-known-m : tie.Need-enum-known-m
-enum-known-m c = search rules
+enum_known-m : tie.Need-enum_known-m
+enum_known-m c = search rules
 
-mark-new-requires : tie.Need-mark-new-requires
-mark-new-requires c κs =
-    let s = c.before.before.before.before.before.before.before.before.before.before.before.before.before.before.before.before.before.before.before.before.before.before.before.before.before.before.before.before.before in
-    let q = sym c.before.before.before.before.before.before.before.before.before.before.before.before.before.before.before.before.before.before.before.before.list-rows.ensures ∙ c.before.before.before.before.before.before.before.before.before.before.before.before.before.before.before.before.before.before.before.if1.false in
-    let g = c.before.before.before.before.before.before.before.before.before.before.before.before.before.before.before.merge in
-    let f = c.before.before.before.before.before.before.before.finish in
-    let e = list_end _ _ _ _ s.requires q _ c.before.before.before.before.before.before.before.before.before.before.before.before.before.before.before.before.before.before.before.before.before.before.before.marks-size.ensures.0 _ _ g.ensures.0 g.auto.0 f.result _ f.ensures f.auto.0 g.new.1.1.1.0 g.auto.1.1.1.0 in
-    (e.well, e.unmarked _ c.before.before.before.m.given.1 g.ensures.1.0)
+mark_new-requires : tie.Need-mark_new-requires
+mark_new-requires c κs =
+    let q = sym c.list_rows-no.ensures ∙ c.if-no-ne0.false in
+    let g = c.merge-r in
+    let f = c.finish-m in
+    let e = list_end _ _ _ _ c.requires q _ c.marks_size-k.ensures.0 _ _ g.ensures.0 g.auto.words f.result _ f.ensures f.auto.words g.new.chains g.auto.chains in
+    (e.well, e.unmarked _ c.in-Handle.is g.ensures.1.0)
 
-enum-known-m-2 : tie.Need-enum-known-m-2
-enum-known-m-2 c = search rules
+enum_known-m-in-Refused-1 : tie.Need-enum_known-m-in-Refused-1
+enum_known-m-in-Refused-1 c = search rules
 
 build-requires : tie.Need-build-requires
 build-requires c κs =
-    let s = c.before.before.before.before.before.before.before.before.before.before.before.before.before.before.before.before.before.before.before.before.before.before.before.before.before.before.before.before.before.before in
-    let q = sym c.before.before.before.before.before.before.before.before.before.before.before.before.before.before.before.before.before.before.before.before.before.list-rows.ensures ∙ c.before.before.before.before.before.before.before.before.before.before.before.before.before.before.before.before.before.before.before.before.if1.false in
-    let g = c.before.before.before.before.before.before.before.before.before.before.before.before.before.before.before.before.merge in
-    let f = c.before.before.before.before.before.before.before.before.finish in
-    let e = list_end _ _ _ _ s.requires q _ c.before.before.before.before.before.before.before.before.before.before.before.before.before.before.before.before.before.before.before.before.before.before.before.before.marks-size.ensures.0 _ _ g.ensures.0 g.auto.0 f.result _ f.ensures f.auto.0 g.new.1.1.1.0 g.auto.1.1.1.0 in
+    let q = sym c.list_rows-no.ensures ∙ c.if-no-ne0.false in
+    let g = c.merge-r in
+    let f = c.finish-m in
+    let e = list_end _ _ _ _ c.requires q _ c.marks_size-k.ensures.0 _ _ g.ensures.0 g.auto.words f.result _ f.ensures f.auto.words g.new.chains g.auto.chains in
     (e.well, e.room)
 
-same-length-3 : tie.Need-same-length-3
-same-length-3 c = search rules
+shape_of-words-in-Handle : tie.Need-shape_of-words-in-Handle
+shape_of-words-in-Handle c = search rules
 
-same-length-4 : tie.Need-same-length-4
-same-length-4 c = search rules
+shape_of-index-in-Handle : tie.Need-shape_of-index-in-Handle
+shape_of-index-in-Handle c = search rules
 
-same-length-5 : tie.Need-same-length-5
-same-length-5 c = search rules
+shape_of-memory-in-Handle : tie.Need-shape_of-memory-in-Handle
+shape_of-memory-in-Handle c = search rules
 
-returns-2 : tie.Need-returns-2
-returns-2 c =
-    let s = c.before.before.before.before.before.before.before.before.before.before.before.before.before.before.before.before.before.before.before.before.before.before.before.before.before.before.before.before.before.before.before.before in
-    let q = sym c.before.before.before.before.before.before.before.before.before.before.before.before.before.before.before.before.before.before.before.before.before.before.before.list-rows.ensures ∙ c.before.before.before.before.before.before.before.before.before.before.before.before.before.before.before.before.before.before.before.before.before.before.if1.false in
-    let g = c.before.before.before.before.before.before.before.before.before.before.before.before.before.before.before.before.before.before.merge in
-    let f = c.before.before.before.before.before.before.before.before.before.before.finish in
-    let e = list_end _ _ _ _ s.requires q _ c.before.before.before.before.before.before.before.before.before.before.before.before.before.before.before.before.before.before.before.before.before.before.before.before.before.before.marks-size.ensures.0 _ _ g.ensures.0 g.auto.0 f.result _ f.ensures f.auto.0 g.new.1.1.1.0 g.auto.1.1.1.0 in
-    let h = c.before.before.before.before.before.before.m.given.1 in
-    (ap (λ (x : Made). left (made x) f.new.0) (sym h) ∙ e.reply, record { well = e.well; whole = c.before.before.mark-new.ensures; right = e.right _ h _ g.ensures.1.1 })
+returns-in-Handle : tie.Need-returns-in-Handle
+returns-in-Handle c =
+    let q = sym c.list_rows-no.ensures ∙ c.if-no-ne0.false in
+    let g = c.merge-r in
+    let f = c.finish-m in
+    let e = list_end _ _ _ _ c.requires q _ c.marks_size-k.ensures.0 _ _ g.ensures.0 g.auto.words f.result _ f.ensures f.auto.words g.new.chains g.auto.chains in
+    let h = c.in-Handle.is in
+    (ap (λ (x : Made). left (made x) f.new.words) (sym h) ∙ e.reply, record { well = e.well; whole = c.mark_new.ensures; right = e.right _ h _ g.ensures.1.1 })
 
-same-length-6 : tie.Need-same-length-6
-same-length-6 c = search rules
+shape_of-words-in-Refused : tie.Need-shape_of-words-in-Refused
+shape_of-words-in-Refused c = search rules
 
-same-length-7 : tie.Need-same-length-7
-same-length-7 c = search rules
+shape_of-index-in-Refused : tie.Need-shape_of-index-in-Refused
+shape_of-index-in-Refused c = search rules
 
-same-length-8 : tie.Need-same-length-8
-same-length-8 c = search rules
+shape_of-memory-in-Refused : tie.Need-shape_of-memory-in-Refused
+shape_of-memory-in-Refused c = search rules
 
-returns-3 : tie.Need-returns-3
-returns-3 c =
-    let s = c.before.before.before.before.before.before.before.before.before.before.before.before.before.before.before.before.before.before.before.before.before.before.before.before.before.before.before.before.before.before.before.before.before.before.before in
-    let q = sym c.before.before.before.before.before.before.before.before.before.before.before.before.before.before.before.before.before.before.before.before.before.before.before.before.before.before.list-rows.ensures ∙ c.before.before.before.before.before.before.before.before.before.before.before.before.before.before.before.before.before.before.before.before.before.before.before.before.before.if1.false in
-    let g = c.before.before.before.before.before.before.before.before.before.before.before.before.before.before.before.before.before.before.before.before.before.merge in
-    let f = c.before.before.before.before.before.before.before.before.before.before.before.before.before.finish in
-    let e = list_end _ _ _ _ s.requires q _ c.before.before.before.before.before.before.before.before.before.before.before.before.before.before.before.before.before.before.before.before.before.before.before.before.before.before.before.before.before.marks-size.ensures.0 _ _ g.ensures.0 g.auto.0 f.result _ f.ensures f.auto.0 g.new.1.1.1.0 g.auto.1.1.1.0 in
-    (ap (λ (x : Made). left (made x) f.new.0) (sym c.before.before.before.before.before.before.before.before.before.m2.given.1) ∙ e.reply, c.before.before.before.before.build.ensures)
+returns-in-Refused : tie.Need-returns-in-Refused
+returns-in-Refused c =
+    let q = sym c.list_rows-no.ensures ∙ c.if-no-ne0.false in
+    let g = c.merge-r in
+    let f = c.finish-m in
+    let e = list_end _ _ _ _ c.requires q _ c.marks_size-k.ensures.0 _ _ g.ensures.0 g.auto.words f.result _ f.ensures f.auto.words g.new.chains g.auto.chains in
+    (ap (λ (x : Made). left (made x) f.new.words) (sym c.in-Refused.is) ∙ e.reply, c.build.ensures)
 
-pub meet-list-spec : {M : Type 1} → statement M
-meet-list-spec =
+pub meet_list_spec : {M : Type 1} → statement M
+meet_list_spec =
     tie.close
     (tie.spec
-    slice-read-used
-    marks-size-requires
-    slice-reshare-prefix-list-rows
-    slice-aggregate-list-rows
-    list-rows-requires
-    same_length
-    same-length-2
-    returns
-    mul-merge
-    sub-merge
-    part-merge-start
-    part-merge-end
-    merge-requires
-    finish-requires
-    enum-known-m
-    mark-new-requires
-    enum-known-m-2
+    bounds-words-0
+    marks_size-k-requires
+    slice_bounds-list_rows-end
+    slice_bounds-list_rows-end-2
+    list_rows-no-requires
+    shape_of-words-then-no-ne0
+    shape_of-index-then-no-ne0
+    returns-then-no-ne0
+    offset_bounds-index-k
+    slice_bounds-merge-count
+    slice_bounds-merge-start
+    slice_bounds-merge-end
+    merge-r-requires
+    finish-m-requires
+    enum_known-m
+    mark_new-requires
+    enum_known-m-in-Refused-1
     build-requires
-    same-length-3
-    same-length-4
-    same-length-5
-    returns-2
-    same-length-6
-    same-length-7
-    same-length-8
-    returns-3)
+    shape_of-words-in-Handle
+    shape_of-index-in-Handle
+    shape_of-memory-in-Handle
+    returns-in-Handle
+    shape_of-words-in-Refused
+    shape_of-index-in-Refused
+    shape_of-memory-in-Refused
+    returns-in-Refused)

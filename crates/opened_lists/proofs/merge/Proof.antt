@@ -14,125 +14,117 @@ use borrow.Author.Rules.{rules}
 use Rattle.opened_lists.proofs.merge.Statement.{statement}
 use Rattle.opened_lists.proofs.merge.Tie as tie
 
-abbrev invariant-loop : tie.invariant-loop
-invariant-loop words₀ used types chains₀ memory₀ none t₀ v₀ i₀ words chains memory t v i = (i ≤ length types) × (length words ≡ length words₀) × (length chains ≡ length chains₀) × (length memory ≡ length memory₀) × Merging [] words₀ used types words t v i × Opened (take v words) chains × Right (take v words) memory × (length types ≤ 4096)
+abbrev invariant-loop-i : tie.invariant-loop-i
+invariant-loop-i words₀ used types chains₀ memory₀ none t₀ v₀ i₀ words chains memory t v i = (i ≤ length types) × (length words ≡ length words₀) × (length chains ≡ length chains₀) × (length memory ≡ length memory₀) × Merging [] words₀ used types words t v i × Opened (take v words) chains × Right (take v words) memory × (length types ≤ 4096)
 
-abbrev decreases-loop : tie.decreases-loop
-decreases-loop words₀ used types chains₀ memory₀ none t₀ v₀ i₀ words chains memory t v i = length types - i
+abbrev decreases-loop-i : tie.decreases-loop-i
+decreases-loop-i words₀ used types chains₀ memory₀ none t₀ v₀ i₀ words chains memory t v i = length types - i
 
-abbrev start : tie.At-loop invariant-loop decreases-loop → tie.Start invariant-loop decreases-loop
+abbrev start : tie.At-loop-i invariant-loop-i decreases-loop-i → tie.Start invariant-loop-i decreases-loop-i
 start l = l.before.before.before.before.before
 
 -- the turn in which a meet was made
-abbrev turn : tie.After-meet invariant-loop decreases-loop → tie.In-loop invariant-loop decreases-loop
+abbrev turn : tie.After-meet-m invariant-loop-i decreases-loop-i → tie.In-loop-i invariant-loop-i decreases-loop-i
 turn m = m.before.before.before.before.before.before
 
-loop-holds : tie.Need-loop-init invariant-loop decreases-loop
-loop-holds c = let s = c.before.before.before.before in (search rules, refl, refl, refl, merging_begin s.requires.0, s.requires.1.0, s.requires.1.1, list_few _ _ s.requires.0.passed)
+loop-i-init : tie.Need-loop-i-init invariant-loop-i decreases-loop-i
+loop-i-init c = (search rules, refl, refl, refl, merging_begin c.requires.0, c.requires.1.0, c.requires.1.1, list_few _ _ c.requires.0.passed)
 
-slice-aggregate-meet : tie.Need-slice-aggregate-meet invariant-loop decreases-loop
-slice-aggregate-meet c = search rules
+slice_bounds-meet-end : tie.Need-slice_bounds-meet-end invariant-loop-i decreases-loop-i
+slice_bounds-meet-end c = search rules
 
-mul-meet : tie.Need-overflow-mul-meet invariant-loop decreases-loop
-mul-meet c = search rules
+offset_bounds-types-i : tie.Need-offset_bounds-types-i invariant-loop-i decreases-loop-i
+offset_bounds-types-i c = search rules
 
-shared-slice-read-meet : tie.Need-shared-slice-read-meet invariant-loop decreases-loop
-shared-slice-read-meet c = search rules
+bounds-types-i : tie.Need-bounds-types-i invariant-loop-i decreases-loop-i
+bounds-types-i c = search rules
 
-meet-requires : tie.Need-meet-requires invariant-loop decreases-loop
-meet-requires c κs =
-    let l = c.before.before.before.before.before in
-    let inv = l.before.loop.invariant in
-    (merging_ready (start l.before).pre.0 inv.4 l.loop-test.true, (inv.6, inv.5.covers))
+meet-m-requires : tie.Need-meet-m-requires invariant-loop-i decreases-loop-i
+meet-m-requires c κs =
+    let inv = c.loop-i.invariant in
+    (merging_ready (start c.before.before.before.before.before).requires.0 inv.4 c.loop-i-test.true, (inv.6, inv.5.covers))
 
-enum-known-m : tie.Need-enum-known-m invariant-loop decreases-loop
-enum-known-m c = search rules
+enum_known-m : tie.Need-enum_known-m invariant-loop-i decreases-loop-i
+enum_known-m c = search rules
 
-extend-requires : tie.Need-extend-requires invariant-loop decreases-loop
+extend-requires : tie.Need-extend-requires invariant-loop-i decreases-loop-i
 extend-requires c κs =
-    let m = c.before.before.before.before.before.before.before.before.before in
-    let l = turn m in
-    let s = start l.before in
-    let inv = l.before.loop.inv in
-    let at = c.before.before.before.m.given.1 in
-    let next = merging_more s.pre.0 inv.4 l.loop-test.taken _ _ m.meet.ensures.0 _ _ at in
-    (omega (arith, grew_high next.grew, grew_long next.grew), next.good.sound.full, merging_covers s.pre.0 inv.4 l.loop-test.taken _ _ m.meet.ensures.0 _ _ at inv.5.covers)
+    let inv = c.loop-i.invariant in
+    let at = c.in-At.is in
+    let next = merging_more c.requires.0 inv.4 c.loop-i-test.true _ _ c.meet-m.ensures.0 _ _ at in
+    (omega (arith, grew_high next.grew, grew_long next.grew), next.good.sound.full, merging_covers c.requires.0 inv.4 c.loop-i-test.true _ _ c.meet-m.ensures.0 _ _ at inv.5.covers)
 
-enum_told : tie.Need-enum-told invariant-loop decreases-loop
-enum_told c = search rules
+enum_told-1 : tie.Need-enum_told-1 invariant-loop-i decreases-loop-i
+enum_told-1 c = search rules
 
-same_length : tie.Need-same-length invariant-loop decreases-loop
-same_length c = search rules
+shape_of-words-in-Full : tie.Need-shape_of-words-in-Full invariant-loop-i decreases-loop-i
+shape_of-words-in-Full c = search rules
 
-same-length-2 : tie.Need-same-length-2 invariant-loop decreases-loop
-same-length-2 c = search rules
+shape_of-chains-in-Full : tie.Need-shape_of-chains-in-Full invariant-loop-i decreases-loop-i
+shape_of-chains-in-Full c = search rules
 
-same-length-3 : tie.Need-same-length-3 invariant-loop decreases-loop
-same-length-3 c = search rules
+shape_of-memory-in-Full : tie.Need-shape_of-memory-in-Full invariant-loop-i decreases-loop-i
+shape_of-memory-in-Full c = search rules
 
-returns : tie.Need-returns invariant-loop decreases-loop
-returns c =
-    let m = c.before.before.before.before.before.before in
-    let l = turn m in
-    (merging_full (start l.before).pre.0 l.before.loop.inv.4 l.loop-test.taken _ _ m.meet.ensures.0 c.enum_told.given.1, (opened_full, then_full))
+returns-in-Full : tie.Need-returns-in-Full invariant-loop-i decreases-loop-i
+returns-in-Full c =
+    (merging_full (start c.before.before.before.before.before.before.before.before.before.before.before).requires.0 c.loop-i.invariant.4 c.loop-i-test.true _ _ c.meet-m.ensures.0 c.in-Full.is, (opened_full, then_full))
 
-add-i : tie.Need-overflow-add-i invariant-loop decreases-loop
-add-i c = let l = turn c.before.before.before.before.before.before.before.before.before.before.before.before in omega (arith, l.loop-test.taken, l.before.loop.inv.7)
+overflow_add-i : tie.Need-overflow_add-i invariant-loop-i decreases-loop-i
+overflow_add-i c = omega (arith, c.loop-i-test.true, c.loop-i.invariant.7)
 
-loop-less : tie.Need-loop-smaller invariant-loop decreases-loop
-loop-less c = search rules
+loop-i-smaller : tie.Need-loop-i-smaller invariant-loop-i decreases-loop-i
+loop-i-smaller c = search rules
 
-loop-again : tie.Need-loop-preserved invariant-loop decreases-loop
-loop-again c =
-    let m = c.before.before.before.before.before.before.before.before.before.before.before.before in
-    let l = turn m in
-    let at = c.before.before.before.before.before.before.m.given.1 in (
+loop-i-preserved : tie.Need-loop-i-preserved invariant-loop-i decreases-loop-i
+loop-i-preserved c =
+    let at = c.in-At.is in (
       search rules,
       search rules,
       search rules,
       search rules,
-      merging_more (start l.before).pre.0 l.before.loop.inv.4 l.loop-test.taken _ _ m.meet.ensures.0 _ _ at,
-      c.before.before.extend.ensures,
-      m.meet.ensures.1.is _ _ at,
-      l.before.loop.inv.7,
+      merging_more (start c.before.before.before.before.before.before.before.before.before.before.before.before.before.before.before).requires.0 c.loop-i.invariant.4 c.loop-i-test.true _ _ c.meet-m.ensures.0 _ _ at,
+      c.extend.ensures,
+      c.meet-m.ensures.1.is _ _ at,
+      c.loop-i.invariant.7,
     )
 
-same-length-4 : tie.Need-same-length-4 invariant-loop decreases-loop
-same-length-4 c = search rules
+shape_of-words : tie.Need-shape_of-words invariant-loop-i decreases-loop-i
+shape_of-words c = search rules
 
-same-length-5 : tie.Need-same-length-5 invariant-loop decreases-loop
-same-length-5 c = search rules
+shape_of-chains : tie.Need-shape_of-chains invariant-loop-i decreases-loop-i
+shape_of-chains c = search rules
 
-same-length-6 : tie.Need-same-length-6 invariant-loop decreases-loop
-same-length-6 c = search rules
+shape_of-memory : tie.Need-shape_of-memory invariant-loop-i decreases-loop-i
+shape_of-memory c = search rules
 
-returns-2 : tie.Need-returns-2 invariant-loop decreases-loop
-returns-2 c =
-    let inv = c.before.loop.invariant in
-    (merging_done (start c.before).pre.0 inv.4 c.loop-test.false, (opened_now inv.5, then_now inv.6))
+returns : tie.Need-returns invariant-loop-i decreases-loop-i
+returns c =
+    let inv = c.loop-i.invariant in
+    (merging_done (start c.before).requires.0 inv.4 c.loop-i-test.false, (opened_now inv.5, then_now inv.6))
 
-pub merge-spec : {M : Type 1} → statement M
-merge-spec =
+pub merge_spec : {M : Type 1} → statement M
+merge_spec =
     tie.close
     (tie.spec
-    invariant-loop
-    decreases-loop
-    loop-holds
-    slice-aggregate-meet
-    mul-meet
-    shared-slice-read-meet
-    meet-requires
-    enum-known-m
+    invariant-loop-i
+    decreases-loop-i
+    loop-i-init
+    slice_bounds-meet-end
+    offset_bounds-types-i
+    bounds-types-i
+    meet-m-requires
+    enum_known-m
     extend-requires
-    enum_told
-    same_length
-    same-length-2
-    same-length-3
-    returns
-    add-i
-    loop-less
-    loop-again
-    same-length-4
-    same-length-5
-    same-length-6
-    returns-2)
+    enum_told-1
+    shape_of-words-in-Full
+    shape_of-chains-in-Full
+    shape_of-memory-in-Full
+    returns-in-Full
+    overflow_add-i
+    loop-i-smaller
+    loop-i-preserved
+    shape_of-words
+    shape_of-chains
+    shape_of-memory
+    returns)
