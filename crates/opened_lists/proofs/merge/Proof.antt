@@ -25,7 +25,7 @@ start l = l.before.before.before.before.before
 
 -- the turn in which a meet was made
 abbrev turn : tie.After-meet-m invariant-loop-i decreases-loop-i → tie.In-loop-i invariant-loop-i decreases-loop-i
-turn m = m.before.before.before.before.before.before
+turn m = m.before.before.before.before.before
 
 loop-i-init : tie.Need-loop-i-init invariant-loop-i decreases-loop-i
 loop-i-init c = (search rules, refl, refl, refl, merging_begin c.requires.0, c.requires.1.0, c.requires.1.1, list_few _ _ c.requires.0.passed)
