@@ -7,48 +7,48 @@ use Rattle.call_lines.proofs.answer.Tie as tie
 fill-requires : tie.Need-fill-requires
 fill-requires c κs = search rules
 
-on-opened-requires : tie.Need-on-opened-requires
-on-opened-requires c κs = search is_open
+on_opened-requires : tie.Need-on_opened-requires
+on_opened-requires c κs = search is_open
 
-same_length : tie.Need-same-length
-same_length c = search rules
+shape_of-words-then-opened : tie.Need-shape_of-words-then-opened
+shape_of-words-then-opened c = search rules
 
-same-length-2 : tie.Need-same-length-2
-same-length-2 c = search rules
+shape_of-index-then-opened : tie.Need-shape_of-index-then-opened
+shape_of-index-then-opened c = search rules
 
-same-length-3 : tie.Need-same-length-3
-same-length-3 c = search rules
+shape_of-memory-then-opened : tie.Need-shape_of-memory-then-opened
+shape_of-memory-then-opened c = search rules
 
-same-length-4 : tie.Need-same-length-4
-same-length-4 c = search rules
+shape_of-output-then-opened : tie.Need-shape_of-output-then-opened
+shape_of-output-then-opened c = search rules
+
+returns-then-opened : tie.Need-returns-then-opened
+returns-then-opened c = search still_open
+
+on_plain-requires : tie.Need-on_plain-requires
+on_plain-requires c κs = search rules
+
+shape_of-words : tie.Need-shape_of-words
+shape_of-words c = search rules
+
+shape_of-output : tie.Need-shape_of-output
+shape_of-output c = search rules
 
 returns : tie.Need-returns
-returns c = search still_open
+returns c = search not_open
 
-on-plain-requires : tie.Need-on-plain-requires
-on-plain-requires c κs = search rules
-
-same-length-5 : tie.Need-same-length-5
-same-length-5 c = search rules
-
-same-length-6 : tie.Need-same-length-6
-same-length-6 c = search rules
-
-returns-2 : tie.Need-returns-2
-returns-2 c = search not_open
-
-pub answer-spec : {M : Type 1} → statement M
-answer-spec =
+pub answer_spec : {M : Type 1} → statement M
+answer_spec =
     tie.close
     (tie.spec
     fill-requires
-    on-opened-requires
-    same_length
-    same-length-2
-    same-length-3
-    same-length-4
-    returns
-    on-plain-requires
-    same-length-5
-    same-length-6
-    returns-2)
+    on_opened-requires
+    shape_of-words-then-opened
+    shape_of-index-then-opened
+    shape_of-memory-then-opened
+    shape_of-output-then-opened
+    returns-then-opened
+    on_plain-requires
+    shape_of-words
+    shape_of-output
+    returns)

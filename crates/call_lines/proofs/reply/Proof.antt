@@ -4,67 +4,67 @@ use borrow.Author.Rules.{rules}
 use Rattle.call_lines.proofs.reply.Statement.{statement}
 use Rattle.call_lines.proofs.reply.Tie as tie
 
-line-of-requires : tie.Need-line-of-requires
-line-of-requires c κs = search rules
+line_of-line-requires : tie.Need-line_of-line-requires
+line_of-line-requires c κs = search rules
 
-list-from-requires : tie.Need-list-from-requires
-list-from-requires c κs = search rules
+list_from-from-requires : tie.Need-list_from-from-requires
+list_from-from-requires c κs = search rules
 
-wanted-requires : tie.Need-wanted-requires
-wanted-requires c κs = search rules
+wanted-k-requires : tie.Need-wanted-k-requires
+wanted-k-requires c κs = search rules
 
-mul-answer : tie.Need-overflow-mul-answer
-mul-answer c = search rules
+offset_bounds-a-from : tie.Need-offset_bounds-a-from
+offset_bounds-a-from c = search rules
 
-sub-answer : tie.Need-overflow-sub-answer
-sub-answer c = search rules
+slice_bounds-answer-count : tie.Need-slice_bounds-answer-count
+slice_bounds-answer-count c = search rules
 
-part-answer-start : tie.Need-slice-bounds-answer-start
-part-answer-start c = search rules
+slice_bounds-answer-start : tie.Need-slice_bounds-answer-start
+slice_bounds-answer-start c = search rules
 
-part-answer-end : tie.Need-slice-bounds-answer-end
-part-answer-end c = search rules
+slice_bounds-answer-end : tie.Need-slice_bounds-answer-end
+slice_bounds-answer-end c = search rules
 
-slice-relend-prefix-answer : tie.Need-slice-relend-prefix-answer
-slice-relend-prefix-answer c = search rules
+slice_bounds-answer-end-2 : tie.Need-slice_bounds-answer-end-2
+slice_bounds-answer-end-2 c = search rules
 
-slice-aggregate-answer : tie.Need-slice-aggregate-answer
-slice-aggregate-answer c = search part_long
+slice_bounds-answer-end-3 : tie.Need-slice_bounds-answer-end-3
+slice_bounds-answer-end-3 c = search part_long
 
 answer-requires : tie.Need-answer-requires
 answer-requires c κs = search rules
 
-same_length : tie.Need-same-length
-same_length c = search rules
+shape_of-words : tie.Need-shape_of-words
+shape_of-words c = search rules
 
-same-length-2 : tie.Need-same-length-2
-same-length-2 c = search rules
+shape_of-index : tie.Need-shape_of-index
+shape_of-index c = search rules
 
-same-length-3 : tie.Need-same-length-3
-same-length-3 c = search rules
+shape_of-memory : tie.Need-shape_of-memory
+shape_of-memory c = search rules
 
-same-length-4 : tie.Need-same-length-4
-same-length-4 c = search rules
+shape_of-output : tie.Need-shape_of-output
+shape_of-output c = search rules
 
 returns : tie.Need-returns
 returns c = search rules
 
-pub reply-spec : {M : Type 1} → statement M
-reply-spec =
+pub reply_spec : {M : Type 1} → statement M
+reply_spec =
     tie.close
     (tie.spec
-    line-of-requires
-    list-from-requires
-    wanted-requires
-    mul-answer
-    sub-answer
-    part-answer-start
-    part-answer-end
-    slice-relend-prefix-answer
-    slice-aggregate-answer
+    line_of-line-requires
+    list_from-from-requires
+    wanted-k-requires
+    offset_bounds-a-from
+    slice_bounds-answer-count
+    slice_bounds-answer-start
+    slice_bounds-answer-end
+    slice_bounds-answer-end-2
+    slice_bounds-answer-end-3
     answer-requires
-    same_length
-    same-length-2
-    same-length-3
-    same-length-4
+    shape_of-words
+    shape_of-index
+    shape_of-memory
+    shape_of-output
     returns)
