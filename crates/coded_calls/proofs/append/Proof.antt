@@ -7,14 +7,14 @@ use Rattle.coded_calls.proofs.append.Tie as tie
 append-requires : tie.Need-append-requires
 append-requires c κs = search rules
 
-of-made-requires : tie.Need-of-made-requires
-of-made-requires c κs = search rules
+of_made-requires : tie.Need-of_made-requires
+of_made-requires c κs = search rules
 
-same_length : tie.Need-same-length
-same_length c = search rules
+shape_of-words : tie.Need-shape_of-words
+shape_of-words c = search rules
 
 returns : tie.Need-returns
 returns c = search coded
 
-pub append-spec : {M : Type 1} → statement M
-append-spec = tie.close (tie.spec append-requires of-made-requires same_length returns)
+pub append_spec : {M : Type 1} → statement M
+append_spec = tie.close (tie.spec append-requires of_made-requires shape_of-words returns)

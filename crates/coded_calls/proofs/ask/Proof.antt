@@ -7,11 +7,11 @@ use Rattle.coded_calls.proofs.ask.Tie as tie
 ask-requires : tie.Need-ask-requires
 ask-requires c κs = search rules
 
-of-answer-requires : tie.Need-of-answer-requires
-of-answer-requires c κs = search rules
+of_answer-requires : tie.Need-of_answer-requires
+of_answer-requires c κs = search rules
 
 returns : tie.Need-returns
 returns c = search coded
 
-pub ask-spec : {M : Type 1} → statement M
-ask-spec = tie.close (tie.spec ask-requires of-answer-requires returns)
+pub ask_spec : {M : Type 1} → statement M
+ask_spec = tie.close (tie.spec ask-requires of_answer-requires returns)

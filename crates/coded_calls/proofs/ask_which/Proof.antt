@@ -7,11 +7,11 @@ use Rattle.coded_calls.proofs.ask_which.Tie as tie
 ask-requires : tie.Need-ask-requires
 ask-requires c κs = search rules
 
-of-answer-which-requires : tie.Need-of-answer-which-requires
-of-answer-which-requires c κs = search rules
+of_answer_which-requires : tie.Need-of_answer_which-requires
+of_answer_which-requires c κs = search rules
 
 returns : tie.Need-returns
 returns c = search coded_which
 
-pub ask-which-spec : {M : Type 1} → statement M
-ask-which-spec = tie.close (tie.spec ask-requires of-answer-which-requires returns)
+pub ask_which_spec : {M : Type 1} → statement M
+ask_which_spec = tie.close (tie.spec ask-requires of_answer_which-requires returns)

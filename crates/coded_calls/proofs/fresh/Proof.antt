@@ -7,14 +7,14 @@ use Rattle.coded_calls.proofs.fresh.Tie as tie
 fresh-requires : tie.Need-fresh-requires
 fresh-requires c κs = search rules
 
-of-done-requires : tie.Need-of-done-requires
-of-done-requires c κs = search rules
+of_done-requires : tie.Need-of_done-requires
+of_done-requires c κs = search rules
 
-same_length : tie.Need-same-length
-same_length c = search rules
+shape_of-words : tie.Need-shape_of-words
+shape_of-words c = search rules
 
 returns : tie.Need-returns
 returns c = search coded_done
 
-pub fresh-spec : {M : Type 1} → statement M
-fresh-spec = tie.close (tie.spec fresh-requires of-done-requires same_length returns)
+pub fresh_spec : {M : Type 1} → statement M
+fresh_spec = tie.close (tie.spec fresh-requires of_done-requires shape_of-words returns)

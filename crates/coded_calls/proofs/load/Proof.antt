@@ -7,14 +7,14 @@ use Rattle.coded_calls.proofs.load.Tie as tie
 load-requires : tie.Need-load-requires
 load-requires c κs = search rules
 
-of-answer-requires : tie.Need-of-answer-requires
-of-answer-requires c κs = search rules
+of_answer-requires : tie.Need-of_answer-requires
+of_answer-requires c κs = search rules
 
-same_length : tie.Need-same-length
-same_length c = search rules
+shape_of-words : tie.Need-shape_of-words
+shape_of-words c = search rules
 
 returns : tie.Need-returns
 returns c = search coded
 
 pub load_spec : {M : Type 1} → statement M
-load_spec = tie.close (tie.spec load-requires of-answer-requires same_length returns)
+load_spec = tie.close (tie.spec load-requires of_answer-requires shape_of-words returns)

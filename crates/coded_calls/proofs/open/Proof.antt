@@ -7,18 +7,18 @@ use Rattle.coded_calls.proofs.open.Tie as tie
 open-requires : tie.Need-open-requires
 open-requires c κs = search rules
 
-of-done-requires : tie.Need-of-done-requires
-of-done-requires c κs = search rules
+of_done-requires : tie.Need-of_done-requires
+of_done-requires c κs = search rules
 
-same_length : tie.Need-same-length
-same_length c = search rules
+shape_of-index : tie.Need-shape_of-index
+shape_of-index c = search rules
 
-same-length-2 : tie.Need-same-length-2
-same-length-2 c = search rules
+shape_of-memory : tie.Need-shape_of-memory
+shape_of-memory c = search rules
 
 returns : tie.Need-returns
 returns c = (search coded_open, search opening)
 
 pub open_spec : {M : Type 1} → statement M
 open_spec =
-    tie.close (tie.spec open-requires of-done-requires same_length same-length-2 returns)
+    tie.close (tie.spec open-requires of_done-requires shape_of-index shape_of-memory returns)

@@ -7,22 +7,22 @@ use Rattle.coded_calls.proofs.opened_append.Tie as tie
 append-requires : tie.Need-append-requires
 append-requires c κs = search rules
 
-of-made-requires : tie.Need-of-made-requires
-of-made-requires c κs = search rules
+of_made-requires : tie.Need-of_made-requires
+of_made-requires c κs = search rules
 
-same_length : tie.Need-same-length
-same_length c = search rules
+shape_of-words : tie.Need-shape_of-words
+shape_of-words c = search rules
 
-same-length-2 : tie.Need-same-length-2
-same-length-2 c = search rules
+shape_of-index : tie.Need-shape_of-index
+shape_of-index c = search rules
 
-same-length-3 : tie.Need-same-length-3
-same-length-3 c = search rules
+shape_of-memory : tie.Need-shape_of-memory
+shape_of-memory c = search rules
 
 returns : tie.Need-returns
 returns c = (search coded, search rules)
 
-pub opened-append-spec : {M : Type 1} → statement M
-opened-append-spec =
+pub opened_append_spec : {M : Type 1} → statement M
+opened_append_spec =
     tie.close
-    (tie.spec append-requires of-made-requires same_length same-length-2 same-length-3 returns)
+    (tie.spec append-requires of_made-requires shape_of-words shape_of-index shape_of-memory returns)

@@ -7,14 +7,14 @@ use Rattle.coded_calls.proofs.opened_ask.Tie as tie
 ask-requires : tie.Need-ask-requires
 ask-requires c κs = search rules
 
-of-answer-requires : tie.Need-of-answer-requires
-of-answer-requires c κs = search rules
+of_answer-requires : tie.Need-of_answer-requires
+of_answer-requires c κs = search rules
 
-same_length : tie.Need-same-length
-same_length c = search rules
+shape_of-memory : tie.Need-shape_of-memory
+shape_of-memory c = search rules
 
 returns : tie.Need-returns
 returns c = (search coded, search rules)
 
-pub opened-ask-spec : {M : Type 1} → statement M
-opened-ask-spec = tie.close (tie.spec ask-requires of-answer-requires same_length returns)
+pub opened_ask_spec : {M : Type 1} → statement M
+opened_ask_spec = tie.close (tie.spec ask-requires of_answer-requires shape_of-memory returns)

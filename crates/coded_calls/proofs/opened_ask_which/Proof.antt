@@ -7,15 +7,15 @@ use Rattle.coded_calls.proofs.opened_ask_which.Tie as tie
 ask-requires : tie.Need-ask-requires
 ask-requires c κs = search rules
 
-of-answer-which-requires : tie.Need-of-answer-which-requires
-of-answer-which-requires c κs = search rules
+of_answer_which-requires : tie.Need-of_answer_which-requires
+of_answer_which-requires c κs = search rules
 
-same_length : tie.Need-same-length
-same_length c = search rules
+shape_of-memory : tie.Need-shape_of-memory
+shape_of-memory c = search rules
 
 returns : tie.Need-returns
 returns c = (search coded_which, search rules)
 
-pub opened-ask-which-spec : {M : Type 1} → statement M
-opened-ask-which-spec =
-    tie.close (tie.spec ask-requires of-answer-which-requires same_length returns)
+pub opened_ask_which_spec : {M : Type 1} → statement M
+opened_ask_which_spec =
+    tie.close (tie.spec ask-requires of_answer_which-requires shape_of-memory returns)

@@ -7,18 +7,18 @@ use Rattle.coded_calls.proofs.opened_fill.Tie as tie
 fill-requires : tie.Need-fill-requires
 fill-requires c κs = search rules
 
-of-answer-requires : tie.Need-of-answer-requires
-of-answer-requires c κs = search rules
+of_answer-requires : tie.Need-of_answer-requires
+of_answer-requires c κs = search rules
 
-same_length : tie.Need-same-length
-same_length c = search rules
+shape_of-memory : tie.Need-shape_of-memory
+shape_of-memory c = search rules
 
-same-length-2 : tie.Need-same-length-2
-same-length-2 c = search rules
+shape_of-output : tie.Need-shape_of-output
+shape_of-output c = search rules
 
 returns : tie.Need-returns
 returns c = (search coded, (search rules, search rules))
 
-pub opened-fill-spec : {M : Type 1} → statement M
-opened-fill-spec =
-    tie.close (tie.spec fill-requires of-answer-requires same_length same-length-2 returns)
+pub opened_fill_spec : {M : Type 1} → statement M
+opened_fill_spec =
+    tie.close (tie.spec fill-requires of_answer-requires shape_of-memory shape_of-output returns)

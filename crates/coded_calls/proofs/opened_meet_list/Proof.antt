@@ -4,25 +4,25 @@ use borrow.Author.Rules.{rules}
 use Rattle.coded_calls.proofs.opened_meet_list.Statement.{statement}
 use Rattle.coded_calls.proofs.opened_meet_list.Tie as tie
 
-meet-list-requires : tie.Need-meet-list-requires
-meet-list-requires c κs = search rules
+meet_list-requires : tie.Need-meet_list-requires
+meet_list-requires c κs = search rules
 
-of-made-requires : tie.Need-of-made-requires
-of-made-requires c κs = search rules
+of_made-requires : tie.Need-of_made-requires
+of_made-requires c κs = search rules
 
-same_length : tie.Need-same-length
-same_length c = search rules
+shape_of-words : tie.Need-shape_of-words
+shape_of-words c = search rules
 
-same-length-2 : tie.Need-same-length-2
-same-length-2 c = search rules
+shape_of-index : tie.Need-shape_of-index
+shape_of-index c = search rules
 
-same-length-3 : tie.Need-same-length-3
-same-length-3 c = search rules
+shape_of-memory : tie.Need-shape_of-memory
+shape_of-memory c = search rules
 
 returns : tie.Need-returns
 returns c = (search coded, search rules)
 
-pub opened-meet-list-spec : {M : Type 1} → statement M
-opened-meet-list-spec =
+pub opened_meet_list_spec : {M : Type 1} → statement M
+opened_meet_list_spec =
     tie.close
-    (tie.spec meet-list-requires of-made-requires same_length same-length-2 same-length-3 returns)
+    (tie.spec meet_list-requires of_made-requires shape_of-words shape_of-index shape_of-memory returns)

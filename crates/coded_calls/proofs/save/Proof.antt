@@ -7,14 +7,14 @@ use Rattle.coded_calls.proofs.save.Tie as tie
 save-requires : tie.Need-save-requires
 save-requires c κs = search rules
 
-of-answer-requires : tie.Need-of-answer-requires
-of-answer-requires c κs = search rules
+of_answer-requires : tie.Need-of_answer-requires
+of_answer-requires c κs = search rules
 
-same_length : tie.Need-same-length
-same_length c = search rules
+shape_of-file : tie.Need-shape_of-file
+shape_of-file c = search rules
 
 returns : tie.Need-returns
 returns c = (search coded, search rules)
 
-pub save-spec : {M : Type 1} → statement M
-save-spec = tie.close (tie.spec save-requires of-answer-requires same_length returns)
+pub save_spec : {M : Type 1} → statement M
+save_spec = tie.close (tie.spec save-requires of_answer-requires shape_of-file returns)
