@@ -2,7 +2,7 @@
 ghost use Rattle.std.specs.Prelude.{◌+◌, ◌≤◌, ◌≡◌, length};
 ghost use Rattle.calls.specs.Kept.{Kept};
 
-use libc::STDIN_FILENO;
+use std::io::{Read, Stdin, Stdout};
 
 // The room that the program has: bytes of a line, and of answers that are not written yet; words of a list, and of its index (opened/specs/OpenStore.antt) and memory where it is open; numbers of a line, bytes of a text, and words of the output that a call may fill; words of a list that is remembered, behind its length; bytes of the file that is kept, and of the output that a list is saved in.
 pub const LINE: usize = 262144;
@@ -47,6 +47,8 @@ pub struct State {
 // Reads and runs the whole script. Nothing says that the input ends, so the loop counts its turns down,
 // from a number that no run uses up.
 pub fn script(
+    stdin: Stdin,
+    stdout: Stdout,
     input: &mut [u8],
     out: &mut [u8],
     words: &mut [u64],
@@ -71,6 +73,8 @@ pub fn script(
     let mut turns = u64::MAX;
     while 0 < turns {
         state = turn(
+            stdin,
+            stdout,
             input,
             out,
             words,
@@ -94,6 +98,8 @@ pub fn script(
 
 // Reads once, behind the bytes that wait at the input's front, and runs the lines that have their end then.
 fn turn(
+    stdin: Stdin,
+    stdout: Stdout,
     input: &mut [u8],
     out: &mut [u8],
     words: &mut [u64],
@@ -112,8 +118,9 @@ fn turn(
     ensures { Kept result words.new index.new memory.new (length out.new) × (result.at ≤ length input.new) }
 {
     let waiting = state.at;
-    let end = read(input, waiting);
+    let end = read(stdin, input, waiting);
     let after = lines(
+        stdout,
         &input[0..end],
         out,
         words,
@@ -130,6 +137,7 @@ fn turn(
     );
     if end == waiting {
         return last(
+            stdout,
             &input[0..end],
             out,
             words,
@@ -145,21 +153,24 @@ fn turn(
             after,
         );
     }
-    shift(input, end, out, after)
+    shift(stdout, input, end, out, after)
 }
 
-// Reads once, behind the bytes that wait, and answers where the bytes end then: no further at the end of the input.
-fn read(input: &mut [u8], waiting: usize) -> usize
+// Reads once, behind the bytes that wait, and answers where the bytes end then: no further at the end of the input, or where a read fails.
+fn read(mut stdin: Stdin, input: &mut [u8], waiting: usize) -> usize
     requires { waiting ≤ length input.old }
     ensures { result ≤ length input.new }
 {
-    let part = &mut input[waiting..];
-    let got = libc::read(STDIN_FILENO, part);
-    waiting + io::count(got, part)
+    let got = stdin.read(&mut input[waiting..]);
+    match got {
+        Ok(n) => waiting + n,
+        Err(_) => waiting,
+    }
 }
 
 // Runs the lines that have their end in the input.
 fn lines(
+    stdout: Stdout,
     input: &[u8],
     out: &mut [u8],
     words: &mut [u64],
@@ -181,12 +192,13 @@ fn lines(
     let mut s = start(input, state);
     let mut at = s.at;
     while at < input.len() {
-        let end = bytes::scan::find(input, at, input.len(), b'\n');
+        let end = script::find(input, at, input.len(), b'\n');
         if end == input.len() {
             return s;
         }
         let next = end + 1;
         s = one(
+            stdout,
             &input[at..end],
             out,
             words,
@@ -221,7 +233,7 @@ fn start(input: &[u8], state: State) -> State
             ended: false,
         };
     }
-    let end = bytes::scan::find(input, 0, input.len(), b'\n');
+    let end = script::find(input, 0, input.len(), b'\n');
     if end == input.len() {
         return State {
             len: state.len,
@@ -244,6 +256,7 @@ fn start(input: &[u8], state: State) -> State
 
 // Runs a line, and puts what it answers into the buffer.
 fn one(
+    stdout: Stdout,
     line: &[u8],
     out: &mut [u8],
     words: &mut [u64],
@@ -280,7 +293,9 @@ fn one(
     let len = outcome.len;
     let reply = outcome.reply;
     let list = &words[0..len];
-    let used = output::put(out, state.used, reply, line, list, output, file, saved);
+    let used = output::put(
+        stdout, out, state.used, reply, line, list, output, file, saved,
+    );
     State {
         len: len,
         opened: outcome.opened,
@@ -293,6 +308,7 @@ fn one(
 
 // Runs a last line that has no end, and writes out what is left in the buffer.
 fn last(
+    stdout: Stdout,
     input: &[u8],
     out: &mut [u8],
     words: &mut [u64],
@@ -314,6 +330,7 @@ fn last(
 {
     let at = state.at;
     let s = one(
+        stdout,
         &input[at..],
         out,
         words,
@@ -328,7 +345,7 @@ fn last(
         saved,
         state,
     );
-    output::flush(out, s.used);
+    output::flush(stdout, out, s.used);
     State {
         len: s.len,
         opened: s.opened,
@@ -341,7 +358,7 @@ fn last(
 
 // Moves the bytes that were not run yet to the front of the input. A line that fills it and has no end there
 // is too long: what was read of it is written, and the rest will be passed over.
-fn shift(input: &mut [u8], end: usize, out: &mut [u8], state: State) -> State
+fn shift(stdout: Stdout, input: &mut [u8], end: usize, out: &mut [u8], state: State) -> State
     requires { (state.at ≤ end) × (end ≤ length input.old) × (state.used ≤ length out.old) }
     ensures { (result.len ≡ state.len) × (result.opened ≡ state.opened) × (result.used ≤ length out.new) × (result.at ≤ length input.new) }
 {
@@ -356,7 +373,7 @@ fn shift(input: &mut [u8], end: usize, out: &mut [u8], state: State) -> State
             ended: false,
         };
     }
-    let used = output::echo(out, state.used, input);
+    let used = output::echo(stdout, out, state.used, input);
     State {
         len: state.len,
         opened: state.opened,

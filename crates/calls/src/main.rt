@@ -3,7 +3,9 @@
 
 mod input;
 
-fn main() {
+use std::io::{Stdin, Stdout};
+
+fn main(rt: HostRuntime) {
     let mut line = [0u8; input::LINE];
     let mut out = [0u8; input::OUT];
     let mut words = [0u64; input::WORDS];
@@ -16,6 +18,8 @@ fn main() {
     let mut file = [0u8; input::FILE];
     let mut saved = [0u8; input::SAVED];
     whole(
+        rt.stdin(),
+        rt.stdout(),
         &mut line,
         &mut out,
         &mut words,
@@ -32,6 +36,8 @@ fn main() {
 
 // The arrays as slices. A function of its own, so that no proof has to compute an array.
 fn whole(
+    stdin: Stdin,
+    stdout: Stdout,
     line: &mut [u8; input::LINE],
     out: &mut [u8; input::OUT],
     words: &mut [u64; input::WORDS],
@@ -45,6 +51,6 @@ fn whole(
     saved: &mut [u8; input::SAVED],
 ) {
     input::script(
-        line, out, words, index, memory, numbers, text, output, kept, file, saved,
+        stdin, stdout, line, out, words, index, memory, numbers, text, output, kept, file, saved,
     );
 }

@@ -3,47 +3,47 @@ use borrow.Author.Rules.{rules}
 use Rattle.calls.proofs.input.last.Statement.{statement}
 use Rattle.calls.proofs.input.last.Tie as tie
 
-sub-one : tie.Need-overflow-sub-one
-sub-one c = search rules
+slice_bounds-one-count : tie.Need-slice_bounds-one-count
+slice_bounds-one-count c = search rules
 
-part-one-start : tie.Need-slice-bounds-one-start
-part-one-start c = search rules
+slice_bounds-one-start : tie.Need-slice_bounds-one-start
+slice_bounds-one-start c = search rules
 
-part-one-end : tie.Need-slice-bounds-one-end
-part-one-end c = search rules
+slice_bounds-one-end : tie.Need-slice_bounds-one-end
+slice_bounds-one-end c = search rules
 
-one-requires : tie.Need-one-requires
-one-requires c κs = search rules
+one-s-requires : tie.Need-one-s-requires
+one-s-requires c κs = search rules
 
 flush-requires : tie.Need-flush-requires
 flush-requires c κs = search rules
 
-same_length : tie.Need-same-length
-same_length c = search rules
+shape_of-out : tie.Need-shape_of-out
+shape_of-out c = search rules
 
-same-length-2 : tie.Need-same-length-2
-same-length-2 c = search rules
+shape_of-words : tie.Need-shape_of-words
+shape_of-words c = search rules
 
-same-length-3 : tie.Need-same-length-3
-same-length-3 c = search rules
+shape_of-index : tie.Need-shape_of-index
+shape_of-index c = search rules
 
-same-length-4 : tie.Need-same-length-4
-same-length-4 c = search rules
+shape_of-memory : tie.Need-shape_of-memory
+shape_of-memory c = search rules
 
 returns : tie.Need-returns
-returns c = ((c.before.before.before.before.before.before.before.before.before.before.one.ensures.0.0, search rules), search rules)
+returns c = ((c.one-s.ensures.0.0, search rules), search rules)
 
-pub last-spec : {M : Type 1} → statement M
-last-spec =
+pub last_spec : {M : Type 1} → statement M
+last_spec =
     tie.close
     (tie.spec
-    sub-one
-    part-one-start
-    part-one-end
-    one-requires
+    slice_bounds-one-count
+    slice_bounds-one-start
+    slice_bounds-one-end
+    one-s-requires
     flush-requires
-    same_length
-    same-length-2
-    same-length-3
-    same-length-4
+    shape_of-out
+    shape_of-words
+    shape_of-index
+    shape_of-memory
     returns)

@@ -8,95 +8,95 @@ use Rattle.calls.specs.Kept.{Kept}
 use Rattle.calls.proofs.input.lines.Statement.{statement}
 use Rattle.calls.proofs.input.lines.Tie as tie
 
-abbrev invariant-loop : tie.invariant-loop
-invariant-loop input out₀ words₀ index₀ memory₀ numbers₀ text₀ output₀ kept₀ file₀ file_size₀ saved₀ s₀ at₀ out words index memory numbers text output kept file' file_size saved s at = Kept s words index memory (length out₀) × (at ≤ length input) × (s.at ≤ length input) × (length out ≡ length out₀) × (length words ≡ length words₀) × (length index ≡ length index₀) × (length memory ≡ length memory₀)
+abbrev invariant-loop-at : tie.invariant-loop-at
+invariant-loop-at stdout input out₀ words₀ index₀ memory₀ numbers₀ text₀ output₀ kept₀ file₀ file_size₀ saved₀ s₀ at₀ out words index memory numbers text output kept file' file_size saved s at = Kept s words index memory (length out₀) × (at ≤ length input) × (s.at ≤ length input) × (length out ≡ length out₀) × (length words ≡ length words₀) × (length index ≡ length index₀) × (length memory ≡ length memory₀)
 
-abbrev decreases-loop : tie.decreases-loop
-decreases-loop input out₀ words₀ index₀ memory₀ numbers₀ text₀ output₀ kept₀ file₀ file_size₀ saved₀ s₀ at₀ out words index memory numbers text output kept file' file_size saved s at = length input - at
+abbrev decreases-loop-at : tie.decreases-loop-at
+decreases-loop-at stdout input out₀ words₀ index₀ memory₀ numbers₀ text₀ output₀ kept₀ file₀ file_size₀ saved₀ s₀ at₀ out words index memory numbers text output kept file' file_size saved s at = length input - at
 
-start-requires : tie.Need-start-requires invariant-loop decreases-loop
-start-requires c κs = search rules
+start-s-requires : tie.Need-start-s-requires invariant-loop-at decreases-loop-at
+start-s-requires c κs = search rules
 
-loop-holds : tie.Need-loop-init invariant-loop decreases-loop
-loop-holds c = ((search same_list, search rules), search rules, search rules, search rules, search rules, search rules, search rules)
+loop-at-init : tie.Need-loop-at-init invariant-loop-at decreases-loop-at
+loop-at-init c = ((search same_list, search rules), search rules, search rules, search rules, search rules, search rules, search rules)
 
-find-requires : tie.Need-find-requires invariant-loop decreases-loop
-find-requires c κs = search rules
+find-end-requires : tie.Need-find-end-requires invariant-loop-at decreases-loop-at
+find-end-requires c κs = search rules
 
-same_length : tie.Need-same-length invariant-loop decreases-loop
-same_length c = search rules
+shape_of-out-then-end-input : tie.Need-shape_of-out-then-end-input invariant-loop-at decreases-loop-at
+shape_of-out-then-end-input c = search rules
 
-same-length-2 : tie.Need-same-length-2 invariant-loop decreases-loop
-same-length-2 c = search rules
+shape_of-words-then-end-input : tie.Need-shape_of-words-then-end-input invariant-loop-at decreases-loop-at
+shape_of-words-then-end-input c = search rules
 
-same-length-3 : tie.Need-same-length-3 invariant-loop decreases-loop
-same-length-3 c = search rules
+shape_of-index-then-end-input : tie.Need-shape_of-index-then-end-input invariant-loop-at decreases-loop-at
+shape_of-index-then-end-input c = search rules
 
-same-length-4 : tie.Need-same-length-4 invariant-loop decreases-loop
-same-length-4 c = search rules
+shape_of-memory-then-end-input : tie.Need-shape_of-memory-then-end-input invariant-loop-at decreases-loop-at
+shape_of-memory-then-end-input c = search rules
 
-returns : tie.Need-returns invariant-loop decreases-loop
-returns c = ((c.before.before.before.loop.invariant.0.0, search rules), search rules)
+returns-then-end-input : tie.Need-returns-then-end-input invariant-loop-at decreases-loop-at
+returns-then-end-input c = ((c.loop-at.invariant.0.0, search rules), search rules)
 
-add-next : tie.Need-overflow-add-next invariant-loop decreases-loop
-add-next c = search rules
+overflow_add-next : tie.Need-overflow_add-next invariant-loop-at decreases-loop-at
+overflow_add-next c = search rules
 
-sub-one : tie.Need-overflow-sub-one invariant-loop decreases-loop
-sub-one c = search rules
+slice_bounds-one-count : tie.Need-slice_bounds-one-count invariant-loop-at decreases-loop-at
+slice_bounds-one-count c = search rules
 
-part-one-start : tie.Need-slice-bounds-one-start invariant-loop decreases-loop
-part-one-start c = search rules
+slice_bounds-one-start : tie.Need-slice_bounds-one-start invariant-loop-at decreases-loop-at
+slice_bounds-one-start c = search rules
 
-part-one-end : tie.Need-slice-bounds-one-end invariant-loop decreases-loop
-part-one-end c = search rules
+slice_bounds-one-end : tie.Need-slice_bounds-one-end invariant-loop-at decreases-loop-at
+slice_bounds-one-end c = search rules
 
-one-requires : tie.Need-one-requires invariant-loop decreases-loop
-one-requires c κs = search rules
+one-s-requires : tie.Need-one-s-requires invariant-loop-at decreases-loop-at
+one-s-requires c κs = search rules
 
-loop-less : tie.Need-loop-smaller invariant-loop decreases-loop
-loop-less c = search rules
+loop-at-smaller : tie.Need-loop-at-smaller invariant-loop-at decreases-loop-at
+loop-at-smaller c = search rules
 
-loop-again : tie.Need-loop-preserved invariant-loop decreases-loop
-loop-again c = ((c.before.before.before.before.before.before.before.before.one.ensures.0.0, search rules), search rules, search rules, search rules, search rules, search rules, search rules)
+loop-at-preserved : tie.Need-loop-at-preserved invariant-loop-at decreases-loop-at
+loop-at-preserved c = ((c.one-s.ensures.0.0, search rules), search rules, search rules, search rules, search rules, search rules, search rules)
 
-same-length-5 : tie.Need-same-length-5 invariant-loop decreases-loop
-same-length-5 c = search rules
+shape_of-out : tie.Need-shape_of-out invariant-loop-at decreases-loop-at
+shape_of-out c = search rules
 
-same-length-6 : tie.Need-same-length-6 invariant-loop decreases-loop
-same-length-6 c = search rules
+shape_of-words : tie.Need-shape_of-words invariant-loop-at decreases-loop-at
+shape_of-words c = search rules
 
-same-length-7 : tie.Need-same-length-7 invariant-loop decreases-loop
-same-length-7 c = search rules
+shape_of-index : tie.Need-shape_of-index invariant-loop-at decreases-loop-at
+shape_of-index c = search rules
 
-same-length-8 : tie.Need-same-length-8 invariant-loop decreases-loop
-same-length-8 c = search rules
+shape_of-memory : tie.Need-shape_of-memory invariant-loop-at decreases-loop-at
+shape_of-memory c = search rules
 
-returns-2 : tie.Need-returns-2 invariant-loop decreases-loop
-returns-2 c = ((c.before.loop.invariant.0.0, search rules), search rules)
+returns : tie.Need-returns invariant-loop-at decreases-loop-at
+returns c = ((c.loop-at.invariant.0.0, search rules), search rules)
 
-pub lines-spec : {M : Type 1} → statement M
-lines-spec =
+pub lines_spec : {M : Type 1} → statement M
+lines_spec =
     tie.close
     (tie.spec
-    invariant-loop
-    decreases-loop
-    start-requires
-    loop-holds
-    find-requires
-    same_length
-    same-length-2
-    same-length-3
-    same-length-4
-    returns
-    add-next
-    sub-one
-    part-one-start
-    part-one-end
-    one-requires
-    loop-less
-    loop-again
-    same-length-5
-    same-length-6
-    same-length-7
-    same-length-8
-    returns-2)
+    invariant-loop-at
+    decreases-loop-at
+    start-s-requires
+    loop-at-init
+    find-end-requires
+    shape_of-out-then-end-input
+    shape_of-words-then-end-input
+    shape_of-index-then-end-input
+    shape_of-memory-then-end-input
+    returns-then-end-input
+    overflow_add-next
+    slice_bounds-one-count
+    slice_bounds-one-start
+    slice_bounds-one-end
+    one-s-requires
+    loop-at-smaller
+    loop-at-preserved
+    shape_of-out
+    shape_of-words
+    shape_of-index
+    shape_of-memory
+    returns)

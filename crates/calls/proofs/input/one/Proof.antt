@@ -3,32 +3,32 @@ use borrow.Author.Rules.{rules}
 use Rattle.calls.proofs.input.one.Statement.{statement}
 use Rattle.calls.proofs.input.one.Tie as tie
 
-line-requires : tie.Need-line-requires
-line-requires c κs = search rules
+line-outcome-requires : tie.Need-line-outcome-requires
+line-outcome-requires c κs = search rules
 
-sub-list : tie.Need-overflow-sub-list
-sub-list c = search rules
+slice_bounds-list-count : tie.Need-slice_bounds-list-count
+slice_bounds-list-count c = search rules
 
-part-list-start : tie.Need-slice-bounds-list-start
-part-list-start c = search rules
+slice_bounds-list-start : tie.Need-slice_bounds-list-start
+slice_bounds-list-start c = search rules
 
-part-list-end : tie.Need-slice-bounds-list-end
-part-list-end c = search rules
+slice_bounds-list-end : tie.Need-slice_bounds-list-end
+slice_bounds-list-end c = search rules
 
-put-requires : tie.Need-put-requires
-put-requires c κs = c.before.before.before.before.before.before.before.before.before.before.before.before.before.before.before.before.before.before.before.before.before.before.before.before.before.before.before.before.before.before.before.requires.1
+put-used-requires : tie.Need-put-used-requires
+put-used-requires c κs = c.requires.1
 
-same_length : tie.Need-same-length
-same_length c = search rules
+shape_of-out : tie.Need-shape_of-out
+shape_of-out c = search rules
 
-same-length-2 : tie.Need-same-length-2
-same-length-2 c = search rules
+shape_of-words : tie.Need-shape_of-words
+shape_of-words c = search rules
 
-same-length-3 : tie.Need-same-length-3
-same-length-3 c = search rules
+shape_of-index : tie.Need-shape_of-index
+shape_of-index c = search rules
 
-same-length-4 : tie.Need-same-length-4
-same-length-4 c = search rules
+shape_of-memory : tie.Need-shape_of-memory
+shape_of-memory c = search rules
 
 returns : tie.Need-returns
 returns c = search rules
@@ -37,13 +37,13 @@ pub one_spec : {M : Type 1} → statement M
 one_spec =
     tie.close
     (tie.spec
-    line-requires
-    sub-list
-    part-list-start
-    part-list-end
-    put-requires
-    same_length
-    same-length-2
-    same-length-3
-    same-length-4
+    line-outcome-requires
+    slice_bounds-list-count
+    slice_bounds-list-start
+    slice_bounds-list-end
+    put-used-requires
+    shape_of-out
+    shape_of-words
+    shape_of-index
+    shape_of-memory
     returns)

@@ -7,83 +7,83 @@ use Rattle.calls.specs.Kept.{Kept}
 use Rattle.calls.proofs.input.script.Statement.{statement}
 use Rattle.calls.proofs.input.script.Tie as tie
 
-abbrev invariant-loop : tie.invariant-loop
-invariant-loop input₀ out₀ words₀ index₀ memory₀ numbers₀ text₀ output₀ kept₀ file₀ saved₀ file_size₀ state₀ turns₀ input out words index memory numbers text output kept file' saved file_size state turns = Kept state words index memory (length out₀) × (state.at ≤ length input₀) × (length input ≡ length input₀) × (length out ≡ length out₀) × (length words ≡ length words₀) × (length index ≡ length index₀) × (length memory ≡ length memory₀)
+abbrev invariant-loop-turns : tie.invariant-loop-turns
+invariant-loop-turns stdin stdout input₀ out₀ words₀ index₀ memory₀ numbers₀ text₀ output₀ kept₀ file₀ saved₀ file_size₀ state₀ turns₀ input out words index memory numbers text output kept file' saved file_size state turns = Kept state words index memory (length out₀) × (state.at ≤ length input₀) × (length input ≡ length input₀) × (length out ≡ length out₀) × (length words ≡ length words₀) × (length index ≡ length index₀) × (length memory ≡ length memory₀)
 
-abbrev decreases-loop : tie.decreases-loop
-decreases-loop input₀ out₀ words₀ index₀ memory₀ numbers₀ text₀ output₀ kept₀ file₀ saved₀ file_size₀ state₀ turns₀ input out words index memory numbers text output kept file' saved file_size state turns = turns
+abbrev decreases-loop-turns : tie.decreases-loop-turns
+decreases-loop-turns stdin stdout input₀ out₀ words₀ index₀ memory₀ numbers₀ text₀ output₀ kept₀ file₀ saved₀ file_size₀ state₀ turns₀ input out words index memory numbers text output kept file' saved file_size state turns = turns
 
-loop-holds : tie.Need-loop-init invariant-loop decreases-loop
-loop-holds c = search rules
+loop-turns-init : tie.Need-loop-turns-init invariant-loop-turns decreases-loop-turns
+loop-turns-init c = search rules
 
-turn-requires : tie.Need-turn-requires invariant-loop decreases-loop
-turn-requires c κs = ((c.before.before.before.before.before.before.before.before.before.before.before.before.before.loop.invariant.0.0, search rules), search rules)
+turn-state-requires : tie.Need-turn-state-requires invariant-loop-turns decreases-loop-turns
+turn-state-requires c κs = ((c.loop-turns.invariant.0.0, search rules), search rules)
 
-same_length : tie.Need-same-length invariant-loop decreases-loop
-same_length c = search rules
+shape_of-input-then-state : tie.Need-shape_of-input-then-state invariant-loop-turns decreases-loop-turns
+shape_of-input-then-state c = search rules
 
-same-length-2 : tie.Need-same-length-2 invariant-loop decreases-loop
-same-length-2 c = search rules
+shape_of-out-then-state : tie.Need-shape_of-out-then-state invariant-loop-turns decreases-loop-turns
+shape_of-out-then-state c = search rules
 
-same-length-3 : tie.Need-same-length-3 invariant-loop decreases-loop
-same-length-3 c = search rules
+shape_of-words-then-state : tie.Need-shape_of-words-then-state invariant-loop-turns decreases-loop-turns
+shape_of-words-then-state c = search rules
 
-same-length-4 : tie.Need-same-length-4 invariant-loop decreases-loop
-same-length-4 c = search rules
+shape_of-index-then-state : tie.Need-shape_of-index-then-state invariant-loop-turns decreases-loop-turns
+shape_of-index-then-state c = search rules
 
-same-length-5 : tie.Need-same-length-5 invariant-loop decreases-loop
-same-length-5 c = search rules
+shape_of-memory-then-state : tie.Need-shape_of-memory-then-state invariant-loop-turns decreases-loop-turns
+shape_of-memory-then-state c = search rules
 
-returns : tie.Need-returns invariant-loop decreases-loop
+returns-then-state : tie.Need-returns-then-state invariant-loop-turns decreases-loop-turns
+returns-then-state c = search rules
+
+overflow_sub-turns : tie.Need-overflow_sub-turns invariant-loop-turns decreases-loop-turns
+overflow_sub-turns c = search rules
+
+loop-turns-smaller : tie.Need-loop-turns-smaller invariant-loop-turns decreases-loop-turns
+loop-turns-smaller c = search rules
+
+loop-turns-preserved : tie.Need-loop-turns-preserved invariant-loop-turns decreases-loop-turns
+loop-turns-preserved c = ((c.turn-state.ensures.0.0, search rules), search rules, search rules, search rules, search rules, search rules, search rules)
+
+shape_of-input : tie.Need-shape_of-input invariant-loop-turns decreases-loop-turns
+shape_of-input c = search rules
+
+shape_of-out : tie.Need-shape_of-out invariant-loop-turns decreases-loop-turns
+shape_of-out c = search rules
+
+shape_of-words : tie.Need-shape_of-words invariant-loop-turns decreases-loop-turns
+shape_of-words c = search rules
+
+shape_of-index : tie.Need-shape_of-index invariant-loop-turns decreases-loop-turns
+shape_of-index c = search rules
+
+shape_of-memory : tie.Need-shape_of-memory invariant-loop-turns decreases-loop-turns
+shape_of-memory c = search rules
+
+returns : tie.Need-returns invariant-loop-turns decreases-loop-turns
 returns c = search rules
 
-sub-turns : tie.Need-overflow-sub-turns invariant-loop decreases-loop
-sub-turns c = search rules
-
-loop-less : tie.Need-loop-smaller invariant-loop decreases-loop
-loop-less c = search rules
-
-loop-again : tie.Need-loop-preserved invariant-loop decreases-loop
-loop-again c = ((c.before.before.before.before.before.before.before.before.before.before.before.turn.ensures.0.0, search rules), search rules, search rules, search rules, search rules, search rules, search rules)
-
-same-length-6 : tie.Need-same-length-6 invariant-loop decreases-loop
-same-length-6 c = search rules
-
-same-length-7 : tie.Need-same-length-7 invariant-loop decreases-loop
-same-length-7 c = search rules
-
-same-length-8 : tie.Need-same-length-8 invariant-loop decreases-loop
-same-length-8 c = search rules
-
-same-length-9 : tie.Need-same-length-9 invariant-loop decreases-loop
-same-length-9 c = search rules
-
-same-length-10 : tie.Need-same-length-10 invariant-loop decreases-loop
-same-length-10 c = search rules
-
-returns-2 : tie.Need-returns-2 invariant-loop decreases-loop
-returns-2 c = search rules
-
-pub script-spec : {M : Type 1} → statement M
-script-spec =
+pub script_spec : {M : Type 1} → statement M
+script_spec =
     tie.close
     (tie.spec
-    invariant-loop
-    decreases-loop
-    loop-holds
-    turn-requires
-    same_length
-    same-length-2
-    same-length-3
-    same-length-4
-    same-length-5
-    returns
-    sub-turns
-    loop-less
-    loop-again
-    same-length-6
-    same-length-7
-    same-length-8
-    same-length-9
-    same-length-10
-    returns-2)
+    invariant-loop-turns
+    decreases-loop-turns
+    loop-turns-init
+    turn-state-requires
+    shape_of-input-then-state
+    shape_of-out-then-state
+    shape_of-words-then-state
+    shape_of-index-then-state
+    shape_of-memory-then-state
+    returns-then-state
+    overflow_sub-turns
+    loop-turns-smaller
+    loop-turns-preserved
+    shape_of-input
+    shape_of-out
+    shape_of-words
+    shape_of-index
+    shape_of-memory
+    returns)

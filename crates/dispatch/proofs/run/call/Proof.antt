@@ -5,39 +5,39 @@ use borrow.Author.Rules.{rules}
 use Rattle.dispatch.proofs.run.call.Statement.{statement}
 use Rattle.dispatch.proofs.run.call.Tie as tie
 
-slice-relend-prefix-reply : tie.Need-slice-relend-prefix-reply
-slice-relend-prefix-reply c = search rules
+slice_bounds-reply-end : tie.Need-slice_bounds-reply-end
+slice_bounds-reply-end c = search rules
 
-slice-aggregate-reply : tie.Need-slice-aggregate-reply
-slice-aggregate-reply c = let s = c.before.before.before.before.before.before.before.before in part_long _ s.args.words.now s.requires.within
+slice_bounds-reply-end-2 : tie.Need-slice_bounds-reply-end-2
+slice_bounds-reply-end-2 c = part_long _ c.args.words.now c.requires.within
 
-reply-requires : tie.Need-reply-requires
-reply-requires c κs = search rules
+reply-reply-requires : tie.Need-reply-reply-requires
+reply-reply-requires c κs = search rules
 
-same_length : tie.Need-same-length
-same_length c = search rules
+shape_of-words : tie.Need-shape_of-words
+shape_of-words c = search rules
 
-same-length-2 : tie.Need-same-length-2
-same-length-2 c = search rules
+shape_of-index : tie.Need-shape_of-index
+shape_of-index c = search rules
 
-same-length-3 : tie.Need-same-length-3
-same-length-3 c = search rules
+shape_of-memory : tie.Need-shape_of-memory
+shape_of-memory c = search rules
 
-same-length-4 : tie.Need-same-length-4
-same-length-4 c = search rules
+shape_of-output : tie.Need-shape_of-output
+shape_of-output c = search rules
 
 returns : tie.Need-returns
 returns c = search given_back
 
-pub call-spec : {M : Type 1} → statement M
-call-spec =
+pub call_spec : {M : Type 1} → statement M
+call_spec =
     tie.close
     (tie.spec
-    slice-relend-prefix-reply
-    slice-aggregate-reply
-    reply-requires
-    same_length
-    same-length-2
-    same-length-3
-    same-length-4
+    slice_bounds-reply-end
+    slice_bounds-reply-end-2
+    reply-reply-requires
+    shape_of-words
+    shape_of-index
+    shape_of-memory
+    shape_of-output
     returns)

@@ -5,47 +5,47 @@ use borrow.Author.Rules.{rules}
 use Rattle.dispatch.proofs.run.open_list.Statement.{statement}
 use Rattle.dispatch.proofs.run.open_list.Tie as tie
 
-slice-aggregate-open : tie.Need-slice-aggregate-open
-slice-aggregate-open c = part_long _ c.before.before.before.before.args.words.now c.before.before.before.before.requires
+slice_bounds-open-end : tie.Need-slice_bounds-open-end
+slice_bounds-open-end c = part_long _ c.args.words.now c.requires
 
-open-requires : tie.Need-open-requires
-open-requires c κs = search rules
+open-answer-requires : tie.Need-open-answer-requires
+open-answer-requires c κs = search rules
 
-enum_told : tie.Need-enum-told
-enum_told c = search rules
+enum_told-1 : tie.Need-enum_told-1
+enum_told-1 c = search rules
 
-enum-known-answer : tie.Need-enum-known-answer
-enum-known-answer c = search rules
+enum_known-answer : tie.Need-enum_known-answer
+enum_known-answer c = search rules
 
-same_length : tie.Need-same-length
-same_length c = search rules
+shape_of-index-in-Accepted : tie.Need-shape_of-index-in-Accepted
+shape_of-index-in-Accepted c = search rules
 
-same-length-2 : tie.Need-same-length-2
-same-length-2 c = search rules
+shape_of-memory-in-Accepted : tie.Need-shape_of-memory-in-Accepted
+shape_of-memory-in-Accepted c = search rules
 
-returns : tie.Need-returns
-returns c = search opened_list
+returns-in-Accepted : tie.Need-returns-in-Accepted
+returns-in-Accepted c = search opened_list
 
-same-length-3 : tie.Need-same-length-3
-same-length-3 c = search rules
+shape_of-index-in-Refused : tie.Need-shape_of-index-in-Refused
+shape_of-index-in-Refused c = search rules
 
-same-length-4 : tie.Need-same-length-4
-same-length-4 c = search rules
+shape_of-memory-in-Refused : tie.Need-shape_of-memory-in-Refused
+shape_of-memory-in-Refused c = search rules
 
-returns-2 : tie.Need-returns-2
-returns-2 c = search rules
+returns-in-Refused : tie.Need-returns-in-Refused
+returns-in-Refused c = search rules
 
-pub open-list-spec : {M : Type 1} → statement M
-open-list-spec =
+pub open_list_spec : {M : Type 1} → statement M
+open_list_spec =
     tie.close
     (tie.spec
-    slice-aggregate-open
-    open-requires
-    enum_told
-    enum-known-answer
-    same_length
-    same-length-2
-    returns
-    same-length-3
-    same-length-4
-    returns-2)
+    slice_bounds-open-end
+    open-answer-requires
+    enum_told-1
+    enum_known-answer
+    shape_of-index-in-Accepted
+    shape_of-memory-in-Accepted
+    returns-in-Accepted
+    shape_of-index-in-Refused
+    shape_of-memory-in-Refused
+    returns-in-Refused)

@@ -4,99 +4,99 @@ use borrow.Author.Rules.{rules}
 use Rattle.dispatch.proofs.run.with_numbers.Statement.{statement}
 use Rattle.dispatch.proofs.run.with_numbers.Tie as tie
 
-numbers-requires : tie.Need-numbers-requires
-numbers-requires c κs = search rules
+numbers-said-requires : tie.Need-numbers-said-requires
+numbers-said-requires c κs = search rules
 
-sub-repeated : tie.Need-overflow-sub-repeated
-sub-repeated c = search rules
+slice_bounds-repeated-count : tie.Need-slice_bounds-repeated-count
+slice_bounds-repeated-count c = search rules
 
-part-repeated-start : tie.Need-slice-bounds-repeated-start
-part-repeated-start c = search rules
+slice_bounds-repeated-start : tie.Need-slice_bounds-repeated-start
+slice_bounds-repeated-start c = search rules
 
-part-repeated-end : tie.Need-slice-bounds-repeated-end
-part-repeated-end c = search rules
+slice_bounds-repeated-end : tie.Need-slice_bounds-repeated-end
+slice_bounds-repeated-end c = search rules
 
-repeated-requires : tie.Need-repeated-requires
-repeated-requires c κs = search rules
+repeated-count-requires : tie.Need-repeated-count-requires
+repeated-count-requires c κs = search rules
 
-enum-known-count : tie.Need-enum-known-count
-enum-known-count c = search rules
+enum_known-count : tie.Need-enum_known-count
+enum_known-count c = search rules
 
-sub-ordered : tie.Need-overflow-sub-ordered
-sub-ordered c = search rules
+slice_bounds-ordered-count : tie.Need-slice_bounds-ordered-count
+slice_bounds-ordered-count c = search rules
 
-part-ordered-start : tie.Need-slice-bounds-ordered-start
-part-ordered-start c = search rules
+slice_bounds-ordered-start : tie.Need-slice_bounds-ordered-start
+slice_bounds-ordered-start c = search rules
 
-part-ordered-end : tie.Need-slice-bounds-ordered-end
-part-ordered-end c = search rules
+slice_bounds-ordered-end : tie.Need-slice_bounds-ordered-end
+slice_bounds-ordered-end c = search rules
 
-sub-ordered-2 : tie.Need-overflow-sub-ordered-2
-sub-ordered-2 c = search rules
+slice_bounds-ordered-count-in-Of : tie.Need-slice_bounds-ordered-count-in-Of
+slice_bounds-ordered-count-in-Of c = search rules
 
-part-ordered-start-2 : tie.Need-slice-bounds-ordered-start-2
-part-ordered-start-2 c = search rules
+slice_bounds-ordered-start-in-Of : tie.Need-slice_bounds-ordered-start-in-Of
+slice_bounds-ordered-start-in-Of c = search rules
 
-part-ordered-end-2 : tie.Need-slice-bounds-ordered-end-2
-part-ordered-end-2 c = search within
+slice_bounds-ordered-end-in-Of : tie.Need-slice_bounds-ordered-end-in-Of
+slice_bounds-ordered-end-in-Of c = search within
 
 ordered-requires : tie.Need-ordered-requires
 ordered-requires c κs = search rules
 
-enum_told : tie.Need-enum-told
-enum_told c = search rules
+enum_told-1 : tie.Need-enum_told-1
+enum_told-1 c = search rules
 
-same_length : tie.Need-same-length
-same_length c = search rules
+shape_of-words : tie.Need-shape_of-words
+shape_of-words c = search rules
 
-same-length-2 : tie.Need-same-length-2
-same-length-2 c = search rules
+shape_of-index : tie.Need-shape_of-index
+shape_of-index c = search rules
 
-same-length-3 : tie.Need-same-length-3
-same-length-3 c = search rules
+shape_of-memory : tie.Need-shape_of-memory
+shape_of-memory c = search rules
 
-same-length-4 : tie.Need-same-length-4
-same-length-4 c = search rules
+shape_of-numbers-in-Of : tie.Need-shape_of-numbers-in-Of
+shape_of-numbers-in-Of c = search rules
 
-same-length-5 : tie.Need-same-length-5
-same-length-5 c = search rules
+shape_of-output : tie.Need-shape_of-output
+shape_of-output c = search rules
 
-same-length-6 : tie.Need-same-length-6
-same-length-6 c = search rules
+shape_of-kept : tie.Need-shape_of-kept
+shape_of-kept c = search rules
 
-returns : tie.Need-returns
-returns c = search rules
+returns-in-Of : tie.Need-returns-in-Of
+returns-in-Of c = search rules
 
-same-length-7 : tie.Need-same-length-7
-same-length-7 c = search rules
+shape_of-numbers-in-Bad : tie.Need-shape_of-numbers-in-Bad
+shape_of-numbers-in-Bad c = search rules
 
-returns-2 : tie.Need-returns-2
-returns-2 c = search rules
+returns-in-Bad : tie.Need-returns-in-Bad
+returns-in-Bad c = search rules
 
-pub with-numbers-spec : {M : Type 1} → statement M
-with-numbers-spec =
+pub with_numbers_spec : {M : Type 1} → statement M
+with_numbers_spec =
     tie.close
     (tie.spec
-    numbers-requires
-    sub-repeated
-    part-repeated-start
-    part-repeated-end
-    repeated-requires
-    enum-known-count
-    sub-ordered
-    part-ordered-start
-    part-ordered-end
-    sub-ordered-2
-    part-ordered-start-2
-    part-ordered-end-2
+    numbers-said-requires
+    slice_bounds-repeated-count
+    slice_bounds-repeated-start
+    slice_bounds-repeated-end
+    repeated-count-requires
+    enum_known-count
+    slice_bounds-ordered-count
+    slice_bounds-ordered-start
+    slice_bounds-ordered-end
+    slice_bounds-ordered-count-in-Of
+    slice_bounds-ordered-start-in-Of
+    slice_bounds-ordered-end-in-Of
     ordered-requires
-    enum_told
-    same_length
-    same-length-2
-    same-length-3
-    same-length-4
-    same-length-5
-    same-length-6
-    returns
-    same-length-7
-    returns-2)
+    enum_told-1
+    shape_of-words
+    shape_of-index
+    shape_of-memory
+    shape_of-numbers-in-Of
+    shape_of-output
+    shape_of-kept
+    returns-in-Of
+    shape_of-numbers-in-Bad
+    returns-in-Bad)
