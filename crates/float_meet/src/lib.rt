@@ -105,6 +105,7 @@ fn constant_first(x: f64, t: i8) -> FloatMeet
 }
 
 // Two constants.
+#[tactic(auto, using(crate::proofs::Cases::first_not_single, crate::proofs::Cases::second_not_single, crate::proofs::Cases::both_single))]
 fn constants(x: f64, y: f64) -> FloatMeet
     ensures { result ≡ float_rule (Constant x) (Constant y) }
 {

@@ -15,6 +15,7 @@ use words::{Interned, fresh};
 pub const LONGEST_LIST: usize = 4096;
 
 // The number of the first row that applies, or 0. All handles are tested on the store as it comes.
+#[tactic(auto, using(crate::proofs::Rows::over_long, crate::proofs::Rows::not_long))]
 pub fn list_rows(words: &[u64], used: usize, bits: &[u64], types: &[u64]) -> u8
     requires { Marked words.now bits.now used }
     ensures { result ≡ meet_list_rows types.now (take used words.now) }

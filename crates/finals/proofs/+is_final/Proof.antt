@@ -77,19 +77,11 @@ is_final-returns-then-kind-eq-MEM_PTR t c =
     let P = c.requires.1.0 in
     kept_both P.good P.first c.is_final-r.ensures.1 (final_pointer P.good P.first _ c.word-head.ensures c.if-kind-eq-MEM_PTR.true _ c.word-to.ensures _ c.is_final-r.ensures.0) c.kept.ensures.0 c.kept.ensures.1
 
-is_final-shape_of-known-then-kind-ne-STRUCT : (t : ℕ) → is_final_lts.Need-shape_of-known-then-kind-ne-STRUCT (is_final_K t) (is_final_at t) is_final.Post is_final-invariant-loop-i is_final-decreases-loop-i
-is_final-shape_of-known-then-kind-ne-STRUCT t c = search rules
-
-is_final-returns-then-kind-ne-STRUCT : (t : ℕ) → is_final_lts.Need-returns-then-kind-ne-STRUCT (is_final_K t) (is_final_at t) is_final.Post is_final-invariant-loop-i is_final-decreases-loop-i
-is_final-returns-then-kind-ne-STRUCT t c =
-    let P = c.requires.1.0 in
-    (final_other P.good P.first _ c.word-head.ensures c.if-kind-eq-MEM_PTR.false (λ e. omega (arith, c.if-kind-ne-STRUCT.true)), c.requires.1.1)
-
 is_final-loop-i-init : (t : ℕ) → is_final_lts.Need-loop-i-init (is_final_K t) (is_final_at t) is_final.Post is_final-invariant-loop-i is_final-decreases-loop-i
 is_final-loop-i-init t c =
     let P = c.requires.1.0 in
     let x = c.word-head.ensures in
-    (search rules, struct_few P.good P.first _ x, omega (arith, P.near, P.within, P.small), struct_begin P.good P.first _ x c.if-kind-eq-MEM_PTR.false (omega (arith, c.if-kind-ne-STRUCT.false)), c.requires.1.1, refl)
+    (search rules, struct_few P.good P.first _ x, omega (arith, P.near, P.within, P.small), struct_begin P.good P.first _ x c.if-kind-eq-MEM_PTR.false (omega arith), c.requires.1.1, refl)
 
 is_final-overflow_add-p : (t : ℕ) → is_final_lts.Need-overflow_add-p (is_final_K t) (is_final_at t) is_final.Post is_final-invariant-loop-i is_final-decreases-loop-i
 is_final-overflow_add-p t c = search rules
@@ -164,8 +156,8 @@ pub +is_final_spec : {M : Type 1} → statement M
     (is_final-kept-requires t)
     (is_final-shape_of-known-then-kind-eq-MEM_PTR t)
     (is_final-returns-then-kind-eq-MEM_PTR t)
-    (is_final-shape_of-known-then-kind-ne-STRUCT t)
-    (is_final-returns-then-kind-ne-STRUCT t)
+    (λ c. search rules)
+    (λ c. let P = c.requires.1.0 in (final_other P.good P.first _ c.word-head.ensures c.if-kind-eq-MEM_PTR.false (λ e. omega arith), c.requires.1.1))
     (is_final-loop-i-init t)
     (is_final-overflow_add-p t)
     (is_final-overflow_mul-p t)

@@ -1,13 +1,9 @@
 -- `finals::kept` meets its contract.
-use mathlib.Core.Bool.{not}
-use mathlib.Core.Path.{ap, refl}
+use mathlib.Core.Path.{refl}
 use Rattle.finals.proofs.Knows.{kept_none, kept_one}
 use borrow.Author.Rules.{rules}
 use Rattle.finals.proofs.kept.Statement.{statement}
 use Rattle.finals.proofs.kept.Tie as tie
-
-returns-then-not-r : tie.Need-returns-then-not-r
-returns-then-not-r c = (refl, kept_none _ _ _)
 
 returns-then-known-a : tie.Need-returns-then-known-a
 returns-then-known-a c = (refl, kept_none _ _ _)
@@ -19,7 +15,7 @@ shape_of-known : tie.Need-shape_of-known
 shape_of-known c = search rules
 
 returns : tie.Need-returns
-returns c = (refl, kept_one _ _ _ _ (ap not c.if-not-r.false) c.mark.ensures)
+returns c = (refl, kept_one _ _ _ _ (cc) c.mark.ensures)
 
 pub kept_spec : {M : Type 1} → statement M
-kept_spec = tie.close (tie.spec returns-then-not-r returns-then-known-a mark-requires shape_of-known returns)
+kept_spec = tie.close (tie.spec (λ c. (refl, kept_none _ _ _)) returns-then-known-a mark-requires shape_of-known returns)

@@ -1,5 +1,5 @@
 -- `opened_lists::meet_list` meets its contract: the store is open again, whatever the answer is.
-use mathlib.Core.Path.{sym, ap, ◌∙◌}
+use mathlib.Core.Path.{◌≡◌, sym, ap, ◌∙◌}
 use native.Mathlib.Omega.{arith}
 use Rattle.call.specs.declared.Made.{Made}
 use Rattle.call.specs.Call.{left, made}
@@ -28,16 +28,6 @@ slice_bounds-list_rows-end-2 c = marks_long c.args.words.now _ _ c.marks_size-k.
 list_rows-no-requires : tie.Need-list_rows-no-requires
 list_rows-no-requires c κs = marked_rows c.requires _ c.marks_size-k.ensures.0
 
-shape_of-words-then-no-ne0 : tie.Need-shape_of-words-then-no-ne0
-shape_of-words-then-no-ne0 c = search rules
-
-shape_of-index-then-no-ne0 : tie.Need-shape_of-index-then-no-ne0
-shape_of-index-then-no-ne0 c = search rules
-
-returns-then-no-ne0 : tie.Need-returns-then-no-ne0
-returns-then-no-ne0 c =
-    (turned (meet_list_rows c.args.types.now) (meet_list_of c.args.types.now) _ _ (used_is _ c.requires.well) (used_some _ c.requires.well) _ c.list_rows-no.ensures (λ z. omega (arith, z, c.if-no-ne0.true)), c.requires)
-
 offset_bounds-index-k : tie.Need-offset_bounds-index-k
 offset_bounds-index-k c = search rules
 
@@ -52,7 +42,8 @@ slice_bounds-merge-end c = search rules
 
 merge-r-requires : tie.Need-merge-r-requires
 merge-r-requires c κs =
-    let q = sym c.list_rows-no.ensures ∙ c.if-no-ne0.false in
+    let none : c.list_rows-no.result ≡ 0 = omega arith in
+    let q = sym c.list_rows-no.ensures ∙ none in
     let k = c.marks_size-k.ensures.0 in
     (list_ready _ _ _ _ c.requires q _ k, (lent_opened _ _ _ _ c.requires q _ k, c.requires.right))
 
@@ -66,7 +57,8 @@ enum_known-m c = search rules
 
 mark_new-requires : tie.Need-mark_new-requires
 mark_new-requires c κs =
-    let q = sym c.list_rows-no.ensures ∙ c.if-no-ne0.false in
+    let none : c.list_rows-no.result ≡ 0 = omega arith in
+    let q = sym c.list_rows-no.ensures ∙ none in
     let g = c.merge-r in
     let f = c.finish-m in
     let e = list_end _ _ _ _ c.requires q _ c.marks_size-k.ensures.0 _ _ g.ensures.0 g.auto.words f.result _ f.ensures f.auto.words g.new.chains g.auto.chains in
@@ -77,7 +69,8 @@ enum_known-m-in-Refused-1 c = search rules
 
 build-requires : tie.Need-build-requires
 build-requires c κs =
-    let q = sym c.list_rows-no.ensures ∙ c.if-no-ne0.false in
+    let none : c.list_rows-no.result ≡ 0 = omega arith in
+    let q = sym c.list_rows-no.ensures ∙ none in
     let g = c.merge-r in
     let f = c.finish-m in
     let e = list_end _ _ _ _ c.requires q _ c.marks_size-k.ensures.0 _ _ g.ensures.0 g.auto.words f.result _ f.ensures f.auto.words g.new.chains g.auto.chains in
@@ -94,7 +87,8 @@ shape_of-memory-in-Handle c = search rules
 
 returns-in-Handle : tie.Need-returns-in-Handle
 returns-in-Handle c =
-    let q = sym c.list_rows-no.ensures ∙ c.if-no-ne0.false in
+    let none : c.list_rows-no.result ≡ 0 = omega arith in
+    let q = sym c.list_rows-no.ensures ∙ none in
     let g = c.merge-r in
     let f = c.finish-m in
     let e = list_end _ _ _ _ c.requires q _ c.marks_size-k.ensures.0 _ _ g.ensures.0 g.auto.words f.result _ f.ensures f.auto.words g.new.chains g.auto.chains in
@@ -112,7 +106,8 @@ shape_of-memory-in-Refused c = search rules
 
 returns-in-Refused : tie.Need-returns-in-Refused
 returns-in-Refused c =
-    let q = sym c.list_rows-no.ensures ∙ c.if-no-ne0.false in
+    let none : c.list_rows-no.result ≡ 0 = omega arith in
+    let q = sym c.list_rows-no.ensures ∙ none in
     let g = c.merge-r in
     let f = c.finish-m in
     let e = list_end _ _ _ _ c.requires q _ c.marks_size-k.ensures.0 _ _ g.ensures.0 g.auto.words f.result _ f.ensures f.auto.words g.new.chains g.auto.chains in
@@ -127,9 +122,9 @@ meet_list_spec =
     slice_bounds-list_rows-end
     slice_bounds-list_rows-end-2
     list_rows-no-requires
-    shape_of-words-then-no-ne0
-    shape_of-index-then-no-ne0
-    returns-then-no-ne0
+    (λ c. search rules)
+    (λ c. search rules)
+    (λ c. (turned (meet_list_rows c.args.types.now) (meet_list_of c.args.types.now) _ _ (used_is _ c.requires.well) (used_some _ c.requires.well) _ c.list_rows-no.ensures (λ z. omega (arith, z)), c.requires))
     offset_bounds-index-k
     slice_bounds-merge-count
     slice_bounds-merge-start

@@ -3,11 +3,6 @@ use Rattle.value_rows.proofs.Rows.{long_name, short_name}
 use Rattle.value_rows.proofs.str_rows.Statement.{statement}
 use Rattle.value_rows.proofs.str_rows.Tie as tie
 
-returns-then-text-gt-MOST_COUNTED : tie.Need-returns-then-text-gt-MOST_COUNTED
-returns-then-text-gt-MOST_COUNTED c = long_name _ c.if-text-gt-MOST_COUNTED.true
-
-returns : tie.Need-returns
-returns c = short_name _ c.if-text-gt-MOST_COUNTED.false
-
+-- no name of a goal or a test, so that a wrong test is refused for what it says
 pub str_rows_spec : {M : Type 1} → statement M
-str_rows_spec = tie.close (tie.spec returns-then-text-gt-MOST_COUNTED returns)
+str_rows_spec = tie.close (tie.spec (λ c. search long_name) (λ c. search short_name))
