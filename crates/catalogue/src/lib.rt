@@ -68,6 +68,7 @@ const LARGE_BITS: usize = 16384;
 
 const LARGE_TAIL: usize = 8 * limits::LONGEST;
 
+#[inline(never)]
 fn stores_large(tail: &[u8]) -> bool
     ensures { result ≡ forms_store (unpacked tail.now) }
 {
@@ -75,8 +76,8 @@ fn stores_large(tail: &[u8]) -> bool
     stores(tail, &mut bits)
 }
 
-// The same with bits for n bytes: the length of `tail`, or where that is more than twice as long as that of any store, half of it, and so on. The large array stands in the frame of a function of its own, so that a small file needs little
-// stack. This function calls itself, and into such a one the compiler puts no function that has a large array.
+// The same with bits for n bytes: the length of `tail`, or where that is more than twice as long as that of any store, half of it, and so on. The large array stands in the frame of a function of its own, which is put into no other, so that a small file needs little
+// stack.
 fn stores_for(n: usize, tail: &[u8]) -> bool
     requires { min (length tail.now) (8 * longest_allowed) ≤ n }
     ensures { result ≡ forms_store (unpacked tail.now) }

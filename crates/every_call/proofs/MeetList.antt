@@ -18,7 +18,7 @@ use Rattle.parts.proofs.Parts.{all_map}
 use Rattle.parts.proofs.Good.{good_long, part_weak, top_part, well_good, good_adds}
 use Rattle.meet.specs.Meet.{meet_of}
 use Rattle.meet.proofs.Grows.{meet_grows}
-use Rattle.join.proofs.Adds.{type_in, Given, after, later, met}
+use Rattle.join.proofs.Adds.{TypeIn, Given, after, later, met}
 use Rattle.every_call.specs.MeetList.{merge_from, meet_list_of, longest_list, meet_list_rows, meet_list_call}
 use Rattle.every_call.proofs.Parts.{types_parts}
 
@@ -29,7 +29,7 @@ merge_grows t (h ∷ types) u =
     let m = meet_of u t h in
     ext_then u m.words _ (meet_grows (suc (max t h)) u t h) (merge_grows m.handle types m.words)
 
-pub merge_given : (t : ℕ) (types u : List ℕ) → Good u → type_in u t → All (type_in u) types → Given u (merge_from t types u)
+pub merge_given : (t : ℕ) (types u : List ℕ) → Good u → TypeIn u t → All (TypeIn u) types → Given u (merge_from t types u)
 unfolding merge_from
 merge_given t [] u g p ps = record { adds = adds_none u t g.sound; part = p }
 merge_given t (h ∷ types) u g p ps =
@@ -38,11 +38,11 @@ merge_given t (h ∷ types) u g p ps =
     after m (merge_from m.handle types m.words) r (merge_given m.handle types m.words (good_adds g r.adds) r.part (all_map (λ k. later k g r) types ps.1))
 
 -- Top, where the merge starts
-pub top_in : (u : List ℕ) → Good u → type_in u 6
+pub top_in : (u : List ℕ) → Good u → TypeIn u 6
 top_in u g = part_weak (length u) 33 (good_long g) (omega arith) (top_part g 33 (omega arith))
 
 -- the handles of a list that no row turns back
-pub list_parts : (types u : List ℕ) → Good u → meet_list_rows types u ≡ 0 → All (type_in u) types
+pub list_parts : (types u : List ℕ) → Good u → meet_list_rows types u ≡ 0 → All (TypeIn u) types
 unfolding meet_list_rows
 list_parts types u g q = types_parts types u g (then_off 12 (ltb longest_list (length types)) (types_rows types u) q).1
 

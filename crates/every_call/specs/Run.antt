@@ -10,7 +10,7 @@ use Rattle.every_call.specs.MeetList.{meet_list_call}
 use Rattle.every_call.specs.Others.{make_init_call, make_zero_call, non_zero_call, is_high_call, is_high_or_constant_call, is_constant_call, is_fref_call, log_size_call, int_min_call, int_max_call, int_value_call, int_mask_call, float_sz_call, float_is_f32_call, float_value_call, float_reading_call, struct_name_call, struct_fields_call, find_call, find_alias_call, is_ary_call, offset_call, offsets_call, ary_base_call, ary_scale_call}
 
 -- "with any arguments": any numbers and lists at all. `kind` stands for the Rust's casts. A call that fills a lent output has the
--- output's length beside it. The names are the functions', with _is behind those of which there is a definition already.
+-- output's length beside it. The names are the functions'; eleven have _is behind, since there are definitions of those names.
 pub data Call : Type 0 where
   kind : ℕ → Call
   get_bool : ℕ → Call

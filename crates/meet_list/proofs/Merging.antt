@@ -19,7 +19,7 @@ use Rattle.parts.proofs.Good.{part_weak, good_adds}
 use Rattle.parts.proofs.Grew.{Grew, grew_none, grew_long, grew_up, grew_high, grew_more, grew_words, grew_stop}
 use Rattle.meet.specs.Meet.{meet_of}
 use Rattle.meet.proofs.Grows.{meet_grows}
-use Rattle.join.proofs.Adds.{type_in, Given, later, met}
+use Rattle.join.proofs.Adds.{TypeIn, Given, later, met}
 use Rattle.lent_memory.specs.Memory.{Right, RightThen}
 use Rattle.every_call.specs.Cleared.{Cleared}
 use Rattle.every_call.specs.MeetList.{merge_from, meet_list_of, meet_list_rows}
@@ -29,8 +29,8 @@ use Rattle.every_call.proofs.MeetList.{merge_grows, top_in, list_parts}
 pub record Merging (old new : List ℕ) (used : ℕ) (types now : List ℕ) (t v i : ℕ) : Type 0 where
   pub grew : Grew old new used now v
   pub good : Good (take v (old ++ now))
-  pub at : type_in (take v (old ++ now)) t
-  pub rest : All (type_in (take v (old ++ now))) (drop i types)
+  pub at : TypeIn (take v (old ++ now)) t
+  pub rest : All (TypeIn (take v (old ++ now))) (drop i types)
   pub left : meet_list_of types (take used (old ++ new)) ≡ merge_from t (drop i types) (take v (old ++ now))
 
 module _ {old new : List ℕ} {used : ℕ} {types : List ℕ} (c : Cleared (meet_list_rows types) old new used) where
@@ -62,7 +62,7 @@ module _ {old new : List ℕ} {used : ℕ} {types : List ℕ} (c : Cleared (meet
       split : drop i types ≡ h ∷ drop (i + 1) types
       split = let n : i + 1 ≡ suc i = omega arith in rw n (drop-cons types i 0 more)
 
-      two : type_in u h × All (type_in u) (drop (i + 1) types)
+      two : TypeIn u h × All (TypeIn u) (drop (i + 1) types)
       two = rw split at m.rest
 
       next : meet_list_of types (take used (old ++ new)) ≡ merge_from g.handle (drop (i + 1) types) g.words
@@ -76,7 +76,7 @@ module _ {old new : List ℕ} {used : ℕ} {types : List ℕ} (c : Cleared (meet
       long = length-take-le v (old ++ now) (omega (arith, length-append old now, grew_long m.grew, grew_high m.grew))
 
       -- what the next meet requires
-      here : {x : ℕ} → type_in u x → Part u v 33 1 11 x
+      here : {x : ℕ} → TypeIn u x → Part u v 33 1 11 x
       here p = part_weak v 33 (omega (arith, long)) (omega arith) p
 
       pub merging_ready : Ready old now v 1 11 t h

@@ -35,6 +35,7 @@ fn append_in(words: &mut [u64], bits: &mut [u64], making: Making, list: &[u64], 
     making::append(words, used, making, list, text, bits, &mut memory, &index)
 }
 
+#[inline(never)]
 fn append_middle(words: &mut [u64], making: Making, list: &[u64], text: &[u8]) -> Made
     requires { min (length words.old) longest_allowed ≤ word_bits * 1024 }
     ensures { left (made result) words.new ≡ run (appended making list.now text.now) words.old }
@@ -43,6 +44,7 @@ fn append_middle(words: &mut [u64], making: Making, list: &[u64], text: &[u8]) -
     append_in(words, &mut bits, making, list, text)
 }
 
+#[inline(never)]
 fn append_large(words: &mut [u64], making: Making, list: &[u64], text: &[u8]) -> Made
     ensures { left (made result) words.new ≡ run (appended making list.now text.now) words.old }
 {
@@ -100,6 +102,7 @@ fn ask_in(words: &[u64], bits: &mut [u64], asking: Asking) -> Answer
     asking::tell(words, used, asking, bits, &mut memory, &index)
 }
 
+#[inline(never)]
 fn ask_middle(words: &[u64], asking: Asking) -> Answer
     requires { min (length words.now) longest_allowed ≤ word_bits * 1024 }
     ensures { left (told result) words.now ≡ run (asked asking) words.now }
@@ -108,6 +111,7 @@ fn ask_middle(words: &[u64], asking: Asking) -> Answer
     ask_in(words, &mut bits, asking)
 }
 
+#[inline(never)]
 fn ask_large(words: &[u64], asking: Asking) -> Answer
     ensures { left (told result) words.now ≡ run (asked asking) words.now }
 {

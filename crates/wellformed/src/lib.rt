@@ -592,6 +592,7 @@ pub const LARGE_MARKS: usize = 16384;
 
 pub const LARGE_LIST: usize = bitset::WORD_BITS * LARGE_MARKS;
 
+#[inline(never)]
 fn verify_middle(words: &[u64]) -> bool
     requires { min (length words.now) longest_allowed ≤ word_bits * 1024 }
     ensures { result ≡ well_formed words.now }
@@ -600,6 +601,7 @@ fn verify_middle(words: &[u64]) -> bool
     verify(words, &mut bits)
 }
 
+#[inline(never)]
 fn verify_large(words: &[u64]) -> bool
     ensures { result ≡ well_formed words.now }
 {
@@ -607,8 +609,8 @@ fn verify_large(words: &[u64]) -> bool
     verify(words, &mut bits)
 }
 
-// Row 1 with bits for a list of n words: the list's length, or where that is more than twice as long as a store may be, half of it, and so on. Each size of the array of bits stands in the frame of a function of its own, so that a small list needs
-// little stack. This function calls itself, and into such a one the compiler puts no function that has a large array.
+// Row 1 with bits for a list of n words: the list's length, or where that is more than twice as long as a store may be, half of it, and so on. Each size of the array of bits stands in the frame of a function of its own, which is put into no other, so that a small list needs
+// little stack.
 fn verify_for(n: usize, words: &[u64]) -> bool
     requires { min (length words.now) longest_allowed ≤ n }
     ensures { result ≡ well_formed words.now }
