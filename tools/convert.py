@@ -149,7 +149,6 @@ def convert(path, d, crate, function, said):
             aliases[m.group(3)] = Function(d[key])
         else:
             said.append(f"{path}: no {key}")
-    cycle = len(aliases) > 1 and function.startswith("+") and function.count("_") >= 0 and len({k.replace("-tie", "").replace("-lts", "") for k in aliases}) > 1
     any_alias = "|".join(re.escape(a) for a in sorted(aliases, key=len, reverse=True)) or "tie|lts"
     global ALIAS
     ALIAS = any_alias
@@ -248,7 +247,6 @@ def goals(text, aliases, said, path, function):
     return text
 
 
-FIELDS = r'(?:\.[^\s(){}.;,@"«»]+)*'
 WORDS = dict(pre="requires", taken="true", left="false", inv="invariant", kept="auto", last="new", typed="type_inv", came="branch")
 
 
