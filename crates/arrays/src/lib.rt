@@ -28,15 +28,15 @@ pub fn array(
     requires covers { Covers (take used (old.now ++ new.old)) index.now }
     ensures { Runs (make_ary len len_alias body body_alias text.now) old.now new.old used new.new result }
 {
-    let Interned::At(name, u1) = names::intern_name(&*old, new, used, &*text, true, &*index) else {
+    let Interned::At(name, u1) = names::intern_name(old, new, used, text, true, index) else {
         return Interned::Full;
     };
-    let Interned::At(l, u2) = names::intern_name(&*old, new, u1, b"#", false, &*index) else {
+    let Interned::At(l, u2) = names::intern_name(old, new, u1, b"#", false, index) else {
         return Interned::Full;
     };
-    let Interned::At(b, u3) = names::intern_name(&*old, new, u2, b"[]", false, &*index) else {
+    let Interned::At(b, u3) = names::intern_name(old, new, u2, b"[]", false, index) else {
         return Interned::Full;
     };
     let fields = [l as u64, len, len_alias, 1, b as u64, body, body_alias, 0];
-    makers::structure(&*old, new, u3, name as u64, &fields, &*index)
+    makers::structure(old, new, u3, name as u64, &fields, index)
 }

@@ -38,18 +38,16 @@ pub fn rows_of(words: &[u64], used: usize, bits: &[u64], asking: Asking) -> u8
     ensures { result ≡ rows_of asking (take used words.now) }
 {
     match asking {
-        Asking::Kind(h) => rows::types_rows(&*words, used, &*bits, &[h]),
+        Asking::Kind(h) => rows::types_rows(words, used, bits, &[h]),
         Asking::GetBool(value) => value_rows::bool_rows(value),
-        Asking::Isa(a, b) => rows::types_rows(&*words, used, &*bits, &[a, b]),
-        Asking::IsFinal(a) => rows::types_rows(&*words, used, &*bits, &[a]),
-        Asking::Type(of, a) => of_types::rows_of(&*words, used, &*bits, of, a),
-        Asking::Int(_, a) => {
-            of_types::kind_rows(&*words, used, &*bits, a, kinds::INT, kinds::INT)
-        }
+        Asking::Isa(a, b) => rows::types_rows(words, used, bits, &[a, b]),
+        Asking::IsFinal(a) => rows::types_rows(words, used, bits, &[a]),
+        Asking::Type(of, a) => of_types::rows_of(words, used, bits, of, a),
+        Asking::Int(_, a) => { of_types::kind_rows(words, used, bits, a, kinds::INT, kinds::INT) }
         Asking::Float(_, a) => {
-            of_types::kind_rows(&*words, used, &*bits, a, kinds::FLOAT, kinds::FLOAT)
+            of_types::kind_rows(words, used, bits, a, kinds::FLOAT, kinds::FLOAT)
         }
-        Asking::Struct(of, s) => struct_calls::rows_of(&*words, used, &*bits, of, s),
+        Asking::Struct(of, s) => struct_calls::rows_of(words, used, bits, of, s),
     }
 }
 
@@ -81,17 +79,17 @@ pub fn tell(
 {
     let none = [0u64; 0];
     match asking {
-        Asking::Kind(h) => Answer::Number(call::kind_on(&none, &*words, used, h)),
+        Asking::Kind(h) => Answer::Number(call::kind_on(&none, words, used, h)),
         Asking::GetBool(value) => Answer::Handle(bool_at(value)),
-        Asking::Isa(a, b) => Answer::Flag(lent_memory::isa(&*words, used, a, b, memory, &*index)),
+        Asking::Isa(a, b) => Answer::Flag(lent_memory::isa(words, used, a, b, memory, index)),
         Asking::IsFinal(a) => {
-            let yes = lent_memory::is_final(&none, &*words, used, a as usize, scratch, memory);
+            let yes = lent_memory::is_final(&none, words, used, a as usize, scratch, memory);
             Answer::Flag(yes)
         }
-        Asking::Type(of, a) => of_types::tell(&*words, used, of, a),
-        Asking::Int(of, a) => of_values::tell_int(&*words, used, of, a as usize),
-        Asking::Float(of, a) => of_values::tell_float(&*words, used, of, a as usize),
-        Asking::Struct(of, s) => struct_calls::tell(&*words, used, of, s),
+        Asking::Type(of, a) => of_types::tell(words, used, of, a),
+        Asking::Int(of, a) => of_values::tell_int(words, used, of, a as usize),
+        Asking::Float(of, a) => of_values::tell_float(words, used, of, a as usize),
+        Asking::Struct(of, s) => struct_calls::tell(words, used, of, s),
     }
 }
 
@@ -120,5 +118,5 @@ pub fn fill(words: &[u64], filling: Filling, s: u64, answer: Answer, output: &mu
     if is_refused(answer) {
         return;
     }
-    struct_calls::fill(&*words, words[0] as usize, filling, s, output);
+    struct_calls::fill(words, words[0] as usize, filling, s, output);
 }

@@ -47,7 +47,7 @@ pub fn begin(words: &[u64], bits: &mut [u64]) -> usize
     requires { min (length words.now) longest_allowed ≤ word_bits * length bits.old }
     ensures { Beginning words.now bits.new result }
 {
-    if !wellformed::verify(&*words, bits) {
+    if !wellformed::verify(words, bits) {
         return 0;
     }
     let w = words[0];
@@ -81,7 +81,7 @@ pub fn all_start(bits: &[u64], hs: &[u64]) -> bool
 {
     let mut i = 0;
     while i < hs.len() {
-        if !bitset::contains(&*bits, hs[i]) {
+        if !bitset::contains(bits, hs[i]) {
             return false;
         }
         i += 1;
@@ -94,7 +94,7 @@ pub fn kind_on(old: &[u64], new: &[u64], used: usize, h: u64) -> u64
     requires { (length old.now ≤ used) × (used ≤ length old.now + length new.now) }
     ensures { result ≡ kind_on (take used (old.now ++ new.now)) h }
 {
-    words::word(&*old, &*new, used, h as usize) % kinds::DEPTH
+    words::word(old, new, used, h as usize) % kinds::DEPTH
 }
 
 // Whether the kinds of all entries are from low to high: row 3.
@@ -104,7 +104,7 @@ pub fn all_kinds(old: &[u64], new: &[u64], used: usize, hs: &[u64], low: u64, hi
 {
     let mut i = 0;
     while i < hs.len() {
-        let k = kind_on(&*old, &*new, used, hs[i]);
+        let k = kind_on(old, new, used, hs[i]);
         if k < low {
             return false;
         }
@@ -121,7 +121,7 @@ pub fn depth_on(old: &[u64], new: &[u64], used: usize, h: u64) -> u64
     requires { (length old.now ≤ used) × (used ≤ length old.now + length new.now) }
     ensures { (result ≡ depth_of (word (take used (old.now ++ new.now)) h)) × (result < 256) }
 {
-    words::word(&*old, &*new, used, h as usize) / kinds::DEPTH % kinds::DEPTH
+    words::word(old, new, used, h as usize) / kinds::DEPTH % kinds::DEPTH
 }
 
 // The depth of the deepest of the entries at the handles.
@@ -132,7 +132,7 @@ pub fn deep(old: &[u64], new: &[u64], used: usize, hs: &[u64]) -> u64
     let mut d: u64 = 0;
     let mut i = 0;
     while i < hs.len() {
-        d = wellformed::larger(d, depth_on(&*old, &*new, used, hs[i]));
+        d = wellformed::larger(d, depth_on(old, new, used, hs[i]));
         i += 1;
     }
     d

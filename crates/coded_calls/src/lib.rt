@@ -19,7 +19,7 @@ use struct_calls::Filling;
 pub fn append(words: &mut [u64], making: Making, list: &[u64], text: &[u8], answer: &mut u64) -> u32
     ensures { Coded (run (appended making list.now text.now) words.old) result words.new answer.old answer.new }
 {
-    codes::of_made(plain::append(words, making, &*list, &*text), answer)
+    codes::of_made(plain::append(words, making, list, text), answer)
 }
 
 // A call that has neither a list nor a text.
@@ -32,14 +32,14 @@ pub fn make(words: &mut [u64], making: Making, answer: &mut u64) -> u32
 pub fn ask(words: &[u64], asking: Asking, answer: &mut u64) -> u32
     ensures { Coded (run (asked asking) words.now) result words.now answer.old answer.new }
 {
-    codes::of_answer(plain::ask(&*words, asking), answer)
+    codes::of_answer(plain::ask(words, asking), answer)
 }
 
 // A call that answers in one of two ways.
 pub fn ask_which(words: &[u64], asking: Asking, which: &mut u64, answer: &mut u64) -> u32
     ensures { CodedWhich (run (asked asking) words.now) result words.now which.old which.new answer.old answer.new }
 {
-    codes::of_answer_which(plain::ask(&*words, asking), which, answer)
+    codes::of_answer_which(plain::ask(words, asking), which, answer)
 }
 
 // A call that fills a lent output; its answer is how many words.
@@ -47,7 +47,7 @@ pub fn fill(words: &[u64], filling: Filling, s: u64, output: &mut [u64], answer:
     ensures coded { Coded (run (asked_filling filling s (length output.old)) words.now) result words.now answer.old answer.new }
     ensures output_after { output.new ≡ output_of filling s words.now output.old }
 {
-    codes::of_answer(plain::fill(&*words, filling, s, output), answer)
+    codes::of_answer(plain::fill(words, filling, s, output), answer)
 }
 
 // The writer of a saved catalogue; its answer is the file's length.
@@ -55,14 +55,14 @@ pub fn save(words: &[u64], label: &[u8], file: &mut [u8], answer: &mut u64) -> u
     ensures coded { Coded (run (save label.now (length file.old)) words.now) result words.now answer.old answer.new }
     ensures file_after { file.new ≡ save_output label.now words.now file.old }
 {
-    codes::of_answer(catalogue::save(&*words, &*label, file), answer)
+    codes::of_answer(catalogue::save(words, label, file), answer)
 }
 
 // The loader; its answer is the label's length.
 pub fn load(words: &mut [u64], file: &[u8], answer: &mut u64) -> u32
     ensures { Coded (load_call file.now words.old) result words.new answer.old answer.new }
 {
-    codes::of_answer(catalogue::load(words, &*file), answer)
+    codes::of_answer(catalogue::load(words, file), answer)
 }
 
 pub fn fresh(words: &mut [u64]) -> u32
@@ -77,7 +77,7 @@ pub fn open(words: &[u64], index: &mut [u64], memory: &mut [u64]) -> u32
     ensures value { result ≡ status (open_reply words.now (length index.old)) }
     ensures coded_opening { CodedOpening words.now index.old memory.old index.new memory.new result }
 {
-    codes::of_done(opened::open(&*words, index, memory))
+    codes::of_done(opened::open(words, index, memory))
 }
 
 pub fn opened_append(
@@ -94,7 +94,7 @@ pub fn opened_append(
     ensures open_store { OpenStore words.new index.new memory.new }
 {
     codes::of_made(
-        opened::append(words, index, memory, making, &*list, &*text),
+        opened::append(words, index, memory, making, list, text),
         answer,
     )
 }
@@ -111,10 +111,7 @@ pub fn opened_meet_list(
     ensures coded { Coded (run (meet_list types.now) words.old) result words.new answer.old answer.new }
     ensures open_store { OpenStore words.new index.new memory.new }
 {
-    codes::of_made(
-        opened_lists::meet_list(words, index, memory, &*types),
-        answer,
-    )
+    codes::of_made(opened_lists::meet_list(words, index, memory, types), answer)
 }
 
 pub fn opened_ask(
@@ -128,7 +125,7 @@ pub fn opened_ask(
     ensures coded { Coded (run (asked asking) words.now) result words.now answer.old answer.new }
     ensures open_store { OpenStore words.now index.now memory.new }
 {
-    codes::of_answer(opened::ask(&*words, &*index, memory, asking), answer)
+    codes::of_answer(opened::ask(words, index, memory, asking), answer)
 }
 
 // A call that answers in one of two ways.
@@ -144,7 +141,7 @@ pub fn opened_ask_which(
     ensures coded_which { CodedWhich (run (asked asking) words.now) result words.now which.old which.new answer.old answer.new }
     ensures open_store { OpenStore words.now index.now memory.new }
 {
-    codes::of_answer_which(opened::ask(&*words, &*index, memory, asking), which, answer)
+    codes::of_answer_which(opened::ask(words, index, memory, asking), which, answer)
 }
 
 // A call that fills a lent output.
@@ -163,7 +160,7 @@ pub fn opened_fill(
     ensures open_store { OpenStore words.now index.now memory.new }
 {
     codes::of_answer(
-        opened::fill(&*words, &*index, memory, filling, s, output),
+        opened::fill(words, index, memory, filling, s, output),
         answer,
     )
 }

@@ -20,12 +20,12 @@ pub enum EntrySearch {
 pub fn find_entry(words: &[u64], entry: &[u64]) -> EntrySearch
     ensures { result ≡ entry_search words.now entry.now }
 {
-    if !wellformed::well_formed(&*words) {
+    if !wellformed::well_formed(words) {
         return EntrySearch::Refused(1);
     }
     let used = words[0] as usize;
     let none = [0u64; 0];
-    let s = words::find(&none, &*words, used, 1, &*entry);
+    let s = words::find(&none, words, used, 1, entry);
     let f = s.found;
     match f {
         Found::At(h) => EntrySearch::Found(h as u64, s.count as u64),
@@ -66,5 +66,5 @@ pub fn find_entry_coded(
 ) -> u32
     ensures { CodedSearch (entry_search words.now entry.now) result which.old which.new count.old count.new answer.old answer.new }
 {
-    tell(find_entry(&*words, &*entry), which, count, answer)
+    tell(find_entry(words, entry), which, count, answer)
 }

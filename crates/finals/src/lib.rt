@@ -30,14 +30,14 @@ pub fn is_final(old: &[u64], new: &[u64], used: usize, a: usize, known: &mut [u6
     ensures finals { Finals (take used (old.now ++ new.now)) a result }
     ensures knows_2 { Knows (take used (old.now ++ new.now)) known.new }
 {
-    let head = words::word(&*old, &*new, used, a);
+    let head = words::word(old, new, used, a);
     let kind = head % kinds::DEPTH;
     if bitset::contains(known, a as u64) {
         return true;
     }
     if kind == kinds::MEM_PTR {
-        let to = words::word(&*old, &*new, used, a + columns::TARGET) as usize;
-        let r = is_final(&*old, &*new, used, to, known);
+        let to = words::word(old, new, used, a + columns::TARGET) as usize;
+        let r = is_final(old, new, used, to, known);
         return kept(known, a, r);
     }
     if kind != kinds::STRUCT {
@@ -47,12 +47,12 @@ pub fn is_final(old: &[u64], new: &[u64], used: usize, a: usize, known: &mut [u6
     let mut i: usize = 0;
     while i < n {
         let p = a + columns::FIELD_TYPES + columns::FIELD * i;
-        let flag = words::word(&*old, &*new, used, p + columns::FLAGS_BEHIND_TYPE) % 2;
+        let flag = words::word(old, new, used, p + columns::FLAGS_BEHIND_TYPE) % 2;
         if flag != 1 {
             return false;
         }
-        let t = words::word(&*old, &*new, used, p) as usize;
-        if !is_final(&*old, &*new, used, t, known) {
+        let t = words::word(old, new, used, p) as usize;
+        if !is_final(old, new, used, t, known) {
             return false;
         }
         i += 1;

@@ -58,7 +58,7 @@ fn bucket(half: usize, entry: &[u64]) -> usize
     requires { 0 < half }
     ensures { (result ≡ bucket_of half entry.now) × (result < half) }
 {
-    slot(half, hash(&*entry))
+    slot(half, hash(entry))
 }
 
 // How many of the words are in the index.
@@ -81,11 +81,11 @@ fn is_at(old: &[u64], new: &[u64], used: usize, at: usize, entry: &[u64]) -> boo
 {
     if at < old.len() {
         let n = words::size(old[at]);
-        return words::same(&old[at..at + n], &*entry);
+        return words::same(&old[at..at + n], entry);
     }
     let p = at - old.len();
     let n = words::size(new[p]);
-    words::same(&new[p..p + n], &*entry)
+    words::same(&new[p..p + n], entry)
 }
 
 // A number or another, by a test.
@@ -109,11 +109,11 @@ fn search(old: &[u64], new: &[u64], used: usize, entry: &[u64], index: &[u64]) -
     if half == 0 {
         return Found::Nothing;
     }
-    let b = bucket(half, &*entry);
+    let b = bucket(half, entry);
     let mut at = index[b] as usize;
     let mut lowest = 0;
     while at != 0 {
-        let same = is_at(&*old, &*new, used, at, &*entry);
+        let same = is_at(old, new, used, at, entry);
         lowest = either(same, at, lowest);
         at = (index[half + at] - 1) as usize;
     }
@@ -129,11 +129,11 @@ pub fn find(old: &[u64], new: &[u64], used: usize, entry: &[u64], index: &[u64])
     requires covers { Covers (take used (old.now ++ new.now)) index.now }
     ensures { result ≡ find_in (take used (old.now ++ new.now)) entry.now }
 {
-    let f = search(&*old, &*new, used, &*entry, &*index);
+    let f = search(old, new, used, entry, index);
     match f {
         Found::At(h) => Found::At(h),
         Found::Nothing => {
-            let rest = words::find(&*old, &*new, used, covered(&*index), &*entry);
+            let rest = words::find(old, new, used, covered(index), entry);
             let g = rest.found;
             g
         }
@@ -146,13 +146,13 @@ pub fn intern(old: &[u64], new: &mut [u64], used: usize, entry: &[u64], index: &
     requires covers { Covers (take used (old.now ++ new.old)) index.now }
     ensures { Runs (λ u. make u entry.now) old.now new.old used new.new result }
 {
-    let f = find(&*old, new, used, &*entry, &*index);
+    let f = find(old, new, used, entry, index);
     match f {
         Found::At(h) => Interned::At(h, used),
         Found::Nothing => {
             let at = used - old.len();
             if entry.len() <= new.len() - at {
-                words::write(&mut new[at..], &*entry);
+                words::write(&mut new[at..], entry);
                 Interned::At(used, used + entry.len())
             } else {
                 Interned::Full
@@ -169,7 +169,7 @@ fn add(index: &mut [u64], at: usize, entry: &[u64])
     ensures { index.new ≡ added index.old at entry.now }
 {
     let half = index.len() / 2;
-    let b = bucket(half, &*entry);
+    let b = bucket(half, entry);
     index[half + at] = index[b] + 1;
     index[b] = at as u64;
 }
@@ -210,5 +210,5 @@ pub fn open(words: &[u64], used: usize, index: &mut [u64])
     ensures { Opened (take used words.now) index.new }
 {
     blank(index);
-    extend(&*words, used, index);
+    extend(words, used, index);
 }

@@ -28,17 +28,9 @@ fn dual_of_meet(
     ensures remembered { Remembered old.now new.new result memory.new }
 {
     let k = memory.len() / 2; // the first half is the duals', the second the meets'
-    let m = meet_types::meet_type(&*old, new, used, a, b, &mut memory[k..2 * k], &*index);
+    let m = meet_types::meet_type(old, new, used, a, b, &mut memory[k..2 * k], index);
     match m {
-        Interned::At(h, v) => walk::walk_type(
-            Walk::Dual,
-            &*old,
-            new,
-            v,
-            h,
-            &mut memory[..k],
-            &*index,
-        ),
+        Interned::At(h, v) => walk::walk_type(Walk::Dual, old, new, v, h, &mut memory[..k], index),
         Interned::Full => Interned::Full,
     }
 }
@@ -59,9 +51,9 @@ fn join_with(
     ensures remembered { Remembered old.now new.new result memory.new }
 {
     let k = memory.len() / 2;
-    let m = walk::walk_type(Walk::Dual, &*old, new, used, b, &mut memory[..k], &*index);
+    let m = walk::walk_type(Walk::Dual, old, new, used, b, &mut memory[..k], index);
     match m {
-        Interned::At(h, v) => dual_of_meet(&*old, new, v, a, h, memory, &*index),
+        Interned::At(h, v) => dual_of_meet(old, new, v, a, h, memory, index),
         Interned::Full => Interned::Full,
     }
 }
@@ -85,9 +77,9 @@ pub fn join(
         return Interned::At(a, used);
     }
     let k = memory.len() / 2;
-    let m = walk::walk_type(Walk::Dual, &*old, new, used, a, &mut memory[..k], &*index);
+    let m = walk::walk_type(Walk::Dual, old, new, used, a, &mut memory[..k], index);
     match m {
-        Interned::At(h, v) => join_with(&*old, new, v, h, b, memory, &*index),
+        Interned::At(h, v) => join_with(old, new, v, h, b, memory, index),
         Interned::Full => Interned::Full,
     }
 }

@@ -25,7 +25,7 @@ use walk_rules::Walk;
 pub extern "C" fn ferigulan_well_formed(words: &[u64]) -> bool
     ensures { result ≡ well_formed words.now }
 {
-    wellformed::well_formed(&*words)
+    wellformed::well_formed(words)
 }
 
 // The search for an entry that is given by its words, which is no call. Whether there is one goes to `which`, 1 or 0, and how many entries were not passed over to `count`; where there is none `answer` keeps.
@@ -39,7 +39,7 @@ pub extern "C" fn ferigulan_find_entry(
 ) -> u32
     ensures { CodedSearch (entry_search words.now entry.now) result which.old which.new count.old count.new answer.old answer.new }
 {
-    entry_search::find_entry_coded(&*words, &*entry, which, count, answer)
+    entry_search::find_entry_coded(words, entry, which, count, answer)
 }
 
 #[unsafe(no_mangle)]
@@ -60,7 +60,7 @@ pub extern "C" fn ferigulan_save(
     ensures coded { Coded (run (save label.now (length file.old)) words.now) result words.now answer.old answer.new }
     ensures file_after { file.new ≡ save_output label.now words.now file.old }
 {
-    coded_calls::save(&*words, &*label, file, answer)
+    coded_calls::save(words, label, file, answer)
 }
 
 // The loader, into words that may hold anything. The label's length goes to `answer`.
@@ -68,21 +68,21 @@ pub extern "C" fn ferigulan_save(
 pub extern "C" fn ferigulan_load(words: &mut [u64], file: &[u8], answer: &mut u64) -> u32
     ensures { Coded (load_call file.now words.old) result words.new answer.old answer.new }
 {
-    coded_calls::load(words, &*file, answer)
+    coded_calls::load(words, file, answer)
 }
 
 #[unsafe(no_mangle)]
 pub extern "C" fn ferigulan_kind(words: &[u64], h: u64, answer: &mut u64) -> u32
     ensures { Coded (run (kind h) words.now) result words.now answer.old answer.new }
 {
-    coded_calls::ask(&*words, Asking::Kind(h), answer)
+    coded_calls::ask(words, Asking::Kind(h), answer)
 }
 
 #[unsafe(no_mangle)]
 pub extern "C" fn ferigulan_get_bool(words: &[u64], value: u64, answer: &mut u64) -> u32
     ensures { Coded (run (get_bool value) words.now) result words.now answer.old answer.new }
 {
-    coded_calls::ask(&*words, Asking::GetBool(value), answer)
+    coded_calls::ask(words, Asking::GetBool(value), answer)
 }
 
 #[unsafe(no_mangle)]
@@ -122,14 +122,14 @@ pub extern "C" fn ferigulan_make_float(
 pub extern "C" fn ferigulan_get_tuple(words: &mut [u64], types: &[u64], answer: &mut u64) -> u32
     ensures { Coded (run (get_tuple types.now) words.old) result words.new answer.old answer.new }
 {
-    coded_calls::append(words, Making::GetTuple, &*types, b"", answer)
+    coded_calls::append(words, Making::GetTuple, types, b"", answer)
 }
 
 #[unsafe(no_mangle)]
 pub extern "C" fn ferigulan_get_str(words: &mut [u64], name: &[u8], answer: &mut u64) -> u32
     ensures { Coded (run (get_str name.now) words.old) result words.new answer.old answer.new }
 {
-    coded_calls::append(words, Making::GetStr, &[], &*name, answer)
+    coded_calls::append(words, Making::GetStr, &[], name, answer)
 }
 
 #[unsafe(no_mangle)]
@@ -141,7 +141,7 @@ pub extern "C" fn ferigulan_get_struct(
 ) -> u32
     ensures { Coded (run (get_struct name fields.now) words.old) result words.new answer.old answer.new }
 {
-    coded_calls::append(words, Making::GetStruct(name), &*fields, b"", answer)
+    coded_calls::append(words, Making::GetStruct(name), fields, b"", answer)
 }
 
 #[unsafe(no_mangle)]
@@ -160,7 +160,7 @@ pub extern "C" fn ferigulan_make_ary(
         words,
         Making::MakeAry(len, len_alias, body, body_alias),
         &[],
-        &*text,
+        text,
         answer,
     )
 }
@@ -202,14 +202,14 @@ pub extern "C" fn ferigulan_meet(words: &mut [u64], a: u64, b: u64, answer: &mut
 pub extern "C" fn ferigulan_meet_list(words: &mut [u64], types: &[u64], answer: &mut u64) -> u32
     ensures { Coded (run (meet_list types.now) words.old) result words.new answer.old answer.new }
 {
-    coded_calls::append(words, Making::MeetList, &*types, b"", answer)
+    coded_calls::append(words, Making::MeetList, types, b"", answer)
 }
 
 #[unsafe(no_mangle)]
 pub extern "C" fn ferigulan_isa(words: &[u64], a: u64, b: u64, answer: &mut u64) -> u32
     ensures { Coded (run (isa a b) words.now) result words.now answer.old answer.new }
 {
-    coded_calls::ask(&*words, Asking::Isa(a, b), answer)
+    coded_calls::ask(words, Asking::Isa(a, b), answer)
 }
 
 #[unsafe(no_mangle)]
@@ -244,7 +244,7 @@ pub extern "C" fn ferigulan_lub(words: &mut [u64], a: u64, answer: &mut u64) -> 
 pub extern "C" fn ferigulan_is_final(words: &[u64], a: u64, answer: &mut u64) -> u32
     ensures { Coded (run (is_final a) words.now) result words.now answer.old answer.new }
 {
-    coded_calls::ask(&*words, Asking::IsFinal(a), answer)
+    coded_calls::ask(words, Asking::IsFinal(a), answer)
 }
 
 #[unsafe(no_mangle)]
@@ -260,14 +260,14 @@ pub extern "C" fn ferigulan_make_ro(words: &mut [u64], a: u64, answer: &mut u64)
 pub extern "C" fn ferigulan_make_init(words: &[u64], a: u64, answer: &mut u64) -> u32
     ensures { Coded (run (make_init a) words.now) result words.now answer.old answer.new }
 {
-    coded_calls::ask(&*words, Asking::Type(OfType::MakeInit, a), answer)
+    coded_calls::ask(words, Asking::Type(OfType::MakeInit, a), answer)
 }
 
 #[unsafe(no_mangle)]
 pub extern "C" fn ferigulan_make_zero(words: &[u64], a: u64, answer: &mut u64) -> u32
     ensures { Coded (run (make_zero a) words.now) result words.now answer.old answer.new }
 {
-    coded_calls::ask(&*words, Asking::Type(OfType::MakeZero, a), answer)
+    coded_calls::ask(words, Asking::Type(OfType::MakeZero, a), answer)
 }
 
 #[unsafe(no_mangle)]
@@ -281,49 +281,49 @@ pub extern "C" fn ferigulan_non_zero(words: &mut [u64], a: u64, answer: &mut u64
 pub extern "C" fn ferigulan_is_high(words: &[u64], a: u64, answer: &mut u64) -> u32
     ensures { Coded (run (is_high_is a) words.now) result words.now answer.old answer.new }
 {
-    coded_calls::ask(&*words, Asking::Type(OfType::IsHigh, a), answer)
+    coded_calls::ask(words, Asking::Type(OfType::IsHigh, a), answer)
 }
 
 #[unsafe(no_mangle)]
 pub extern "C" fn ferigulan_is_high_or_constant(words: &[u64], a: u64, answer: &mut u64) -> u32
     ensures { Coded (run (is_high_or_constant_is a) words.now) result words.now answer.old answer.new }
 {
-    coded_calls::ask(&*words, Asking::Type(OfType::IsHighOrConstant, a), answer)
+    coded_calls::ask(words, Asking::Type(OfType::IsHighOrConstant, a), answer)
 }
 
 #[unsafe(no_mangle)]
 pub extern "C" fn ferigulan_is_constant(words: &[u64], a: u64, answer: &mut u64) -> u32
     ensures { Coded (run (is_constant_is a) words.now) result words.now answer.old answer.new }
 {
-    coded_calls::ask(&*words, Asking::Type(OfType::IsConstant, a), answer)
+    coded_calls::ask(words, Asking::Type(OfType::IsConstant, a), answer)
 }
 
 #[unsafe(no_mangle)]
 pub extern "C" fn ferigulan_is_fref(words: &[u64], a: u64, answer: &mut u64) -> u32
     ensures { Coded (run (is_fref_is a) words.now) result words.now answer.old answer.new }
 {
-    coded_calls::ask(&*words, Asking::Type(OfType::IsFref, a), answer)
+    coded_calls::ask(words, Asking::Type(OfType::IsFref, a), answer)
 }
 
 #[unsafe(no_mangle)]
 pub extern "C" fn ferigulan_log_size(words: &[u64], a: u64, answer: &mut u64) -> u32
     ensures { Coded (run (log_size_is a) words.now) result words.now answer.old answer.new }
 {
-    coded_calls::ask(&*words, Asking::Type(OfType::LogSize, a), answer)
+    coded_calls::ask(words, Asking::Type(OfType::LogSize, a), answer)
 }
 
 #[unsafe(no_mangle)]
 pub extern "C" fn ferigulan_int_min(words: &[u64], a: u64, answer: &mut u64) -> u32
     ensures { Coded (run (int_min a) words.now) result words.now answer.old answer.new }
 {
-    coded_calls::ask(&*words, Asking::Int(OfInt::Min, a), answer)
+    coded_calls::ask(words, Asking::Int(OfInt::Min, a), answer)
 }
 
 #[unsafe(no_mangle)]
 pub extern "C" fn ferigulan_int_max(words: &[u64], a: u64, answer: &mut u64) -> u32
     ensures { Coded (run (int_max a) words.now) result words.now answer.old answer.new }
 {
-    coded_calls::ask(&*words, Asking::Int(OfInt::Max, a), answer)
+    coded_calls::ask(words, Asking::Int(OfInt::Max, a), answer)
 }
 
 #[unsafe(no_mangle)]
@@ -335,28 +335,28 @@ pub extern "C" fn ferigulan_int_value(
 ) -> u32
     ensures { CodedWhich (run (int_value_is a) words.now) result words.now which.old which.new answer.old answer.new }
 {
-    coded_calls::ask_which(&*words, Asking::Int(OfInt::Value, a), which, answer)
+    coded_calls::ask_which(words, Asking::Int(OfInt::Value, a), which, answer)
 }
 
 #[unsafe(no_mangle)]
 pub extern "C" fn ferigulan_int_mask(words: &[u64], a: u64, answer: &mut u64) -> u32
     ensures { Coded (run (int_mask a) words.now) result words.now answer.old answer.new }
 {
-    coded_calls::ask(&*words, Asking::Int(OfInt::Mask, a), answer)
+    coded_calls::ask(words, Asking::Int(OfInt::Mask, a), answer)
 }
 
 #[unsafe(no_mangle)]
 pub extern "C" fn ferigulan_float_sz(words: &[u64], a: u64, answer: &mut u64) -> u32
     ensures { Coded (run (float_sz a) words.now) result words.now answer.old answer.new }
 {
-    coded_calls::ask(&*words, Asking::Float(OfFloat::Sz, a), answer)
+    coded_calls::ask(words, Asking::Float(OfFloat::Sz, a), answer)
 }
 
 #[unsafe(no_mangle)]
 pub extern "C" fn ferigulan_float_is_f32(words: &[u64], a: u64, answer: &mut u64) -> u32
     ensures { Coded (run (float_is_f32 a) words.now) result words.now answer.old answer.new }
 {
-    coded_calls::ask(&*words, Asking::Float(OfFloat::IsF32, a), answer)
+    coded_calls::ask(words, Asking::Float(OfFloat::IsF32, a), answer)
 }
 
 #[unsafe(no_mangle)]
@@ -368,7 +368,7 @@ pub extern "C" fn ferigulan_float_value(
 ) -> u32
     ensures { CodedWhich (run (float_value a) words.now) result words.now which.old which.new answer.old answer.new }
 {
-    coded_calls::ask_which(&*words, Asking::Float(OfFloat::Value, a), which, answer)
+    coded_calls::ask_which(words, Asking::Float(OfFloat::Value, a), which, answer)
 }
 
 #[unsafe(no_mangle)]
@@ -380,14 +380,14 @@ pub extern "C" fn ferigulan_float_reading(
 ) -> u32
     ensures { CodedWhich (run (float_reading_is a) words.now) result words.now which.old which.new answer.old answer.new }
 {
-    coded_calls::ask_which(&*words, Asking::Float(OfFloat::Reading, a), which, answer)
+    coded_calls::ask_which(words, Asking::Float(OfFloat::Reading, a), which, answer)
 }
 
 #[unsafe(no_mangle)]
 pub extern "C" fn ferigulan_struct_name(words: &[u64], s: u64, answer: &mut u64) -> u32
     ensures { Coded (run (struct_name s) words.now) result words.now answer.old answer.new }
 {
-    coded_calls::ask(&*words, Asking::Struct(OfStruct::Name, s), answer)
+    coded_calls::ask(words, Asking::Struct(OfStruct::Name, s), answer)
 }
 
 #[unsafe(no_mangle)]
@@ -400,7 +400,7 @@ pub extern "C" fn ferigulan_struct_fields(
     ensures coded { Coded (run (struct_fields s (length output.old)) words.now) result words.now answer.old answer.new }
     ensures output_after { output.new ≡ struct_fields_output s words.now output.old }
 {
-    coded_calls::fill(&*words, Filling::Fields, s, output, answer)
+    coded_calls::fill(words, Filling::Fields, s, output, answer)
 }
 
 #[unsafe(no_mangle)]
@@ -414,7 +414,7 @@ pub extern "C" fn ferigulan_find(
     ensures { CodedWhich (run (find s name) words.now) result words.now which.old which.new answer.old answer.new }
 {
     coded_calls::ask_which(
-        &*words,
+        words,
         Asking::Struct(OfStruct::Find(name), s),
         which,
         answer,
@@ -432,7 +432,7 @@ pub extern "C" fn ferigulan_find_alias(
     ensures { CodedWhich (run (find_alias s alias) words.now) result words.now which.old which.new answer.old answer.new }
 {
     coded_calls::ask_which(
-        &*words,
+        words,
         Asking::Struct(OfStruct::FindAlias(alias), s),
         which,
         answer,
@@ -443,14 +443,14 @@ pub extern "C" fn ferigulan_find_alias(
 pub extern "C" fn ferigulan_is_ary(words: &[u64], s: u64, answer: &mut u64) -> u32
     ensures { Coded (run (is_ary_is s) words.now) result words.now answer.old answer.new }
 {
-    coded_calls::ask(&*words, Asking::Struct(OfStruct::IsAry, s), answer)
+    coded_calls::ask(words, Asking::Struct(OfStruct::IsAry, s), answer)
 }
 
 #[unsafe(no_mangle)]
 pub extern "C" fn ferigulan_offset(words: &[u64], s: u64, i: u64, answer: &mut u64) -> u32
     ensures { Coded (run (offset s i) words.now) result words.now answer.old answer.new }
 {
-    coded_calls::ask(&*words, Asking::Struct(OfStruct::Offset(i), s), answer)
+    coded_calls::ask(words, Asking::Struct(OfStruct::Offset(i), s), answer)
 }
 
 #[unsafe(no_mangle)]
@@ -463,21 +463,21 @@ pub extern "C" fn ferigulan_offsets(
     ensures coded { Coded (run (offsets s (length output.old)) words.now) result words.now answer.old answer.new }
     ensures output_after { output.new ≡ offsets_output s words.now output.old }
 {
-    coded_calls::fill(&*words, Filling::Offsets, s, output, answer)
+    coded_calls::fill(words, Filling::Offsets, s, output, answer)
 }
 
 #[unsafe(no_mangle)]
 pub extern "C" fn ferigulan_ary_base(words: &[u64], s: u64, answer: &mut u64) -> u32
     ensures { Coded (run (ary_base_is s) words.now) result words.now answer.old answer.new }
 {
-    coded_calls::ask(&*words, Asking::Struct(OfStruct::AryBase, s), answer)
+    coded_calls::ask(words, Asking::Struct(OfStruct::AryBase, s), answer)
 }
 
 #[unsafe(no_mangle)]
 pub extern "C" fn ferigulan_ary_scale(words: &[u64], s: u64, answer: &mut u64) -> u32
     ensures { Coded (run (ary_scale_is s) words.now) result words.now answer.old answer.new }
 {
-    coded_calls::ask(&*words, Asking::Struct(OfStruct::AryScale, s), answer)
+    coded_calls::ask(words, Asking::Struct(OfStruct::AryScale, s), answer)
 }
 
 // ---- the calls on an opened store
@@ -492,7 +492,7 @@ pub extern "C" fn ferigulan_open(words: &[u64], index: &mut [u64], memory: &mut 
     ensures value { result ≡ status (open_reply words.now (length index.old)) }
     ensures coded_opening { CodedOpening words.now index.old memory.old index.new memory.new result }
 {
-    coded_calls::open(&*words, index, memory)
+    coded_calls::open(words, index, memory)
 }
 
 #[unsafe(no_mangle)]
@@ -507,7 +507,7 @@ pub extern "C" fn ferigulan_opened_kind(
     ensures coded { Coded (run (kind h) words.now) result words.now answer.old answer.new }
     ensures open_store { OpenStore words.now index.now memory.new }
 {
-    coded_calls::opened_ask(&*words, &*index, memory, Asking::Kind(h), answer)
+    coded_calls::opened_ask(words, index, memory, Asking::Kind(h), answer)
 }
 
 #[unsafe(no_mangle)]
@@ -522,7 +522,7 @@ pub extern "C" fn ferigulan_opened_get_bool(
     ensures coded { Coded (run (get_bool value) words.now) result words.now answer.old answer.new }
     ensures open_store { OpenStore words.now index.now memory.new }
 {
-    coded_calls::opened_ask(&*words, &*index, memory, Asking::GetBool(value), answer)
+    coded_calls::opened_ask(words, index, memory, Asking::GetBool(value), answer)
 }
 
 #[unsafe(no_mangle)]
@@ -631,7 +631,7 @@ pub extern "C" fn ferigulan_opened_get_tuple(
     ensures coded { Coded (run (get_tuple types.now) words.old) result words.new answer.old answer.new }
     ensures open_store { OpenStore words.new index.new memory.new }
 {
-    coded_calls::opened_append(words, index, memory, Making::GetTuple, &*types, b"", answer)
+    coded_calls::opened_append(words, index, memory, Making::GetTuple, types, b"", answer)
 }
 
 #[unsafe(no_mangle)]
@@ -646,7 +646,7 @@ pub extern "C" fn ferigulan_opened_get_str(
     ensures coded { Coded (run (get_str name.now) words.old) result words.new answer.old answer.new }
     ensures open_store { OpenStore words.new index.new memory.new }
 {
-    coded_calls::opened_append(words, index, memory, Making::GetStr, &[], &*name, answer)
+    coded_calls::opened_append(words, index, memory, Making::GetStr, &[], name, answer)
 }
 
 #[unsafe(no_mangle)]
@@ -667,7 +667,7 @@ pub extern "C" fn ferigulan_opened_get_struct(
         index,
         memory,
         Making::GetStruct(name),
-        &*fields,
+        fields,
         b"",
         answer,
     )
@@ -695,7 +695,7 @@ pub extern "C" fn ferigulan_opened_make_ary(
         memory,
         Making::MakeAry(len, len_alias, body, body_alias),
         &[],
-        &*text,
+        text,
         answer,
     )
 }
@@ -799,7 +799,7 @@ pub extern "C" fn ferigulan_opened_meet_list(
     ensures coded { Coded (run (meet_list types.now) words.old) result words.new answer.old answer.new }
     ensures open_store { OpenStore words.new index.new memory.new }
 {
-    coded_calls::opened_meet_list(words, index, memory, &*types, answer)
+    coded_calls::opened_meet_list(words, index, memory, types, answer)
 }
 
 #[unsafe(no_mangle)]
@@ -815,7 +815,7 @@ pub extern "C" fn ferigulan_opened_isa(
     ensures coded { Coded (run (isa a b) words.now) result words.now answer.old answer.new }
     ensures open_store { OpenStore words.now index.now memory.new }
 {
-    coded_calls::opened_ask(&*words, &*index, memory, Asking::Isa(a, b), answer)
+    coded_calls::opened_ask(words, index, memory, Asking::Isa(a, b), answer)
 }
 
 #[unsafe(no_mangle)]
@@ -915,7 +915,7 @@ pub extern "C" fn ferigulan_opened_is_final(
     ensures coded { Coded (run (is_final a) words.now) result words.now answer.old answer.new }
     ensures open_store { OpenStore words.now index.now memory.new }
 {
-    coded_calls::opened_ask(&*words, &*index, memory, Asking::IsFinal(a), answer)
+    coded_calls::opened_ask(words, index, memory, Asking::IsFinal(a), answer)
 }
 
 #[unsafe(no_mangle)]
@@ -946,8 +946,8 @@ pub extern "C" fn ferigulan_opened_make_init(
     ensures open_store { OpenStore words.now index.now memory.new }
 {
     coded_calls::opened_ask(
-        &*words,
-        &*index,
+        words,
+        index,
         memory,
         Asking::Type(OfType::MakeInit, a),
         answer,
@@ -967,8 +967,8 @@ pub extern "C" fn ferigulan_opened_make_zero(
     ensures open_store { OpenStore words.now index.now memory.new }
 {
     coded_calls::opened_ask(
-        &*words,
-        &*index,
+        words,
+        index,
         memory,
         Asking::Type(OfType::MakeZero, a),
         answer,
@@ -1003,8 +1003,8 @@ pub extern "C" fn ferigulan_opened_is_high(
     ensures open_store { OpenStore words.now index.now memory.new }
 {
     coded_calls::opened_ask(
-        &*words,
-        &*index,
+        words,
+        index,
         memory,
         Asking::Type(OfType::IsHigh, a),
         answer,
@@ -1024,8 +1024,8 @@ pub extern "C" fn ferigulan_opened_is_high_or_constant(
     ensures open_store { OpenStore words.now index.now memory.new }
 {
     coded_calls::opened_ask(
-        &*words,
-        &*index,
+        words,
+        index,
         memory,
         Asking::Type(OfType::IsHighOrConstant, a),
         answer,
@@ -1045,8 +1045,8 @@ pub extern "C" fn ferigulan_opened_is_constant(
     ensures open_store { OpenStore words.now index.now memory.new }
 {
     coded_calls::opened_ask(
-        &*words,
-        &*index,
+        words,
+        index,
         memory,
         Asking::Type(OfType::IsConstant, a),
         answer,
@@ -1066,8 +1066,8 @@ pub extern "C" fn ferigulan_opened_is_fref(
     ensures open_store { OpenStore words.now index.now memory.new }
 {
     coded_calls::opened_ask(
-        &*words,
-        &*index,
+        words,
+        index,
         memory,
         Asking::Type(OfType::IsFref, a),
         answer,
@@ -1087,8 +1087,8 @@ pub extern "C" fn ferigulan_opened_log_size(
     ensures open_store { OpenStore words.now index.now memory.new }
 {
     coded_calls::opened_ask(
-        &*words,
-        &*index,
+        words,
+        index,
         memory,
         Asking::Type(OfType::LogSize, a),
         answer,
@@ -1107,7 +1107,7 @@ pub extern "C" fn ferigulan_opened_int_min(
     ensures coded { Coded (run (int_min a) words.now) result words.now answer.old answer.new }
     ensures open_store { OpenStore words.now index.now memory.new }
 {
-    coded_calls::opened_ask(&*words, &*index, memory, Asking::Int(OfInt::Min, a), answer)
+    coded_calls::opened_ask(words, index, memory, Asking::Int(OfInt::Min, a), answer)
 }
 
 #[unsafe(no_mangle)]
@@ -1122,7 +1122,7 @@ pub extern "C" fn ferigulan_opened_int_max(
     ensures coded { Coded (run (int_max a) words.now) result words.now answer.old answer.new }
     ensures open_store { OpenStore words.now index.now memory.new }
 {
-    coded_calls::opened_ask(&*words, &*index, memory, Asking::Int(OfInt::Max, a), answer)
+    coded_calls::opened_ask(words, index, memory, Asking::Int(OfInt::Max, a), answer)
 }
 
 #[unsafe(no_mangle)]
@@ -1139,8 +1139,8 @@ pub extern "C" fn ferigulan_opened_int_value(
     ensures open_store { OpenStore words.now index.now memory.new }
 {
     coded_calls::opened_ask_which(
-        &*words,
-        &*index,
+        words,
+        index,
         memory,
         Asking::Int(OfInt::Value, a),
         which,
@@ -1160,13 +1160,7 @@ pub extern "C" fn ferigulan_opened_int_mask(
     ensures coded { Coded (run (int_mask a) words.now) result words.now answer.old answer.new }
     ensures open_store { OpenStore words.now index.now memory.new }
 {
-    coded_calls::opened_ask(
-        &*words,
-        &*index,
-        memory,
-        Asking::Int(OfInt::Mask, a),
-        answer,
-    )
+    coded_calls::opened_ask(words, index, memory, Asking::Int(OfInt::Mask, a), answer)
 }
 
 #[unsafe(no_mangle)]
@@ -1181,13 +1175,7 @@ pub extern "C" fn ferigulan_opened_float_sz(
     ensures coded { Coded (run (float_sz a) words.now) result words.now answer.old answer.new }
     ensures open_store { OpenStore words.now index.now memory.new }
 {
-    coded_calls::opened_ask(
-        &*words,
-        &*index,
-        memory,
-        Asking::Float(OfFloat::Sz, a),
-        answer,
-    )
+    coded_calls::opened_ask(words, index, memory, Asking::Float(OfFloat::Sz, a), answer)
 }
 
 #[unsafe(no_mangle)]
@@ -1203,8 +1191,8 @@ pub extern "C" fn ferigulan_opened_float_is_f32(
     ensures open_store { OpenStore words.now index.now memory.new }
 {
     coded_calls::opened_ask(
-        &*words,
-        &*index,
+        words,
+        index,
         memory,
         Asking::Float(OfFloat::IsF32, a),
         answer,
@@ -1225,8 +1213,8 @@ pub extern "C" fn ferigulan_opened_float_value(
     ensures open_store { OpenStore words.now index.now memory.new }
 {
     coded_calls::opened_ask_which(
-        &*words,
-        &*index,
+        words,
+        index,
         memory,
         Asking::Float(OfFloat::Value, a),
         which,
@@ -1248,8 +1236,8 @@ pub extern "C" fn ferigulan_opened_float_reading(
     ensures open_store { OpenStore words.now index.now memory.new }
 {
     coded_calls::opened_ask_which(
-        &*words,
-        &*index,
+        words,
+        index,
         memory,
         Asking::Float(OfFloat::Reading, a),
         which,
@@ -1270,8 +1258,8 @@ pub extern "C" fn ferigulan_opened_struct_name(
     ensures open_store { OpenStore words.now index.now memory.new }
 {
     coded_calls::opened_ask(
-        &*words,
-        &*index,
+        words,
+        index,
         memory,
         Asking::Struct(OfStruct::Name, s),
         answer,
@@ -1292,7 +1280,7 @@ pub extern "C" fn ferigulan_opened_struct_fields(
     ensures output_after { output.new ≡ struct_fields_output s words.now output.old }
     ensures open_store { OpenStore words.now index.now memory.new }
 {
-    coded_calls::opened_fill(&*words, &*index, memory, Filling::Fields, s, output, answer)
+    coded_calls::opened_fill(words, index, memory, Filling::Fields, s, output, answer)
 }
 
 #[unsafe(no_mangle)]
@@ -1310,8 +1298,8 @@ pub extern "C" fn ferigulan_opened_find(
     ensures open_store { OpenStore words.now index.now memory.new }
 {
     coded_calls::opened_ask_which(
-        &*words,
-        &*index,
+        words,
+        index,
         memory,
         Asking::Struct(OfStruct::Find(name), s),
         which,
@@ -1334,8 +1322,8 @@ pub extern "C" fn ferigulan_opened_find_alias(
     ensures open_store { OpenStore words.now index.now memory.new }
 {
     coded_calls::opened_ask_which(
-        &*words,
-        &*index,
+        words,
+        index,
         memory,
         Asking::Struct(OfStruct::FindAlias(alias), s),
         which,
@@ -1356,8 +1344,8 @@ pub extern "C" fn ferigulan_opened_is_ary(
     ensures open_store { OpenStore words.now index.now memory.new }
 {
     coded_calls::opened_ask(
-        &*words,
-        &*index,
+        words,
+        index,
         memory,
         Asking::Struct(OfStruct::IsAry, s),
         answer,
@@ -1378,8 +1366,8 @@ pub extern "C" fn ferigulan_opened_offset(
     ensures open_store { OpenStore words.now index.now memory.new }
 {
     coded_calls::opened_ask(
-        &*words,
-        &*index,
+        words,
+        index,
         memory,
         Asking::Struct(OfStruct::Offset(i), s),
         answer,
@@ -1400,15 +1388,7 @@ pub extern "C" fn ferigulan_opened_offsets(
     ensures output_after { output.new ≡ offsets_output s words.now output.old }
     ensures open_store { OpenStore words.now index.now memory.new }
 {
-    coded_calls::opened_fill(
-        &*words,
-        &*index,
-        memory,
-        Filling::Offsets,
-        s,
-        output,
-        answer,
-    )
+    coded_calls::opened_fill(words, index, memory, Filling::Offsets, s, output, answer)
 }
 
 #[unsafe(no_mangle)]
@@ -1424,8 +1404,8 @@ pub extern "C" fn ferigulan_opened_ary_base(
     ensures open_store { OpenStore words.now index.now memory.new }
 {
     coded_calls::opened_ask(
-        &*words,
-        &*index,
+        words,
+        index,
         memory,
         Asking::Struct(OfStruct::AryBase, s),
         answer,
@@ -1445,8 +1425,8 @@ pub extern "C" fn ferigulan_opened_ary_scale(
     ensures open_store { OpenStore words.now index.now memory.new }
 {
     coded_calls::opened_ask(
-        &*words,
-        &*index,
+        words,
+        index,
         memory,
         Asking::Struct(OfStruct::AryScale, s),
         answer,

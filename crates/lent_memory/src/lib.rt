@@ -52,9 +52,9 @@ pub fn meet(
     let n = memory.len() / PARTS;
     if n == 0 {
         let mut known = [0u64; 0];
-        return own_memory::run(Operation::Meet(b), &*old, new, used, a, &mut known, &*index);
+        return own_memory::run(Operation::Meet(b), old, new, used, a, &mut known, index);
     }
-    meet_types::meet_type(&*old, new, used, a, b, &mut memory[n..GLBS * n], &*index)
+    meet_types::meet_type(old, new, used, a, b, &mut memory[n..GLBS * n], index)
 }
 
 // dual, glb and lub.
@@ -76,19 +76,11 @@ pub fn walk(
     let n = memory.len() / PARTS;
     if n == 0 {
         let mut known = [0u64; 0];
-        return own_memory::run(
-            Operation::Walk(op),
-            &*old,
-            new,
-            used,
-            a,
-            &mut known,
-            &*index,
-        );
+        return own_memory::run(Operation::Walk(op), old, new, used, a, &mut known, index);
     }
     let from = memory_steps::part_of(op) * n;
     let end = from + n;
-    walk::walk_type(op, &*old, new, used, a, &mut memory[from..end], &*index)
+    walk::walk_type(op, old, new, used, a, &mut memory[from..end], index)
 }
 
 // Parts 0 and 1 are lent together: the first half is for the duals, the second for the meet.
@@ -109,9 +101,9 @@ pub fn join(
 {
     let n = memory.len() / PARTS;
     if n == 0 {
-        return own_memory::join(&*old, new, used, a, b, &*index);
+        return own_memory::join(old, new, used, a, b, index);
     }
-    join::join(&*old, new, used, a, b, &mut memory[..GLBS * n], &*index)
+    join::join(old, new, used, a, b, &mut memory[..GLBS * n], index)
 }
 
 // make_ro of a small type, which needs no set of final types: its walk is over soon.
@@ -130,7 +122,7 @@ fn make_ro_small(
     ensures right_after { RightAfter Settled old.now new.new result memo.new }
 {
     let mut known = [0u64; 0];
-    make_ro::make_ro(&*old, new, used, a, memo, &mut known, &*index)
+    make_ro::make_ro(old, new, used, a, memo, &mut known, index)
 }
 
 // make_ro of a larger type: the set of final types is the lent one, the answers on the way are kept in a memory of its own, since two parts of one list are not lent
@@ -152,12 +144,12 @@ fn make_ro_large(
     let n = memory.len() / PARTS;
     let r = own_memory::run(
         Operation::MakeRo,
-        &*old,
+        old,
         new,
         used,
         a,
         &mut memory[FINALS * n..PARTS * n],
-        &*index,
+        index,
     );
     memo::noted(&mut memory[ROS * n..FINALS * n], a as u64, r)
 }
@@ -180,23 +172,16 @@ pub fn make_ro(
 {
     let n = memory.len() / PARTS;
     if n == 0 {
-        return own_memory::make_ro(&*old, new, used, a, scratch, &*index);
+        return own_memory::make_ro(old, new, used, a, scratch, index);
     }
     let line = memo::recall(&memory[ROS * n..FINALS * n], a as u64);
     if let Recalled::Is(h) = line {
         return Interned::At(h as usize, used);
     }
-    if small::is_small(&*old, new, used, a) {
-        return make_ro_small(
-            &*old,
-            new,
-            used,
-            a,
-            &mut memory[ROS * n..FINALS * n],
-            &*index,
-        );
+    if small::is_small(old, new, used, a) {
+        return make_ro_small(old, new, used, a, &mut memory[ROS * n..FINALS * n], index);
     }
-    make_ro_large(&*old, new, used, a, memory, &*index)
+    make_ro_large(old, new, used, a, memory, index)
 }
 
 // Without a lent memory `scratch` is the set of types that are known to be final, whatever it holds.
@@ -215,9 +200,9 @@ pub fn is_final(
 {
     let n = memory.len() / PARTS;
     if n == 0 {
-        return own_memory::is_final(&*old, &*new, used, a, scratch);
+        return own_memory::is_final(old, new, used, a, scratch);
     }
-    finals::is_final(&*old, &*new, used, a, &mut memory[FINALS * n..PARTS * n])
+    finals::is_final(old, new, used, a, &mut memory[FINALS * n..PARTS * n])
 }
 
 // Whether the meet of a and b would be b, by meeting them. The used words are lent to be read, with no word behind them, so that nothing is appended; and so the
@@ -238,7 +223,7 @@ pub fn isa(words: &[u64], used: usize, a: u64, b: u64, memory: &mut [u64], index
             used,
             a as usize,
             b as usize,
-            &*index,
+            index,
         );
         return memory_steps::is_second(m, b);
     }
@@ -249,7 +234,7 @@ pub fn isa(words: &[u64], used: usize, a: u64, b: u64, memory: &mut [u64], index
         a as usize,
         b as usize,
         &mut memory[n..GLBS * n],
-        &*index,
+        index,
     );
     memory_steps::is_second(m, b)
 }

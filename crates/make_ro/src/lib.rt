@@ -35,7 +35,7 @@ fn made_final(
 {
     let n = types.len();
     let finals = [1u8; limits::MOST_COUNTED];
-    structs::made_again(&*old, new, used, a, &*types, &finals[..n], &*index)
+    structs::made_again(old, new, used, a, types, &finals[..n], index)
 }
 
 // What a type is remembered under: its handle; or 0, which is nothing, for a type that is its own answer.
@@ -67,22 +67,22 @@ pub fn make_ro(
     ensures made_ro { MadeRo old.now new.old used a new.new result }
     ensures remembered { Remembered old.now new.new result memo.new known.new }
 {
-    let kind = words::word(&*old, new, used, a) % kinds::DEPTH;
+    let kind = words::word(old, new, used, a) % kinds::DEPTH;
     let key = ro_key(kind, a);
     let line = memo::recall(memo, key);
     if let Recalled::Is(h) = line {
         return Interned::At(h as usize, used);
     }
     if kind == kinds::MEM_PTR {
-        let to = words::word(&*old, new, used, a + columns::TARGET) as usize;
-        let nil = words::word(&*old, new, used, a + columns::NIL);
-        let m = make_ro(&*old, new, used, to, memo, known, &*index);
+        let to = words::word(old, new, used, a + columns::TARGET) as usize;
+        let nil = words::word(old, new, used, a + columns::NIL);
+        let m = make_ro(old, new, used, to, memo, known, index);
         match m {
             Interned::At(h, v) => {
                 if h == to {
                     return memo::noted(memo, key, Interned::At(a, v));
                 }
-                let r = makers::pointer(&*old, new, v, h as u64, nil, &*index);
+                let r = makers::pointer(old, new, v, h as u64, nil, index);
                 return memo::noted(memo, key, r);
             }
             Interned::Full => {
@@ -93,10 +93,10 @@ pub fn make_ro(
     if kind != kinds::STRUCT {
         return Interned::At(a, used);
     }
-    if finals::is_final(&*old, new, used, a, known) {
+    if finals::is_final(old, new, used, a, known) {
         return Interned::At(a, used);
     }
-    let r = make_struct_ro(&*old, new, used, a, memo, known, &*index);
+    let r = make_struct_ro(old, new, used, a, memo, known, index);
     memo::noted(memo, key, r)
 }
 
@@ -118,15 +118,15 @@ fn make_struct_ro(
     ensures made_ro { MadeRo old.now new.old used a new.new result }
     ensures remembered { Remembered old.now new.new result memo.new known.new }
 {
-    let n = (words::word(&*old, new, used, a) / kinds::COUNT) as usize;
+    let n = (words::word(old, new, used, a) / kinds::COUNT) as usize;
     let mut types = [0u32; limits::MOST_COUNTED];
     let mut v = used;
     let mut i: usize = 0;
     while i < n {
         let p = a + columns::FIELD_TYPES + columns::FIELD * i;
-        let t = words::word(&*old, new, used, p) as usize;
-        let value = words::word(&*old, new, used, p + columns::FLAGS_BEHIND_TYPE);
-        let m = make_field_ro(&*old, new, v, value, t, memo, known, &*index);
+        let t = words::word(old, new, used, p) as usize;
+        let value = words::word(old, new, used, p + columns::FLAGS_BEHIND_TYPE);
+        let m = make_field_ro(old, new, v, value, t, memo, known, index);
         match m {
             Interned::At(h, w) => {
                 types[i] = h as u32;
@@ -138,7 +138,7 @@ fn make_struct_ro(
         }
         i += 1;
     }
-    made_final(&*old, new, v, a, &types[..n], &*index)
+    made_final(old, new, v, a, &types[..n], index)
 }
 
 // A final field keeps its type; value is 2 × alias + final.
@@ -162,5 +162,5 @@ fn make_field_ro(
     if value % 2 == 1 {
         return Interned::At(t, used);
     }
-    make_ro(&*old, new, used, t, memo, known, &*index)
+    make_ro(old, new, used, t, memo, known, index)
 }

@@ -35,7 +35,7 @@ pub fn int(old: &[u64], new: &mut [u64], used: usize, min: u64, max: u64, index:
     requires covers { Covers (take used (old.now ++ new.old)) index.now }
     ensures { Runs (λ u. make u (int_entry min max)) old.now new.old used new.new result }
 {
-    index::intern(&*old, new, used, &[kinds::INT_HEAD, min, max], &*index)
+    index::intern(old, new, used, &[kinds::INT_HEAD, min, max], index)
 }
 
 // A float's size and constant come as a struct. The bits stand beside it, since all NaNs are one f64.
@@ -54,7 +54,7 @@ pub fn float(
 {
     let size = type_float::size_word(f.sz);
     let con = type_float::bits_of(f.con, bits);
-    index::intern(&*old, new, used, &[kinds::FLOAT_HEAD, size, con], &*index)
+    index::intern(old, new, used, &[kinds::FLOAT_HEAD, size, con], index)
 }
 
 // A tuple, whose entry is built in the first words of `e`.
@@ -71,14 +71,14 @@ fn tuple_in(
     requires covers { Covers (take used (old.now ++ new.old)) index.now }
     ensures { Runs (λ u. make u (tuple_entry types.now u)) old.now new.old used new.new result }
 {
-    let d = call::deep(&*old, new, used, &*types);
+    let d = call::deep(old, new, used, types);
     let n = types.len();
     words::headed(
         e,
         kinds::TUPLE + kinds::DEPTH * (1 + d) + kinds::COUNT * (n as u64),
-        &*types,
+        types,
     );
-    index::intern(&*old, new, used, &e[..1 + n], &*index)
+    index::intern(old, new, used, &e[..1 + n], index)
 }
 
 // Few elements are given few words for their entry, since all of them are cleared at each call.
@@ -90,10 +90,10 @@ pub fn tuple(old: &[u64], new: &mut [u64], used: usize, types: &[u64], index: &[
 {
     if types.len() <= FEW_ELEMENTS {
         let mut few = [0u64; SHORT_TUPLE];
-        return tuple_in(&*old, new, used, &*types, &mut few, &*index);
+        return tuple_in(old, new, used, types, &mut few, index);
     }
     let mut many = [0u64; LONGEST_TUPLE];
-    tuple_in(&*old, new, used, &*types, &mut many, &*index)
+    tuple_in(old, new, used, types, &mut many, index)
 }
 
 pub fn fref(old: &[u64], new: &mut [u64], used: usize, name: u64, index: &[u64]) -> Interned
@@ -101,7 +101,7 @@ pub fn fref(old: &[u64], new: &mut [u64], used: usize, name: u64, index: &[u64])
     requires covers { Covers (take used (old.now ++ new.old)) index.now }
     ensures { Runs (λ u. make u (fref_entry name)) old.now new.old used new.new result }
 {
-    index::intern(&*old, new, used, &[kinds::FREF_HEAD, name], &*index)
+    index::intern(old, new, used, &[kinds::FREF_HEAD, name], index)
 }
 
 pub fn pointer(
@@ -116,13 +116,13 @@ pub fn pointer(
     requires covers { Covers (take used (old.now ++ new.old)) index.now }
     ensures { Runs (λ u. make u (pointer_entry to nil u)) old.now new.old used new.new result }
 {
-    let d = call::depth_on(&*old, new, used, to);
+    let d = call::depth_on(old, new, used, to);
     index::intern(
-        &*old,
+        old,
         new,
         used,
         &[kinds::MEM_PTR + kinds::DEPTH * (1 + d), to, nil],
-        &*index,
+        index,
     )
 }
 
@@ -138,13 +138,13 @@ pub fn memory(
     requires covers { Covers (take used (old.now ++ new.old)) index.now }
     ensures { Runs (λ u. make u (memory_entry alias t u)) old.now new.old used new.new result }
 {
-    let d = call::depth_on(&*old, new, used, t);
+    let d = call::depth_on(old, new, used, t);
     index::intern(
-        &*old,
+        old,
         new,
         used,
         &[kinds::MEM + kinds::DEPTH * (1 + d), alias, t],
-        &*index,
+        index,
     )
 }
 
@@ -157,7 +157,7 @@ pub fn fields_deep(old: &[u64], new: &[u64], used: usize, fields: &[u64]) -> u64
     let mut at = columns::LENT_TYPE;
     let mut j = fields.len() / columns::LENT_FIELD;
     while 0 < j {
-        d = wellformed::larger(d, call::depth_on(&*old, &*new, used, fields[at]));
+        d = wellformed::larger(d, call::depth_on(old, new, used, fields[at]));
         at += columns::LENT_FIELD;
         j -= 1;
     }
@@ -189,7 +189,7 @@ fn struct_words(e: &mut [u64], head: u64, name: u64, fields: &[u64])
     requires values_fit { ValuesFit fields.now }
     ensures { e.new ≡ (head ∷ name ∷ field_words (field_count fields.now) 0 fields.now) ++ drop (struct_size (field_count fields.now)) e.old }
 {
-    field_words(&mut e[columns::FIELDS..], &*fields);
+    field_words(&mut e[columns::FIELDS..], fields);
     e[columns::NAME] = name;
     e[0] = head;
 }
@@ -209,20 +209,20 @@ fn structure_in(
     requires covers { Covers (take used (old.now ++ new.old)) index.now }
     ensures { Runs (λ u. make u (struct_entry name fields.now u)) old.now new.old used new.new result }
 {
-    let d = fields_deep(&*old, new, used, &*fields);
+    let d = fields_deep(old, new, used, fields);
     let n = fields.len() / columns::LENT_FIELD;
     struct_words(
         e,
         kinds::STRUCT + kinds::DEPTH * (1 + d) + kinds::COUNT * (n as u64),
         name,
-        &*fields,
+        fields,
     );
     index::intern(
-        &*old,
+        old,
         new,
         used,
         &e[..columns::FIELDS + columns::FIELD * n],
-        &*index,
+        index,
     )
 }
 
@@ -242,8 +242,8 @@ pub fn structure(
 {
     if fields.len() / columns::LENT_FIELD <= FEW_FIELDS {
         let mut few = [0u64; SHORT_STRUCT];
-        return structure_in(&*old, new, used, name, &*fields, &mut few, &*index);
+        return structure_in(old, new, used, name, fields, &mut few, index);
     }
     let mut many = [0u64; LONGEST_STRUCT];
-    structure_in(&*old, new, used, name, &*fields, &mut many, &*index)
+    structure_in(old, new, used, name, fields, &mut many, index)
 }

@@ -57,17 +57,17 @@ pub fn rows_of(
     match making {
         Making::MakeInt(_, _) => 0,
         Making::MakeFloat(sz, con) => value_rows::float_rows(sz, con),
-        Making::GetStr => value_rows::str_rows(&*text),
-        Making::GetTuple => rows::tuple_rows(&*words, used, &*bits, &*list),
-        Making::GetStruct(name) => rows::struct_rows(&*words, used, &*bits, name, &*list),
+        Making::GetStr => value_rows::str_rows(text),
+        Making::GetTuple => rows::tuple_rows(words, used, bits, list),
+        Making::GetStruct(name) => rows::struct_rows(words, used, bits, name, list),
         Making::MakeAry(len, la, body, ba) => {
-            rows::ary_rows(&*words, used, &*bits, len, la, body, ba, &*text)
+            rows::ary_rows(words, used, bits, len, la, body, ba, text)
         }
-        Making::MakeStructFref(name) => rows::fref_rows(&*words, used, &*bits, name),
+        Making::MakeStructFref(name) => rows::fref_rows(words, used, bits, name),
         Making::GetMemPtr(to, nil) => rows::part_rows(
-            &*words,
+            words,
             used,
-            &*bits,
+            bits,
             to,
             kinds::STRUCT,
             kinds::FREF,
@@ -75,21 +75,21 @@ pub fn rows_of(
         ),
         Making::GetMem(alias, t) => {
             rows::part_rows(
-                &*words,
+                words,
                 used,
-                &*bits,
+                bits,
                 t,
                 kinds::BOT,
                 kinds::MEM,
                 alias <= limits::LARGEST_ALIAS,
             )
         }
-        Making::Meet(a, b) => rows::types_rows(&*words, used, &*bits, &[a, b]),
-        Making::MeetList => meet_list::list_rows(&*words, used, &*bits, &*list),
-        Making::Join(a, b) => rows::types_rows(&*words, used, &*bits, &[a, b]),
-        Making::Walk(_, a) => rows::types_rows(&*words, used, &*bits, &[a]),
-        Making::MakeRo(a) => rows::types_rows(&*words, used, &*bits, &[a]),
-        Making::NonZero(a) => rows::types_rows(&*words, used, &*bits, &[a]),
+        Making::Meet(a, b) => rows::types_rows(words, used, bits, &[a, b]),
+        Making::MeetList => meet_list::list_rows(words, used, bits, list),
+        Making::Join(a, b) => rows::types_rows(words, used, bits, &[a, b]),
+        Making::Walk(_, a) => rows::types_rows(words, used, bits, &[a]),
+        Making::MakeRo(a) => rows::types_rows(words, used, bits, &[a]),
+        Making::NonZero(a) => rows::types_rows(words, used, bits, &[a]),
     }
 }
 
@@ -103,7 +103,7 @@ fn float(old: &[u64], new: &mut [u64], used: usize, sz: u64, bits: u64, index: &
 {
     let size = std::num::wrapping_add_u64(sz, wellformed::SIZE_ZERO);
     let f = type_float::float_of(size, bits);
-    makers::float(&*old, new, used, f, bits, &*index)
+    makers::float(old, new, used, f, bits, index)
 }
 
 // Appends what the call makes, behind the used words of two segments. `scratch` may hold anything; `memory` and `index` may have no words.
@@ -126,31 +126,31 @@ pub fn operate(
     ensures text_value { typed (appended making list.now text.now) ≡ true }
 {
     match making {
-        Making::MakeInt(min, max) => makers::int(&*old, new, used, min, max, &*index),
-        Making::MakeFloat(sz, con) => float(&*old, new, used, sz, con, &*index),
-        Making::GetStr => names::intern_name(&*old, new, used, &*text, false, &*index),
-        Making::GetTuple => makers::tuple(&*old, new, used, &*list, &*index),
-        Making::GetStruct(name) => makers::structure(&*old, new, used, name, &*list, &*index),
+        Making::MakeInt(min, max) => makers::int(old, new, used, min, max, index),
+        Making::MakeFloat(sz, con) => float(old, new, used, sz, con, index),
+        Making::GetStr => names::intern_name(old, new, used, text, false, index),
+        Making::GetTuple => makers::tuple(old, new, used, list, index),
+        Making::GetStruct(name) => makers::structure(old, new, used, name, list, index),
         Making::MakeAry(len, la, body, ba) => {
-            arrays::array(&*old, new, used, len, la, body, ba, &*text, &*index)
+            arrays::array(old, new, used, len, la, body, ba, text, index)
         }
-        Making::MakeStructFref(name) => makers::fref(&*old, new, used, name, &*index),
-        Making::GetMemPtr(to, nil) => makers::pointer(&*old, new, used, to, nil, &*index),
-        Making::GetMem(alias, t) => makers::memory(&*old, new, used, alias, t, &*index),
+        Making::MakeStructFref(name) => makers::fref(old, new, used, name, index),
+        Making::GetMemPtr(to, nil) => makers::pointer(old, new, used, to, nil, index),
+        Making::GetMem(alias, t) => makers::memory(old, new, used, alias, t, index),
         Making::Meet(a, b) => {
-            lent_memory::meet(&*old, new, used, a as usize, b as usize, memory, &*index)
+            lent_memory::meet(old, new, used, a as usize, b as usize, memory, index)
         }
-        Making::MeetList => meet_list::meet_list(&*old, new, used, &*list, memory, &*index),
+        Making::MeetList => meet_list::meet_list(old, new, used, list, memory, index),
         Making::Join(a, b) => {
-            lent_memory::join(&*old, new, used, a as usize, b as usize, memory, &*index)
+            lent_memory::join(old, new, used, a as usize, b as usize, memory, index)
         }
         Making::Walk(walk, a) => {
-            lent_memory::walk(walk, &*old, new, used, a as usize, memory, &*index)
+            lent_memory::walk(walk, old, new, used, a as usize, memory, index)
         }
         Making::MakeRo(a) => {
-            lent_memory::make_ro(&*old, new, used, a as usize, scratch, memory, &*index)
+            lent_memory::make_ro(old, new, used, a as usize, scratch, memory, index)
         }
-        Making::NonZero(a) => { non_zero::non_zero(&*old, new, used, a as usize, memory, &*index) }
+        Making::NonZero(a) => { non_zero::non_zero(old, new, used, a as usize, memory, index) }
     }
 }
 
@@ -175,7 +175,7 @@ pub fn append(
 {
     let none = [0u64; 0];
     let r = operate(
-        &none, words, used, making, &*list, &*text, scratch, memory, &*index,
+        &none, words, used, making, list, text, scratch, memory, index,
     );
     memory_steps::forget(r, memory);
     call::finish(words, used, r)

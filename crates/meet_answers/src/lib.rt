@@ -30,14 +30,14 @@ pub fn meet_int(
     ensures { Runs (λ u. make u (int_entry (smaller (min_on u a) (min_on u b)) (larger (max_on u a) (max_on u b)))) old.now new.old used new.new result }
 {
     let min = type_integer::smaller_of(
-        words::word(&*old, new, used, a + columns::MIN),
-        words::word(&*old, new, used, b + columns::MIN),
+        words::word(old, new, used, a + columns::MIN),
+        words::word(old, new, used, b + columns::MIN),
     );
     let max = type_integer::larger_of(
-        words::word(&*old, new, used, a + columns::MAX),
-        words::word(&*old, new, used, b + columns::MAX),
+        words::word(old, new, used, a + columns::MAX),
+        words::word(old, new, used, b + columns::MAX),
     );
-    makers::int(&*old, new, used, min, max, &*index)
+    makers::int(old, new, used, min, max, index)
 }
 
 // The handle of the float that answers.
@@ -58,12 +58,12 @@ pub fn meet_float(old: &[u64], new: &[u64], used: usize, a: usize, b: usize) -> 
     ensures { result ≡ float_handle a b (float_rule (reading_on (take used (old.now ++ new.now)) a) (reading_on (take used (old.now ++ new.now)) b)) }
 {
     let f = type_float::float_of(
-        words::word(&*old, &*new, used, a + columns::SIZE),
-        words::word(&*old, &*new, used, a + columns::BITS),
+        words::word(old, new, used, a + columns::SIZE),
+        words::word(old, new, used, a + columns::BITS),
     );
     let g = type_float::float_of(
-        words::word(&*old, &*new, used, b + columns::SIZE),
-        words::word(&*old, &*new, used, b + columns::BITS),
+        words::word(old, new, used, b + columns::SIZE),
+        words::word(old, new, used, b + columns::BITS),
     );
     float_handle(a, b, float_meet::meet(f, g))
 }

@@ -20,8 +20,8 @@ fn either_final(dst: &mut [u8], old: &[u64], new: &[u64], used: usize, n: usize,
 {
     let mut i = 0;
     while i < n {
-        let f = words::word(&*old, &*new, used, p + columns::FIELD * i) % 2;
-        let g = words::word(&*old, &*new, used, q + columns::FIELD * i) % 2;
+        let f = words::word(old, new, used, p + columns::FIELD * i) % 2;
+        let g = words::word(old, new, used, q + columns::FIELD * i) % 2;
         dst[i] = wellformed::larger(f, g) as u8;
         i += 1;
     }
@@ -47,14 +47,14 @@ fn meet_fields_in(
     let n = types.len();
     either_final(
         finals,
-        &*old,
+        old,
         new,
         used,
         n,
         a + columns::FIELD_FLAGS,
         b + columns::FIELD_FLAGS,
     );
-    structs::made_again(&*old, new, used, a, &*types, &finals[..n], &*index)
+    structs::made_again(old, new, used, a, types, &finals[..n], index)
 }
 
 // Makes the struct that the structs at a and b meet in, with these types.
@@ -73,5 +73,5 @@ pub fn meet_fields(
     ensures { Runs (meet_fields a b types.now) old.now new.old used new.new result }
 {
     let mut finals = [0u8; limits::MOST_COUNTED];
-    meet_fields_in(&*old, new, used, a, b, &*types, &mut finals, &*index)
+    meet_fields_in(old, new, used, a, b, types, &mut finals, index)
 }

@@ -23,7 +23,7 @@ pub fn list_rows(words: &[u64], used: usize, bits: &[u64], types: &[u64]) -> u8
     if types.len() > LONGEST_LIST {
         return 13; // a list that is too long: no handle of it is read
     }
-    rows::types_rows(&*words, used, &*bits, &*types)
+    rows::types_rows(words, used, bits, types)
 }
 
 // Top meets the first, their meet the second, and so on. What is made on the way is appended too.
@@ -45,7 +45,7 @@ pub fn meet_list(
     let mut v = used;
     let mut i: usize = 0;
     while i < types.len() {
-        let m = lent_memory::meet(&*old, new, v, t, types[i] as usize, memory, &*index);
+        let m = lent_memory::meet(old, new, v, t, types[i] as usize, memory, index);
         match m {
             Interned::At(h, w) => {
                 t = h;

@@ -127,8 +127,8 @@ pub fn type_rule(old: &[u64], new: &[u64], used: usize, a: usize, b: usize) -> R
     requires { (length old.now ≤ used) × (used ≤ length old.now + length new.now) }
     ensures { result ≡ type_rule (take used (old.now ++ new.now)) a b }
 {
-    let x = words::word(&*old, &*new, used, a);
-    let y = words::word(&*old, &*new, used, b);
+    let x = words::word(old, new, used, a);
+    let y = words::word(old, new, used, b);
     let m = x / kinds::COUNT;
     let n = y / kinds::COUNT;
     rule_for(a, b, x % kinds::DEPTH, y % kinds::DEPTH, m, n)

@@ -51,7 +51,7 @@ pub fn meet_type(
     ensures met { Met old.now new.old used a b new.new result }
     ensures remembered { Remembered old.now new.new result memo.new }
 {
-    let rule = meet_rules::type_rule(&*old, new, used, a, b);
+    let rule = meet_rules::type_rule(old, new, used, a, b);
     let key = meet_key(rule, a, b);
     let line = memo::recall(memo, key);
     if let Recalled::Is(h) = line {
@@ -61,20 +61,20 @@ pub fn meet_type(
         Rule::First => Interned::At(a, used),
         Rule::Second => Interned::At(b, used),
         Rule::Bottom => Interned::At(fresh::BOT, used),
-        Rule::Ints => meet_answers::meet_int(&*old, new, used, a, b, &*index),
-        Rule::Floats => Interned::At(meet_answers::meet_float(&*old, new, used, a, b), used),
-        Rule::Structs => meet_struct(&*old, new, used, a, b, memo, &*index),
+        Rule::Ints => meet_answers::meet_int(old, new, used, a, b, index),
+        Rule::Floats => Interned::At(meet_answers::meet_float(old, new, used, a, b), used),
+        Rule::Structs => meet_struct(old, new, used, a, b, memo, index),
         Rule::Pointers => {
-            let x = words::word(&*old, new, used, a + columns::TARGET) as usize;
-            let y = words::word(&*old, new, used, b + columns::TARGET) as usize;
+            let x = words::word(old, new, used, a + columns::TARGET) as usize;
+            let y = words::word(old, new, used, b + columns::TARGET) as usize;
             let nil = wellformed::larger(
-                words::word(&*old, new, used, a + columns::NIL),
-                words::word(&*old, new, used, b + columns::NIL),
+                words::word(old, new, used, a + columns::NIL),
+                words::word(old, new, used, b + columns::NIL),
             );
-            let m = meet_struct(&*old, new, used, x, y, memo, &*index);
+            let m = meet_struct(old, new, used, x, y, memo, index);
             match m {
                 Interned::At(h, v) => {
-                    let pointer = makers::pointer(&*old, new, v, h as u64, nil, &*index);
+                    let pointer = makers::pointer(old, new, v, h as u64, nil, index);
                     memo::noted(memo, key, pointer)
                 }
                 Interned::Full => Interned::Full,
@@ -82,29 +82,29 @@ pub fn meet_type(
         }
         Rule::Memories => {
             let alias = meet_rules::shared_alias(
-                words::word(&*old, new, used, a + columns::ALIAS),
-                words::word(&*old, new, used, b + columns::ALIAS),
+                words::word(old, new, used, a + columns::ALIAS),
+                words::word(old, new, used, b + columns::ALIAS),
             );
-            let x = words::word(&*old, new, used, a + columns::INNER) as usize;
-            let y = words::word(&*old, new, used, b + columns::INNER) as usize;
-            let m = meet_type(&*old, new, used, x, y, memo, &*index);
+            let x = words::word(old, new, used, a + columns::INNER) as usize;
+            let y = words::word(old, new, used, b + columns::INNER) as usize;
+            let m = meet_type(old, new, used, x, y, memo, index);
             match m {
                 Interned::At(h, v) => {
-                    let memory = makers::memory(&*old, new, v, alias, h as u64, &*index);
+                    let memory = makers::memory(old, new, v, alias, h as u64, index);
                     memo::noted(memo, key, memory)
                 }
                 Interned::Full => Interned::Full,
             }
         }
         Rule::Tuples => {
-            let n = (words::word(&*old, new, used, a) / kinds::COUNT) as usize;
+            let n = (words::word(old, new, used, a) / kinds::COUNT) as usize;
             let mut parts = [0u32; limits::MOST_COUNTED];
             let mut v = used;
             let mut i: usize = 0;
             while i < n {
-                let x = words::word(&*old, new, used, a + columns::ELEMENTS + i) as usize;
-                let y = words::word(&*old, new, used, b + columns::ELEMENTS + i) as usize;
-                let m = meet_type(&*old, new, v, x, y, memo, &*index);
+                let x = words::word(old, new, used, a + columns::ELEMENTS + i) as usize;
+                let y = words::word(old, new, used, b + columns::ELEMENTS + i) as usize;
+                let m = meet_type(old, new, v, x, y, memo, index);
                 match m {
                     Interned::At(h, w) => {
                         parts[i] = h as u32;
@@ -116,7 +116,7 @@ pub fn meet_type(
                 }
                 i += 1;
             }
-            let tuple = structs::tuple_of(&*old, new, v, &parts[..n], &*index);
+            let tuple = structs::tuple_of(old, new, v, &parts[..n], index);
             memo::noted(memo, key, tuple)
         }
     }
@@ -138,7 +138,7 @@ fn meet_struct(
     ensures met_struct { MetStruct old.now new.old used a b new.new result }
     ensures remembered { Remembered old.now new.new result memo.new }
 {
-    let rule = struct_rules::struct_rule(&*old, new, used, a, b);
+    let rule = struct_rules::struct_rule(old, new, used, a, b);
     match rule {
         StructRule::Former => Interned::At(a, used),
         StructRule::Latter => Interned::At(b, used),
@@ -149,24 +149,24 @@ fn meet_struct(
             if let Recalled::Is(h) = line {
                 return Interned::At(h as usize, used);
             }
-            let n = (words::word(&*old, new, used, a) / kinds::COUNT) as usize;
+            let n = (words::word(old, new, used, a) / kinds::COUNT) as usize;
             let mut types = [0u32; limits::MOST_COUNTED];
             let mut v = used;
             let mut i: usize = 0;
             while i < n {
                 let x = words::word(
-                    &*old,
+                    old,
                     new,
                     used,
                     a + columns::FIELD_TYPES + columns::FIELD * i,
                 ) as usize;
                 let y = words::word(
-                    &*old,
+                    old,
                     new,
                     used,
                     b + columns::FIELD_TYPES + columns::FIELD * i,
                 ) as usize;
-                let m = meet_type(&*old, new, v, x, y, memo, &*index);
+                let m = meet_type(old, new, v, x, y, memo, index);
                 match m {
                     Interned::At(h, w) => {
                         types[i] = h as u32;
@@ -178,7 +178,7 @@ fn meet_struct(
                 }
                 i += 1;
             }
-            let fields = meet_fields::meet_fields(&*old, new, v, a, b, &types[..n], &*index);
+            let fields = meet_fields::meet_fields(old, new, v, a, b, &types[..n], index);
             memo::noted(memo, key, fields)
         }
     }

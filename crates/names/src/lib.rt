@@ -48,7 +48,7 @@ fn byte_at(text: &[u8], wrap: bool, i: usize) -> u64
     ensures { (result ≡ get_or (wrapped wrap text.now) i 0) × (result < 256) }
 {
     if !wrap {
-        return text_at(&*text, i);
+        return text_at(text, i);
     }
     if i == 0 {
         return OPEN_BRACKET;
@@ -56,7 +56,7 @@ fn byte_at(text: &[u8], wrap: bool, i: usize) -> u64
     if i - 1 == text.len() {
         return CLOSE_BRACKET;
     }
-    text_at(&*text, i - 1)
+    text_at(text, i - 1)
 }
 
 // Eight bytes of a name, from a position on, as a word.
@@ -66,14 +66,14 @@ fn name_word(text: &[u8], wrap: bool, at: usize) -> u64
 {
     if !wrap {
         if at + 8 <= text.len() {
-            return source::eight(&*text, at);
+            return source::eight(text, at);
         }
     }
     let mut w: u64 = 0;
     let mut j = 8;
     while 0 < j {
         j -= 1;
-        w = byte_at(&*text, wrap, at + j) + 256 * w;
+        w = byte_at(text, wrap, at + j) + 256 * w;
     }
     w
 }
@@ -83,7 +83,7 @@ fn name_size(text: &[u8], wrap: bool) -> usize
     requires { length text.now ≤ longest_text }
     ensures { result ≡ length (name_entry (wrapped wrap text.now)) }
 {
-    1 + (name_len(&*text, wrap) + 7) / 8
+    1 + (name_len(text, wrap) + 7) / 8
 }
 
 // The head of a name's entry.
@@ -91,7 +91,7 @@ fn name_head(text: &[u8], wrap: bool) -> u64
     requires { length text.now ≤ longest_text }
     ensures { result ≡ get_or (name_entry (wrapped wrap text.now)) 0 0 }
 {
-    kinds::COUNT * name_len(&*text, wrap) as u64
+    kinds::COUNT * name_len(text, wrap) as u64
 }
 
 // A word of a name's entry.
@@ -101,9 +101,9 @@ fn entry_word(text: &[u8], wrap: bool, i: usize) -> u64
     ensures { result ≡ get_or (name_entry (wrapped wrap text.now)) i 0 }
 {
     if i == 0 {
-        return name_head(&*text, wrap);
+        return name_head(text, wrap);
     }
-    name_word(&*text, wrap, 8 * (i - 1))
+    name_word(text, wrap, 8 * (i - 1))
 }
 
 // Whether an entry is that of a name.
@@ -111,12 +111,12 @@ pub fn same_name(e: &[u64], text: &[u8], wrap: bool) -> bool
     requires { length text.now ≤ longest_text }
     ensures { result ≡ eqs e.now (name_entry (wrapped wrap text.now)) }
 {
-    if e.len() != name_size(&*text, wrap) {
+    if e.len() != name_size(text, wrap) {
         return false;
     }
     let mut i = 0;
     while i < e.len() {
-        if e[i] != entry_word(&*text, wrap, i) {
+        if e[i] != entry_word(text, wrap, i) {
             return false;
         }
         i += 1;
@@ -131,19 +131,19 @@ fn look_name(words: &[u64], base: usize, from: usize, to: usize, text: &[u8], wr
     requires text_len_bound { length text.now ≤ longest_text }
     ensures { Searched (rows (base + from) 0 (slice from to words.now)) (name_entry (wrapped wrap text.now)) result.found result.count }
 {
-    let head = name_head(&*text, wrap);
+    let head = name_head(text, wrap);
     let n = words::size(head);
     let mut at = from;
     let mut count = 0;
     while at < to {
-        at = words::pass_over(&*words, at, to, head, n);
+        at = words::pass_over(words, at, to, head, n);
         if to <= at {
             return Search {
                 found: Found::Nothing,
                 count: count,
             };
         }
-        if same_name(&words[at..at + n], &*text, wrap) {
+        if same_name(&words[at..at + n], text, wrap) {
             return Search {
                 found: Found::At(base + at),
                 count: count + 1,
@@ -163,11 +163,11 @@ fn name_hash(text: &[u8], wrap: bool) -> u64
     requires { length text.now ≤ longest_text }
     ensures { result ≡ hash_from 0 (name_entry (wrapped wrap text.now)) }
 {
-    let n = name_size(&*text, wrap);
+    let n = name_size(text, wrap);
     let mut h = 0;
     let mut i = 0;
     while i < n {
-        h = index::stir(h ^ entry_word(&*text, wrap, i));
+        h = index::stir(h ^ entry_word(text, wrap, i));
         i += 1;
     }
     h
@@ -178,7 +178,7 @@ fn name_bucket(half: usize, text: &[u8], wrap: bool) -> usize
     requires text_len_bound { length text.now ≤ longest_text }
     ensures { (result ≡ bucket_of half (name_entry (wrapped wrap text.now))) × (result < half) }
 {
-    index::slot(half, name_hash(&*text, wrap))
+    index::slot(half, name_hash(text, wrap))
 }
 
 // Whether the entry at a handle is that of a name.
@@ -189,11 +189,11 @@ fn is_name_at(old: &[u64], new: &[u64], used: usize, at: usize, text: &[u8], wra
 {
     if at < old.len() {
         let n = words::size(old[at]);
-        return same_name(&old[at..at + n], &*text, wrap);
+        return same_name(&old[at..at + n], text, wrap);
     }
     let p = at - old.len();
     let n = words::size(new[p]);
-    same_name(&new[p..p + n], &*text, wrap)
+    same_name(&new[p..p + n], text, wrap)
 }
 
 // The lowest handle of a name's entry among those in the index.
@@ -214,11 +214,11 @@ fn search_name(
     if half == 0 {
         return Found::Nothing;
     }
-    let b = name_bucket(half, &*text, wrap);
+    let b = name_bucket(half, text, wrap);
     let mut at = index[b] as usize;
     let mut lowest = 0;
     while at != 0 {
-        let same = is_name_at(&*old, &*new, used, at, &*text, wrap);
+        let same = is_name_at(old, new, used, at, text, wrap);
         lowest = index::either(same, at, lowest);
         at = (index[half + at] - 1) as usize;
     }
@@ -243,20 +243,20 @@ pub fn find_bytes(
 {
     if old.len() <= from {
         return look_name(
-            &*new,
+            new,
             old.len(),
             from - old.len(),
             used - old.len(),
-            &*text,
+            text,
             wrap,
         );
     }
-    let first = look_name(&*old, 0, from, old.len(), &*text, wrap);
+    let first = look_name(old, 0, from, old.len(), text, wrap);
     let f = first.found;
     match f {
         Found::At(_) => first,
         Found::Nothing => {
-            let second = look_name(&*new, old.len(), 0, used - old.len(), &*text, wrap);
+            let second = look_name(new, old.len(), 0, used - old.len(), text, wrap);
             words::behind(first.count, second)
         }
     }
@@ -269,11 +269,11 @@ fn find_name(old: &[u64], new: &[u64], used: usize, text: &[u8], wrap: bool, ind
     requires covers { Covers (take used (old.now ++ new.now)) index.now }
     ensures { result ≡ find_in (take used (old.now ++ new.now)) (name_entry (wrapped wrap text.now)) }
 {
-    let f = search_name(&*old, &*new, used, &*text, wrap, &*index);
+    let f = search_name(old, new, used, text, wrap, index);
     match f {
         Found::At(h) => Found::At(h),
         Found::Nothing => {
-            let rest = find_bytes(&*old, &*new, used, index::covered(&*index), &*text, wrap);
+            let rest = find_bytes(old, new, used, index::covered(index), text, wrap);
             let g = rest.found;
             g
         }
@@ -286,10 +286,10 @@ fn write_name(dst: &mut [u64], text: &[u8], wrap: bool)
     requires text_in_bounds { length (name_entry (wrapped wrap text.now)) ≤ length dst.old }
     ensures { dst.new ≡ name_entry (wrapped wrap text.now) ++ drop (length (name_entry (wrapped wrap text.now))) dst.old }
 {
-    let n = name_size(&*text, wrap);
+    let n = name_size(text, wrap);
     let mut i = 0;
     while i < n {
-        dst[i] = entry_word(&*text, wrap, i);
+        dst[i] = entry_word(text, wrap, i);
         i += 1;
     }
 }
@@ -308,14 +308,14 @@ pub fn intern_name(
     requires covers { Covers (take used (old.now ++ new.old)) index.now }
     ensures { Runs (λ u. make u (name_entry (wrapped wrap text.now))) old.now new.old used new.new result }
 {
-    let f = find_name(&*old, new, used, &*text, wrap, &*index);
+    let f = find_name(old, new, used, text, wrap, index);
     match f {
         Found::At(h) => words::Interned::At(h, used),
         Found::Nothing => {
             let at = used - old.len();
-            let n = name_size(&*text, wrap);
+            let n = name_size(text, wrap);
             if n <= new.len() - at {
-                write_name(&mut new[at..], &*text, wrap);
+                write_name(&mut new[at..], text, wrap);
                 words::Interned::At(used, used + n)
             } else {
                 words::Interned::Full

@@ -31,17 +31,10 @@ fn non_zero_int(
         return Interned::At(a, used);
     }
     if min == 0 {
-        return makers::int(
-            &*old,
-            new,
-            used,
-            1,
-            type_integer::larger_of(max, 1),
-            &*index,
-        );
+        return makers::int(old, new, used, 1, type_integer::larger_of(max, 1), index);
     }
     if max == 0 {
-        return makers::int(&*old, new, used, min, MINUS_ONE, &*index);
+        return makers::int(old, new, used, min, MINUS_ONE, index);
     }
     Interned::At(a, used)
 }
@@ -60,14 +53,14 @@ pub fn non_zero(
     ensures runs { Runs (λ u. non_zero_of u a) old.now new.old used new.new result }
     ensures right_then { RightThen old.now new.new result memory.new }
 {
-    let k = words::word(&*old, new, used, a) % kinds::DEPTH;
+    let k = words::word(old, new, used, a) % kinds::DEPTH;
     if k == kinds::INT {
-        let min = words::word(&*old, new, used, a + columns::MIN);
-        let max = words::word(&*old, new, used, a + columns::MAX);
-        return non_zero_int(&*old, new, used, a, min, max, &*index);
+        let min = words::word(old, new, used, a + columns::MIN);
+        let max = words::word(old, new, used, a + columns::MAX);
+        return non_zero_int(old, new, used, a, min, max, index);
     }
     if k == kinds::MEM_PTR {
         return Interned::At(fresh::PTR_VOID, used);
     }
-    lent_memory::walk(Walk::Glb, &*old, new, used, a, memory, &*index)
+    lent_memory::walk(Walk::Glb, old, new, used, a, memory, index)
 }

@@ -16,10 +16,10 @@ fn unsized_field(words: &[u64], used: usize, s: usize) -> bool
 {
     let none = [0u64; 0];
     let mut at = s + columns::FIELD_TYPES;
-    let mut j = (words::word(&none, &*words, used, s) / kinds::COUNT) as usize;
+    let mut j = (words::word(&none, words, used, s) / kinds::COUNT) as usize;
     while 0 < j {
-        let t = words::word(&none, &*words, used, at);
-        if of_types::log_size(&*words, used, t) >= of_types::NO_LOG_SIZE {
+        let t = words::word(&none, words, used, at);
+        if of_types::log_size(words, used, t) >= of_types::NO_LOG_SIZE {
             return true;
         }
         at += columns::FIELD;
@@ -38,11 +38,11 @@ fn fill_logs(words: &[u64], used: usize, s: usize, n: usize, output: &mut [u64])
     while i < n {
         let t = words::word(
             &none,
-            &*words,
+            words,
             used,
             s + columns::FIELD_TYPES + columns::FIELD * i,
         );
-        output[i] = of_types::log_size(&*words, used, t);
+        output[i] = of_types::log_size(words, used, t);
         i += 1;
     }
 }
@@ -54,8 +54,8 @@ pub fn fill_offsets(words: &[u64], used: usize, s: usize, output: &mut [u64])
     ensures { output.new ≡ offsets_on (take used words.now) s ++ drop (length (offsets_on (take used words.now) s)) output.old }
 {
     let none = [0u64; 0];
-    let n = (words::word(&none, &*words, used, s) / kinds::COUNT) as usize;
-    fill_logs(&*words, used, s, n, output);
+    let n = (words::word(&none, words, used, s) / kinds::COUNT) as usize;
+    fill_logs(words, used, s, n, output);
     layout::lay_out(&mut output[..n + 1]);
 }
 
@@ -66,7 +66,7 @@ pub fn offset(words: &[u64], used: usize, s: usize, i: usize) -> u64
     ensures { result ≡ offset_on (take used words.now) s i }
 {
     let mut places = [0u64; 256];
-    fill_offsets(&*words, used, s, &mut places);
+    fill_offsets(words, used, s, &mut places);
     places[i]
 }
 
@@ -79,8 +79,8 @@ pub fn ary_scale(words: &[u64], used: usize, s: usize) -> u64
     ensures { result ≡ ary_scale (take used words.now) s }
 {
     let none = [0u64; 0];
-    let t = words::word(&none, &*words, used, s + SECOND_TYPE);
-    of_types::log_size(&*words, used, t)
+    let t = words::word(&none, words, used, s + SECOND_TYPE);
+    of_types::log_size(words, used, t)
 }
 
 // ---- rows
@@ -89,11 +89,11 @@ pub fn offsets_rows(words: &[u64], used: usize, bits: &[u64], s: u64) -> u8
     requires { Marked words.now bits.now used }
     ensures { result ≡ offsets_rows s (take used words.now) }
 {
-    let no = of_structs::fields_rows(&*words, used, &*bits, s);
+    let no = of_structs::fields_rows(words, used, bits, s);
     if no != 0 {
         return no;
     }
-    if unsized_field(&*words, used, s as usize) {
+    if unsized_field(words, used, s as usize) {
         return 9; // no log size
     }
     0
@@ -103,15 +103,15 @@ pub fn offset_rows(words: &[u64], used: usize, bits: &[u64], s: u64, i: u64) -> 
     requires { Marked words.now bits.now used }
     ensures { result ≡ offset_rows s i (take used words.now) }
 {
-    let no = of_structs::fields_rows(&*words, used, &*bits, s);
+    let no = of_structs::fields_rows(words, used, bits, s);
     if no != 0 {
         return no;
     }
     let none = [0u64; 0];
-    if words::word(&none, &*words, used, s as usize) / kinds::COUNT < i {
+    if words::word(&none, words, used, s as usize) / kinds::COUNT < i {
         return 8; // an index above the field count
     }
-    if unsized_field(&*words, used, s as usize) {
+    if unsized_field(words, used, s as usize) {
         return 9; // no log size
     }
     0
@@ -121,11 +121,11 @@ pub fn ary_base_rows(words: &[u64], used: usize, bits: &[u64], s: u64) -> u8
     requires { Marked words.now bits.now used }
     ensures { result ≡ ary_base_rows s (take used words.now) }
 {
-    let no = of_structs::array_rows(&*words, used, &*bits, s);
+    let no = of_structs::array_rows(words, used, bits, s);
     if no != 0 {
         return no;
     }
-    if unsized_field(&*words, used, s as usize) {
+    if unsized_field(words, used, s as usize) {
         return 9; // no log size
     }
     0
@@ -135,11 +135,11 @@ pub fn ary_scale_rows(words: &[u64], used: usize, bits: &[u64], s: u64) -> u8
     requires { Marked words.now bits.now used }
     ensures { result ≡ ary_scale_rows s (take used words.now) }
 {
-    let no = of_structs::array_rows(&*words, used, &*bits, s);
+    let no = of_structs::array_rows(words, used, bits, s);
     if no != 0 {
         return no;
     }
-    if ary_scale(&*words, used, s as usize) >= of_types::NO_LOG_SIZE {
+    if ary_scale(words, used, s as usize) >= of_types::NO_LOG_SIZE {
         return 9; // no log size
     }
     0

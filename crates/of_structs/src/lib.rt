@@ -28,13 +28,13 @@ pub fn fill_fields(words: &[u64], used: usize, s: usize, output: &mut [u64])
     ensures { output.new ≡ field_list (take used words.now) s ++ drop (length (field_list (take used words.now) s)) output.old }
 {
     let none = [0u64; 0];
-    let n = (words::word(&none, &*words, used, s) / kinds::COUNT) as usize;
+    let n = (words::word(&none, words, used, s) / kinds::COUNT) as usize;
     let mut i = 0;
     while i < n {
         let p = s + columns::FIELDS + columns::FIELD * i;
-        let name = words::word(&none, &*words, used, p);
-        let field_type = words::word(&none, &*words, used, p + columns::FIELD_TYPE);
-        let flags = words::word(&none, &*words, used, p + columns::FLAGS);
+        let name = words::word(&none, words, used, p);
+        let field_type = words::word(&none, words, used, p + columns::FIELD_TYPE);
+        let flags = words::word(&none, words, used, p + columns::FLAGS);
         words::write(
             &mut output[columns::LENT_FIELD * i..],
             &[name, field_type, flags / 2, flags % 2],
@@ -54,7 +54,7 @@ fn field_name(words: &[u64], used: usize, s: usize, i: usize) -> usize
 {
     let none = [0u64; 0];
     let p = s + columns::FIELDS + columns::FIELD * i;
-    words::word(&none, &*words, used, p) as usize
+    words::word(&none, words, used, p) as usize
 }
 
 pub fn find(words: &[u64], used: usize, s: usize, name: usize) -> Place
@@ -63,12 +63,12 @@ pub fn find(words: &[u64], used: usize, s: usize, name: usize) -> Place
     ensures { result ≡ find_of (take used words.now) s name }
 {
     let none = [0u64; 0];
-    let n = (words::word(&none, &*words, used, s) / kinds::COUNT) as usize;
+    let n = (words::word(&none, words, used, s) / kinds::COUNT) as usize;
     let mut left = n;
     while 0 < left {
         let i = n - left; // the first fields come first
-        let x = field_name(&*words, used, s, i);
-        if same_names::same_name(&none, &*words, used, x, name) {
+        let x = field_name(words, used, s, i);
+        if same_names::same_name(&none, words, used, x, name) {
             return Place::At(i as u64);
         }
         left -= 1;
@@ -82,12 +82,12 @@ pub fn find_alias(words: &[u64], used: usize, s: usize, alias: u64) -> Place
     ensures { result ≡ find_alias_of (take used words.now) s alias }
 {
     let none = [0u64; 0];
-    let n = (words::word(&none, &*words, used, s) / kinds::COUNT) as usize;
+    let n = (words::word(&none, words, used, s) / kinds::COUNT) as usize;
     let mut left = n;
     while 0 < left {
         let i = n - left;
         let p = s + columns::FIELD_FLAGS + columns::FIELD * i;
-        let flags = words::word(&none, &*words, used, p);
+        let flags = words::word(&none, words, used, p);
         if flags / 2 == alias {
             return Place::At(i as u64);
         }
@@ -111,10 +111,10 @@ fn is_body_name(words: &[u64], used: usize, h: u64) -> bool
     ensures { result ≡ is_body_name (take used words.now) h }
 {
     let none = [0u64; 0];
-    if words::word(&none, &*words, used, h as usize) != BODY_NAME_HEAD {
+    if words::word(&none, words, used, h as usize) != BODY_NAME_HEAD {
         return false;
     }
-    words::word(&none, &*words, used, h as usize + 1) == BODY_NAME
+    words::word(&none, words, used, h as usize + 1) == BODY_NAME
 }
 
 pub fn is_ary(words: &[u64], used: usize, s: u64) -> bool
@@ -122,11 +122,11 @@ pub fn is_ary(words: &[u64], used: usize, s: u64) -> bool
     ensures { result ≡ is_ary (take used words.now) s }
 {
     let none = [0u64; 0];
-    if words::word(&none, &*words, used, s as usize) / kinds::COUNT != 2 {
+    if words::word(&none, words, used, s as usize) / kinds::COUNT != 2 {
         return false;
     }
-    let name = words::word(&none, &*words, used, s as usize + SECOND_FIELD);
-    is_body_name(&*words, used, name)
+    let name = words::word(&none, words, used, s as usize + SECOND_FIELD);
+    is_body_name(words, used, name)
 }
 
 // ---- rows
@@ -135,14 +135,14 @@ pub fn fields_rows(words: &[u64], used: usize, bits: &[u64], s: u64) -> u8
     requires { Marked words.now bits.now used }
     ensures { result ≡ fields_rows s (take used words.now) }
 {
-    if !call::all_start(&*bits, &[s]) {
+    if !call::all_start(bits, &[s]) {
         return 2; // a handle starts no entry
     }
     let none = [0u64; 0];
-    if !call::all_kinds(&none, &*words, used, &[s], kinds::STRUCT, kinds::FREF) {
+    if !call::all_kinds(&none, words, used, &[s], kinds::STRUCT, kinds::FREF) {
         return 3; // of a kind that the call does not take
     }
-    if call::kind_on(&none, &*words, used, s) == kinds::FREF {
+    if call::kind_on(&none, words, used, s) == kinds::FREF {
         return 7; // fields wanted of a forward reference
     }
     0
@@ -152,17 +152,17 @@ pub fn find_rows(words: &[u64], used: usize, bits: &[u64], s: u64, name: u64) ->
     requires { Marked words.now bits.now used }
     ensures { result ≡ find_rows s name (take used words.now) }
 {
-    if !call::all_start(&*bits, &[s, name]) {
+    if !call::all_start(bits, &[s, name]) {
         return 2; // a handle starts no entry
     }
     let none = [0u64; 0];
-    if !call::all_kinds(&none, &*words, used, &[s], kinds::STRUCT, kinds::FREF) {
+    if !call::all_kinds(&none, words, used, &[s], kinds::STRUCT, kinds::FREF) {
         return 3; // of a kind that the call does not take
     }
-    if !call::all_kinds(&none, &*words, used, &[name], kinds::NAME, kinds::NAME) {
+    if !call::all_kinds(&none, words, used, &[name], kinds::NAME, kinds::NAME) {
         return 3; // of a kind that the call does not take
     }
-    if call::kind_on(&none, &*words, used, s) == kinds::FREF {
+    if call::kind_on(&none, words, used, s) == kinds::FREF {
         return 7; // a field wanted of a forward reference
     }
     0
@@ -172,17 +172,17 @@ pub fn find_alias_rows(words: &[u64], used: usize, bits: &[u64], s: u64, alias: 
     requires { Marked words.now bits.now used }
     ensures { result ≡ find_alias_rows s alias (take used words.now) }
 {
-    if !call::all_start(&*bits, &[s]) {
+    if !call::all_start(bits, &[s]) {
         return 2; // a handle starts no entry
     }
     let none = [0u64; 0];
-    if !call::all_kinds(&none, &*words, used, &[s], kinds::STRUCT, kinds::FREF) {
+    if !call::all_kinds(&none, words, used, &[s], kinds::STRUCT, kinds::FREF) {
         return 3; // of a kind that the call does not take
     }
     if alias > limits::LARGEST_ALIAS {
         return 4; // a value that the call does not take
     }
-    if call::kind_on(&none, &*words, used, s) == kinds::FREF {
+    if call::kind_on(&none, words, used, s) == kinds::FREF {
         return 7; // a field wanted of a forward reference, by its alias
     }
     0
@@ -194,20 +194,20 @@ fn is_array(words: &[u64], used: usize, s: u64) -> bool
     ensures { result ≡ is_array (take used words.now) s }
 {
     let none = [0u64; 0];
-    if call::kind_on(&none, &*words, used, s) != kinds::STRUCT {
+    if call::kind_on(&none, words, used, s) != kinds::STRUCT {
         return false;
     }
-    is_ary(&*words, used, s)
+    is_ary(words, used, s)
 }
 
 pub fn array_rows(words: &[u64], used: usize, bits: &[u64], s: u64) -> u8
     requires { Marked words.now bits.now used }
     ensures { result ≡ array_rows s (take used words.now) }
 {
-    if !call::all_start(&*bits, &[s]) {
+    if !call::all_start(bits, &[s]) {
         return 2; // a handle starts no entry
     }
-    if !is_array(&*words, used, s) {
+    if !is_array(words, used, s) {
         return 3; // no array
     }
     0

@@ -64,8 +64,8 @@ fn int_side_at(words: &[u64], used: usize, t: usize) -> Side
     ensures { result ≡ int_side (min_on (take used words.now) t) (max_on (take used words.now) t) }
 {
     let none = [0u64; 0];
-    let min = words::word(&none, &*words, used, t + columns::MIN);
-    let max = words::word(&none, &*words, used, t + columns::MAX);
+    let min = words::word(&none, words, used, t + columns::MIN);
+    let max = words::word(&none, words, used, t + columns::MAX);
     int_side(min, max)
 }
 
@@ -74,7 +74,7 @@ fn side_of(words: &[u64], used: usize, t: u64) -> Side
     ensures { result ≡ side_of (take used words.now) t }
 {
     let none = [0u64; 0];
-    let k = call::kind_on(&none, &*words, used, t);
+    let k = call::kind_on(&none, words, used, t);
     if k == kinds::TOP {
         return Side::High;
     }
@@ -82,10 +82,10 @@ fn side_of(words: &[u64], used: usize, t: u64) -> Side
         return Side::High;
     }
     if k == kinds::INT {
-        return int_side_at(&*words, used, t as usize);
+        return int_side_at(words, used, t as usize);
     }
     if k == kinds::FLOAT {
-        let size = words::word(&none, &*words, used, t as usize + columns::SIZE);
+        let size = words::word(&none, words, used, t as usize + columns::SIZE);
         return float_side(size);
     }
     if k == kinds::MEM_PTR {
@@ -131,13 +131,13 @@ fn is_fref(words: &[u64], used: usize, t: u64) -> bool
     ensures { result ≡ is_fref (take used words.now) t }
 {
     let none = [0u64; 0];
-    let k = call::kind_on(&none, &*words, used, t);
+    let k = call::kind_on(&none, words, used, t);
     if k == kinds::FREF {
         return true;
     }
     if k == kinds::MEM_PTR {
-        let to = words::word(&none, &*words, used, t as usize + columns::TARGET);
-        return call::kind_on(&none, &*words, used, to) == kinds::FREF;
+        let to = words::word(&none, words, used, t as usize + columns::TARGET);
+        return call::kind_on(&none, words, used, to) == kinds::FREF;
     }
     false
 }
@@ -164,17 +164,17 @@ fn make_zero(words: &[u64], used: usize, t: u64) -> u64
     ensures { result ≡ make_zero_of (take used words.now) t }
 {
     let none = [0u64; 0];
-    zero_of(call::kind_on(&none, &*words, used, t), t)
+    zero_of(call::kind_on(&none, words, used, t), t)
 }
 
 fn make_init(words: &[u64], used: usize, t: u64) -> u64
     requires { used ≤ length words.now }
     ensures { result ≡ make_init_of (take used words.now) t }
 {
-    if rows::never_nil(&*words, used, t) {
+    if rows::never_nil(words, used, t) {
         return fresh::TOP as u64;
     }
-    make_zero(&*words, used, t)
+    make_zero(words, used, t)
 }
 
 // ---- log_size
@@ -211,7 +211,7 @@ fn int_log_size(words: &[u64], used: usize, t: u64) -> u64
     if t == fresh::INT_BOT as u64 {
         return 3;
     }
-    if is_high_or_constant(int_side_at(&*words, used, t as usize)) {
+    if is_high_or_constant(int_side_at(words, used, t as usize)) {
         return 0; // whatever its value
     }
     NO_LOG_SIZE
@@ -245,13 +245,13 @@ pub fn log_size(words: &[u64], used: usize, t: u64) -> u64
     ensures { result ≡ log_size (take used words.now) t }
 {
     let none = [0u64; 0];
-    let k = call::kind_on(&none, &*words, used, t);
+    let k = call::kind_on(&none, words, used, t);
     if k == kinds::INT {
-        return int_log_size(&*words, used, t);
+        return int_log_size(words, used, t);
     }
     if k == kinds::FLOAT {
-        let size = words::word(&none, &*words, used, t as usize + columns::SIZE);
-        let bits = words::word(&none, &*words, used, t as usize + columns::BITS);
+        let size = words::word(&none, words, used, t as usize + columns::SIZE);
+        let bits = words::word(&none, words, used, t as usize + columns::BITS);
         return float_log_size(size, bits);
     }
     if k == kinds::MEM_PTR {
@@ -267,11 +267,11 @@ pub fn kind_rows(words: &[u64], used: usize, bits: &[u64], h: u64, low: u64, hig
     requires { Marked words.now bits.now used }
     ensures { result ≡ kind_rows (kind_in low high) h (take used words.now) }
 {
-    if !call::all_start(&*bits, &[h]) {
+    if !call::all_start(bits, &[h]) {
         return 2; // a handle starts no entry
     }
     let none = [0u64; 0];
-    if !call::all_kinds(&none, &*words, used, &[h], low, high) {
+    if !call::all_kinds(&none, words, used, &[h], low, high) {
         return 3; // of a kind that the call does not take
     }
     0
@@ -293,11 +293,11 @@ fn zero_rows(words: &[u64], used: usize, bits: &[u64], h: u64) -> u8
     requires { Marked words.now bits.now used }
     ensures { result ≡ kind_rows has_zero h (take used words.now) }
 {
-    if !call::all_start(&*bits, &[h]) {
+    if !call::all_start(bits, &[h]) {
         return 2; // a handle starts no entry
     }
     let none = [0u64; 0];
-    if !has_zero(call::kind_on(&none, &*words, used, h)) {
+    if !has_zero(call::kind_on(&none, words, used, h)) {
         return 3; // of a kind that the call does not take
     }
     0
@@ -307,11 +307,11 @@ fn log_size_rows(words: &[u64], used: usize, bits: &[u64], t: u64) -> u8
     requires { Marked words.now bits.now used }
     ensures { result ≡ log_size_rows t (take used words.now) }
 {
-    let no = rows::types_rows(&*words, used, &*bits, &[t]);
+    let no = rows::types_rows(words, used, bits, &[t]);
     if no != 0 {
         return no;
     }
-    if log_size(&*words, used, t) >= NO_LOG_SIZE {
+    if log_size(words, used, t) >= NO_LOG_SIZE {
         return 9; // no log size
     }
     0
@@ -337,13 +337,13 @@ pub fn rows_of(words: &[u64], used: usize, bits: &[u64], of: OfType, t: u64) -> 
     ensures { result ≡ of_type_rows of t (take used words.now) }
 {
     match of {
-        OfType::MakeInit => rows::types_rows(&*words, used, &*bits, &[t]),
-        OfType::MakeZero => zero_rows(&*words, used, &*bits, t),
-        OfType::IsHigh => rows::types_rows(&*words, used, &*bits, &[t]),
-        OfType::IsHighOrConstant => rows::types_rows(&*words, used, &*bits, &[t]),
-        OfType::IsConstant => rows::types_rows(&*words, used, &*bits, &[t]),
-        OfType::IsFref => rows::types_rows(&*words, used, &*bits, &[t]),
-        OfType::LogSize => log_size_rows(&*words, used, &*bits, t),
+        OfType::MakeInit => rows::types_rows(words, used, bits, &[t]),
+        OfType::MakeZero => zero_rows(words, used, bits, t),
+        OfType::IsHigh => rows::types_rows(words, used, bits, &[t]),
+        OfType::IsHighOrConstant => rows::types_rows(words, used, bits, &[t]),
+        OfType::IsConstant => rows::types_rows(words, used, bits, &[t]),
+        OfType::IsFref => rows::types_rows(words, used, bits, &[t]),
+        OfType::LogSize => log_size_rows(words, used, bits, t),
     }
 }
 
@@ -353,12 +353,12 @@ pub fn tell(words: &[u64], used: usize, of: OfType, t: u64) -> Answer
     ensures { told result ≡ of_type_told of t (take used words.now) }
 {
     match of {
-        OfType::MakeInit => Answer::Handle(make_init(&*words, used, t)),
-        OfType::MakeZero => Answer::Handle(make_zero(&*words, used, t)),
-        OfType::IsHigh => Answer::Flag(is_high(side_of(&*words, used, t))),
-        OfType::IsHighOrConstant => Answer::Flag(is_high_or_constant(side_of(&*words, used, t))),
-        OfType::IsConstant => Answer::Flag(is_constant(side_of(&*words, used, t))),
-        OfType::IsFref => Answer::Flag(is_fref(&*words, used, t)),
-        OfType::LogSize => Answer::Number(log_size(&*words, used, t)),
+        OfType::MakeInit => Answer::Handle(make_init(words, used, t)),
+        OfType::MakeZero => Answer::Handle(make_zero(words, used, t)),
+        OfType::IsHigh => Answer::Flag(is_high(side_of(words, used, t))),
+        OfType::IsHighOrConstant => Answer::Flag(is_high_or_constant(side_of(words, used, t))),
+        OfType::IsConstant => Answer::Flag(is_constant(side_of(words, used, t))),
+        OfType::IsFref => Answer::Flag(is_fref(words, used, t)),
+        OfType::LogSize => Answer::Number(log_size(words, used, t)),
     }
 }

@@ -24,7 +24,7 @@ fn min(words: &[u64], used: usize, t: usize) -> u64
     ensures { result ≡ min_on (take used words.now) t }
 {
     let none = [0u64; 0];
-    words::word(&none, &*words, used, t + columns::MIN)
+    words::word(&none, words, used, t + columns::MIN)
 }
 
 fn max(words: &[u64], used: usize, t: usize) -> u64
@@ -32,7 +32,7 @@ fn max(words: &[u64], used: usize, t: usize) -> u64
     ensures { result ≡ max_on (take used words.now) t }
 {
     let none = [0u64; 0];
-    words::word(&none, &*words, used, t + columns::MAX)
+    words::word(&none, words, used, t + columns::MAX)
 }
 
 // The value of a constant.
@@ -40,8 +40,8 @@ fn value(words: &[u64], used: usize, t: usize) -> Answer
     requires { (used ≤ length words.now) × (t < used) }
     ensures { told result ≡ int_value (take used words.now) t }
 {
-    let low = min(&*words, used, t);
-    if low == max(&*words, used, t) {
+    let low = min(words, used, t);
+    if low == max(words, used, t) {
         return Answer::Signed(low);
     }
     Answer::Absent
@@ -51,7 +51,7 @@ fn mask(words: &[u64], used: usize, t: usize) -> u64
     requires { (used ≤ length words.now) × (t < used) }
     ensures { result ≡ mask_on (take used words.now) t }
 {
-    mask::mask(min(&*words, used, t), max(&*words, used, t))
+    mask::mask(min(words, used, t), max(words, used, t))
 }
 
 // ---- of a Float
@@ -62,7 +62,7 @@ fn bits(words: &[u64], used: usize, t: usize) -> u64
     ensures { result ≡ bits_on (take used words.now) t }
 {
     let none = [0u64; 0];
-    words::word(&none, &*words, used, t + columns::BITS)
+    words::word(&none, words, used, t + columns::BITS)
 }
 
 // Its size and constant.
@@ -71,8 +71,8 @@ fn float_at(words: &[u64], used: usize, t: usize) -> Float
     ensures { (result.sz ≡ size_from (size_on (take used words.now) t)) × (result.con ≡ of_bits binary64 (bits_on (take used words.now) t)) }
 {
     let none = [0u64; 0];
-    let size = words::word(&none, &*words, used, t + columns::SIZE);
-    type_float::float_of(size, bits(&*words, used, t))
+    let size = words::word(&none, words, used, t + columns::SIZE);
+    type_float::float_of(size, bits(words, used, t))
 }
 
 // Its size, as a two's complement word.
@@ -80,7 +80,7 @@ fn sz(words: &[u64], used: usize, t: usize) -> u64
     requires { (used ≤ length words.now) × (t < used) × (is_size_word (size_on (take used words.now) t) ≡ true) }
     ensures { result ≡ sz_on (take used words.now) t }
 {
-    let f = float_at(&*words, used, t);
+    let f = float_at(words, used, t);
     type_integer::word_of(f.sz as i64)
 }
 
@@ -89,7 +89,7 @@ fn is_f32(words: &[u64], used: usize, t: usize) -> bool
     requires { (used ≤ length words.now) × (t < used) }
     ensures { result ≡ is_single (bits_on (take used words.now) t) }
 {
-    type_float::is_f32(bits(&*words, used, t))
+    type_float::is_f32(bits(words, used, t))
 }
 
 // What it is read as.
@@ -97,7 +97,7 @@ fn read_as(words: &[u64], used: usize, t: usize) -> Reading
     requires { (used ≤ length words.now) × (t < used) × (is_size_word (size_on (take used words.now) t) ≡ true) }
     ensures { result ≡ reading_on (take used words.now) t }
 {
-    type_float::reading_of(float_at(&*words, used, t))
+    type_float::reading_of(float_at(words, used, t))
 }
 
 // A reading as an answer. A NaN's bits stand beside its value.
@@ -115,7 +115,7 @@ fn reading(words: &[u64], used: usize, t: usize) -> Answer
     requires { (used ≤ length words.now) × (t < used) × (is_size_word (size_on (take used words.now) t) ≡ true) }
     ensures { told result ≡ float_reading (take used words.now) t }
 {
-    reading_is(read_as(&*words, used, t), bits(&*words, used, t))
+    reading_is(read_as(words, used, t), bits(words, used, t))
 }
 
 // The value that was read, as an answer.
@@ -133,7 +133,7 @@ fn float_value(words: &[u64], used: usize, t: usize) -> Answer
     requires { (used ≤ length words.now) × (t < used) × (is_size_word (size_on (take used words.now) t) ≡ true) }
     ensures { told result ≡ float_value (take used words.now) t }
 {
-    value_is(read_as(&*words, used, t), bits(&*words, used, t))
+    value_is(read_as(words, used, t), bits(words, used, t))
 }
 
 // ---- the calls
@@ -152,10 +152,10 @@ pub fn tell_int(words: &[u64], used: usize, of: OfInt, t: usize) -> Answer
     ensures { told result ≡ of_int_told of t (take used words.now) }
 {
     match of {
-        OfInt::Min => Answer::Signed(min(&*words, used, t)),
-        OfInt::Max => Answer::Signed(max(&*words, used, t)),
-        OfInt::Value => value(&*words, used, t),
-        OfInt::Mask => Answer::Signed(mask(&*words, used, t)),
+        OfInt::Min => Answer::Signed(min(words, used, t)),
+        OfInt::Max => Answer::Signed(max(words, used, t)),
+        OfInt::Value => value(words, used, t),
+        OfInt::Mask => Answer::Signed(mask(words, used, t)),
     }
 }
 
@@ -173,9 +173,9 @@ pub fn tell_float(words: &[u64], used: usize, of: OfFloat, t: usize) -> Answer
     ensures { told result ≡ of_float_told of t (take used words.now) }
 {
     match of {
-        OfFloat::Sz => Answer::Signed(sz(&*words, used, t)),
-        OfFloat::IsF32 => Answer::Flag(is_f32(&*words, used, t)),
-        OfFloat::Value => float_value(&*words, used, t),
-        OfFloat::Reading => reading(&*words, used, t),
+        OfFloat::Sz => Answer::Signed(sz(words, used, t)),
+        OfFloat::IsF32 => Answer::Flag(is_f32(words, used, t)),
+        OfFloat::Value => float_value(words, used, t),
+        OfFloat::Reading => reading(words, used, t),
     }
 }

@@ -27,7 +27,7 @@ pub fn build(words: &[u64], index: &mut [u64], memory: &mut [u64])
     let k = store_index::marks_size(words.len());
     bitset::clear(&mut index[..k]);
     index::blank(&mut index[k..]);
-    store_index::extend(&*words, index);
+    store_index::extend(words, index);
     words::clear(memory);
 }
 
@@ -36,7 +36,7 @@ pub fn open(words: &[u64], index: &mut [u64], memory: &mut [u64]) -> Done
     ensures result_value { done result ≡ open_reply words.now (length index.old) }
     ensures opening { Opening words.now index.old memory.old index.new memory.new result }
 {
-    if !wellformed::well_formed(&*words) {
+    if !wellformed::well_formed(words) {
         return Done::Refused(1);
     }
     let n = words.len();
@@ -44,7 +44,7 @@ pub fn open(words: &[u64], index: &mut [u64], memory: &mut [u64]) -> Done
     if index.len() < store_index::marks_size(n) + 2 * n {
         return Done::Refused(11);
     }
-    build(&*words, index, memory);
+    build(words, index, memory);
     Done::Accepted
 }
 
@@ -65,7 +65,7 @@ pub fn append(
 {
     let used = words[0] as usize;
     let k = store_index::marks_size(words.len());
-    let no = making::rows_of(words, used, &index[..k], making, &*list, &*text);
+    let no = making::rows_of(words, used, &index[..k], making, list, text);
     if no != 0 {
         return Made::Refused(no);
     }
@@ -74,8 +74,8 @@ pub fn append(
         words,
         used,
         making,
-        &*list,
-        &*text,
+        list,
+        text,
         &mut none,
         memory,
         &index[k..],
@@ -101,12 +101,12 @@ pub fn ask(words: &[u64], index: &[u64], memory: &mut [u64], asking: Asking) -> 
 {
     let used = words[0] as usize;
     let k = store_index::marks_size(words.len());
-    let no = asking::rows_of(&*words, used, &index[..k], asking);
+    let no = asking::rows_of(words, used, &index[..k], asking);
     if no != 0 {
         return Answer::Refused(no);
     }
     let mut none = [0u64; 0];
-    asking::tell(&*words, used, asking, &mut none, memory, &index[k..])
+    asking::tell(words, used, asking, &mut none, memory, &index[k..])
 }
 
 // A call that fills a lent output.
@@ -125,7 +125,7 @@ pub fn fill(
 {
     let n = output.len() as u64;
     let asking = Asking::Struct(OfStruct::Fill(filling, n), s);
-    let answer = ask(&*words, &*index, memory, asking);
-    asking::fill(&*words, filling, s, answer, output);
+    let answer = ask(words, index, memory, asking);
+    asking::fill(words, filling, s, answer, output);
     answer
 }

@@ -59,11 +59,11 @@ pub fn meet_list(words: &mut [u64], index: &mut [u64], memory: &mut [u64], types
 {
     let used = words[0] as usize;
     let k = store_index::marks_size(words.len());
-    let no = meet_list::list_rows(words, used, &index[..k], &*types);
+    let no = meet_list::list_rows(words, used, &index[..k], types);
     if no != 0 {
         return Made::Refused(no);
     }
-    let r = merge(words, used, &*types, &mut index[k..], memory);
+    let r = merge(words, used, types, &mut index[k..], memory);
     let m = call::finish(words, used, r);
     match m {
         Made::Handle(h) => {

@@ -19,11 +19,11 @@ pub fn types_rows(words: &[u64], used: usize, bits: &[u64], hs: &[u64]) -> u8
     requires { Marked words.now bits.now used }
     ensures { result ≡ types_rows hs.now (take used words.now) }
 {
-    if !call::all_start(&*bits, &*hs) {
+    if !call::all_start(bits, hs) {
         return 2; // a handle starts no entry
     }
     let none = [0u64; 0];
-    if !call::all_kinds(&none, &*words, used, &*hs, kinds::BOT, kinds::MEM) {
+    if !call::all_kinds(&none, words, used, hs, kinds::BOT, kinds::MEM) {
         return 3; // of a kind that the call does not take
     }
     0
@@ -33,17 +33,17 @@ pub fn tuple_rows(words: &[u64], used: usize, bits: &[u64], types: &[u64]) -> u8
     requires { Marked words.now bits.now used }
     ensures { result ≡ tuple_rows types.now (take used words.now) }
 {
-    if !call::all_start(&*bits, &*types) {
+    if !call::all_start(bits, types) {
         return 2; // a handle starts no entry
     }
     let none = [0u64; 0];
-    if !call::all_kinds(&none, &*words, used, &*types, kinds::BOT, kinds::MEM) {
+    if !call::all_kinds(&none, words, used, types, kinds::BOT, kinds::MEM) {
         return 3; // of a kind that the call does not take
     }
     if types.len() > limits::MOST_COUNTED {
         return 5; // too many elements
     }
-    if call::deep(&none, &*words, used, &*types) > limits::DEEPEST_WITHIN {
+    if call::deep(&none, words, used, types) > limits::DEEPEST_WITHIN {
         return 6; // too deep
     }
     0
@@ -53,11 +53,11 @@ pub fn fref_rows(words: &[u64], used: usize, bits: &[u64], name: u64) -> u8
     requires { Marked words.now bits.now used }
     ensures { result ≡ fref_rows name (take used words.now) }
 {
-    if !call::all_start(&*bits, &[name]) {
+    if !call::all_start(bits, &[name]) {
         return 2; // a handle starts no entry
     }
     let none = [0u64; 0];
-    if !call::all_kinds(&none, &*words, used, &[name], kinds::NAME, kinds::NAME) {
+    if !call::all_kinds(&none, words, used, &[name], kinds::NAME, kinds::NAME) {
         return 3; // of a kind that the call does not take
     }
     0
@@ -76,17 +76,17 @@ pub fn part_rows(
     requires { Marked words.now bits.now used }
     ensures { result ≡ part_rows (kind_in low high) taken h (take used words.now) }
 {
-    if !call::all_start(&*bits, &[h]) {
+    if !call::all_start(bits, &[h]) {
         return 2; // a handle starts no entry
     }
     let none = [0u64; 0];
-    if !call::all_kinds(&none, &*words, used, &[h], low, high) {
+    if !call::all_kinds(&none, words, used, &[h], low, high) {
         return 3; // of a kind that the call does not take
     }
     if !taken {
         return 4; // a value that the maker does not take
     }
-    if call::deep(&none, &*words, used, &[h]) > limits::DEEPEST_WITHIN {
+    if call::deep(&none, words, used, &[h]) > limits::DEEPEST_WITHIN {
         return 6; // too deep
     }
     0
@@ -101,7 +101,7 @@ fn fields_start(bits: &[u64], fields: &[u64], p: usize) -> bool
     let mut at = p;
     let mut j = fields.len() / columns::LENT_FIELD;
     while 0 < j {
-        if !bitset::contains(&*bits, fields[at]) {
+        if !bitset::contains(bits, fields[at]) {
             return false;
         }
         at += columns::LENT_FIELD;
@@ -118,7 +118,7 @@ fn fields_kind(words: &[u64], used: usize, fields: &[u64], p: usize, low: u64, h
     let mut at = p;
     let mut j = fields.len() / columns::LENT_FIELD;
     while 0 < j {
-        if !call::all_kinds(&none, &*words, used, &[fields[at]], low, high) {
+        if !call::all_kinds(&none, words, used, &[fields[at]], low, high) {
             return false;
         }
         at += columns::LENT_FIELD;
@@ -147,13 +147,13 @@ fn fields_most(fields: &[u64], p: usize, most: u64) -> bool
 fn struct_unknown(bits: &[u64], name: u64, fields: &[u64]) -> bool
     ensures { result ≡ any_not (all (bit_at bits.now) (name ∷ [])) (all (bit_at bits.now) (field_names fields.now)) (all (bit_at bits.now) (field_types fields.now)) }
 {
-    if !call::all_start(&*bits, &[name]) {
+    if !call::all_start(bits, &[name]) {
         return true;
     }
-    if !fields_start(&*bits, &*fields, columns::LENT_NAME) {
+    if !fields_start(bits, fields, columns::LENT_NAME) {
         return true;
     }
-    !fields_start(&*bits, &*fields, columns::LENT_TYPE)
+    !fields_start(bits, fields, columns::LENT_TYPE)
 }
 
 // Whether row 3 applies.
@@ -162,13 +162,13 @@ fn struct_unfit(words: &[u64], used: usize, name: u64, fields: &[u64]) -> bool
     ensures { result ≡ any_not (all (kind_at (word (take used words.now)) is_name) (name ∷ [])) (all (kind_at (word (take used words.now)) is_name) (field_names fields.now)) (all (kind_at (word (take used words.now)) is_type) (field_types fields.now)) }
 {
     let none = [0u64; 0];
-    if !call::all_kinds(&none, &*words, used, &[name], kinds::NAME, kinds::NAME) {
+    if !call::all_kinds(&none, words, used, &[name], kinds::NAME, kinds::NAME) {
         return true;
     }
     if !fields_kind(
-        &*words,
+        words,
         used,
-        &*fields,
+        fields,
         columns::LENT_NAME,
         kinds::NAME,
         kinds::NAME,
@@ -176,9 +176,9 @@ fn struct_unfit(words: &[u64], used: usize, name: u64, fields: &[u64]) -> bool
         return true;
     }
     !fields_kind(
-        &*words,
+        words,
         used,
-        &*fields,
+        fields,
         columns::LENT_TYPE,
         kinds::BOT,
         kinds::MEM,
@@ -189,26 +189,26 @@ pub fn struct_rows(words: &[u64], used: usize, bits: &[u64], name: u64, fields: 
     requires { Marked words.now bits.now used }
     ensures { result ≡ struct_rows name fields.now (take used words.now) }
 {
-    if struct_unknown(&*bits, name, &*fields) {
+    if struct_unknown(bits, name, fields) {
         return 2; // a handle starts no entry
     }
-    if struct_unfit(&*words, used, name, &*fields) {
+    if struct_unfit(words, used, name, fields) {
         return 3; // of a kind that the call does not take
     }
     if fields.len() % columns::LENT_FIELD != 0 {
         return 4; // an unfinished field
     }
-    if !fields_most(&*fields, columns::LENT_ALIAS, limits::LARGEST_ALIAS) {
+    if !fields_most(fields, columns::LENT_ALIAS, limits::LARGEST_ALIAS) {
         return 4; // a value that the maker does not take
     }
-    if !fields_most(&*fields, columns::LENT_FINAL, limits::LARGEST_FLAG) {
+    if !fields_most(fields, columns::LENT_FINAL, limits::LARGEST_FLAG) {
         return 4; // a value that the maker does not take
     }
     if fields.len() / columns::LENT_FIELD > limits::MOST_COUNTED {
         return 5; // too many fields
     }
     let none = [0u64; 0];
-    if makers::fields_deep(&none, &*words, used, &*fields) > limits::DEEPEST_WITHIN {
+    if makers::fields_deep(&none, words, used, fields) > limits::DEEPEST_WITHIN {
         return 6; // too deep
     }
     0
@@ -222,10 +222,10 @@ pub fn never_nil(words: &[u64], used: usize, body: u64) -> bool
     ensures { result ≡ never_nil (take used words.now) body }
 {
     let none = [0u64; 0];
-    if call::kind_on(&none, &*words, used, body) != kinds::MEM_PTR {
+    if call::kind_on(&none, words, used, body) != kinds::MEM_PTR {
         return false;
     }
-    words::word(&none, &*words, used, body as usize + columns::NIL) == 0
+    words::word(&none, words, used, body as usize + columns::NIL) == 0
 }
 
 pub fn ary_rows(
@@ -241,14 +241,14 @@ pub fn ary_rows(
     requires { Marked words.now bits.now used }
     ensures { result ≡ ary_rows len len_alias body body_alias text.now (take used words.now) }
 {
-    if !call::all_start(&*bits, &[len, body]) {
+    if !call::all_start(bits, &[len, body]) {
         return 2; // a handle starts no entry
     }
     let none = [0u64; 0];
-    if !call::all_kinds(&none, &*words, used, &[len], kinds::INT, kinds::INT) {
+    if !call::all_kinds(&none, words, used, &[len], kinds::INT, kinds::INT) {
         return 3; // of a kind that the call does not take
     }
-    if !call::all_kinds(&none, &*words, used, &[body], kinds::BOT, kinds::MEM) {
+    if !call::all_kinds(&none, words, used, &[body], kinds::BOT, kinds::MEM) {
         return 3; // of a kind that the call does not take
     }
     if len_alias > limits::LARGEST_ALIAS {
@@ -260,10 +260,10 @@ pub fn ary_rows(
     if text.len() > limits::LONGEST_TEXT {
         return 5; // a name that is too long
     }
-    if call::deep(&none, &*words, used, &[len, body]) > limits::DEEPEST_WITHIN {
+    if call::deep(&none, words, used, &[len, body]) > limits::DEEPEST_WITHIN {
         return 6; // too deep
     }
-    if never_nil(&*words, used, body) {
+    if never_nil(words, used, body) {
         return 10; // a body that is never nil
     }
     0

@@ -18,7 +18,7 @@ fn same_words(old: &[u64], new: &[u64], used: usize, n: usize, p: usize, q: usiz
 {
     let mut i = 0;
     while i < n {
-        if words::word(&*old, &*new, used, p + i) != words::word(&*old, &*new, used, q + i) {
+        if words::word(old, new, used, p + i) != words::word(old, new, used, q + i) {
             return false;
         }
         i += 1;
@@ -35,8 +35,8 @@ pub fn same_name(old: &[u64], new: &[u64], used: usize, p: usize, q: usize) -> b
     if p == q {
         return true;
     }
-    let n = words::size(words::word(&*old, &*new, used, p));
-    same_words(&*old, &*new, used, n, p, q)
+    let n = words::size(words::word(old, new, used, p));
+    same_words(old, new, used, n, p, q)
 }
 
 // Whether the n fields from p on have the names and aliases of those from q on.
@@ -48,13 +48,13 @@ pub fn same_fields(old: &[u64], new: &[u64], used: usize, n: usize, p: usize, q:
 {
     let mut i = 0;
     while i < n {
-        let x = words::word(&*old, &*new, used, p + columns::FIELD * i) as usize;
-        let y = words::word(&*old, &*new, used, q + columns::FIELD * i) as usize;
-        if !same_name(&*old, &*new, used, x, y) {
+        let x = words::word(old, new, used, p + columns::FIELD * i) as usize;
+        let y = words::word(old, new, used, q + columns::FIELD * i) as usize;
+        if !same_name(old, new, used, x, y) {
             return false;
         }
-        let f = words::word(&*old, &*new, used, p + columns::FIELD * i + columns::FLAGS);
-        let g = words::word(&*old, &*new, used, q + columns::FIELD * i + columns::FLAGS);
+        let f = words::word(old, new, used, p + columns::FIELD * i + columns::FLAGS);
+        let g = words::word(old, new, used, q + columns::FIELD * i + columns::FLAGS);
         if f / 2 != g / 2 {
             return false;
         }

@@ -113,7 +113,7 @@ pub extern "C" fn bench_search(words: &[u64], used: usize, entry: &[u64], count:
     ensures { Told (entries (take used words.now)) entry.now result count.new }
 {
     let none = [0u64; 0];
-    tell(words::find(&none, &*words, used, 1, &*entry), count)
+    tell(words::find(&none, words, used, 1, entry), count)
 }
 
 // The same for a name.
@@ -124,10 +124,7 @@ pub extern "C" fn bench_search_name(words: &[u64], used: usize, name: &[u8], cou
     ensures { Told (entries (take used words.now)) (name_entry name.now) result count.new }
 {
     let none = [0u64; 0];
-    tell(
-        names::find_bytes(&none, &*words, used, 1, &*name, false),
-        count,
-    )
+    tell(names::find_bytes(&none, words, used, 1, name, false), count)
 }
 
 // ---- the search as it was before: each entry's size by one match, and each entry compared whole. The benchmark measures it beside the one above, in one run.
@@ -173,7 +170,7 @@ fn look_name_before(words: &[u64], from: usize, to: usize, text: &[u8], wrap: bo
     let mut at = from;
     while at < to {
         let n = size_before(words[at]);
-        if names::same_name(&words[at..at + n], &*text, wrap) {
+        if names::same_name(&words[at..at + n], text, wrap) {
             return Found::At(at);
         }
         at += n;
@@ -187,7 +184,7 @@ pub extern "C" fn bench_find_before(words: &[u64], used: usize, entry: &[u64]) -
     requires { Segments [] words.now used }
     ensures { result ≡ of_found (find_in (take used words.now) entry.now) }
 {
-    of_found(look_before(&*words, 1, used, &*entry))
+    of_found(look_before(words, 1, used, entry))
 }
 
 // The same for a name.
@@ -197,5 +194,5 @@ pub extern "C" fn bench_find_name_before(words: &[u64], used: usize, name: &[u8]
     requires name_len_bound { length name.now ≤ longest_text }
     ensures { result ≡ of_found (find_in (take used words.now) (name_entry name.now)) }
 {
-    of_found(look_name_before(&*words, 1, used, &*name, false))
+    of_found(look_name_before(words, 1, used, name, false))
 }

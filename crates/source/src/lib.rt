@@ -27,7 +27,7 @@ pub fn eight(text: &[u8], at: usize) -> u64
     requires { at + 8 ≤ length text.now }
     ensures { result ≡ of_bytes (take 8 (drop at text.now)) }
 {
-    four(&*text, at) + 4294967296 * four(&*text, at + 4)
+    four(text, at) + 4294967296 * four(text, at + 4)
 }
 
 // The word at a position.

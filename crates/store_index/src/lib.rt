@@ -42,8 +42,8 @@ pub fn extend(words: &[u64], index: &mut [u64])
     if from == used {
         return;
     }
-    mark_from(&*words, from, used, &mut index[..k]);
-    index::extend(&*words, used, &mut index[k..]);
+    mark_from(words, from, used, &mut index[..k]);
+    index::extend(words, used, &mut index[k..]);
 }
 
 // Marks the entries from `from` on, which are in the chains already.
@@ -54,5 +54,5 @@ pub fn mark_new(words: &[u64], from: usize, index: &mut [u64])
 {
     let end = words[0] as usize;
     let k = marks_size(words.len());
-    mark_from(&*words, from, end, &mut index[..k]);
+    mark_from(words, from, end, &mut index[..k]);
 }

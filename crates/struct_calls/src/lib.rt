@@ -39,8 +39,8 @@ fn filling_rows(words: &[u64], used: usize, bits: &[u64], filling: Filling, s: u
     ensures { result ≡ filling_rows filling s (take used words.now) }
 {
     match filling {
-        Filling::Fields => of_structs::fields_rows(&*words, used, &*bits, s),
-        Filling::Offsets => of_offsets::offsets_rows(&*words, used, &*bits, s),
+        Filling::Fields => of_structs::fields_rows(words, used, bits, s),
+        Filling::Offsets => of_offsets::offsets_rows(words, used, bits, s),
     }
 }
 
@@ -50,7 +50,7 @@ fn filled(words: &[u64], used: usize, filling: Filling, s: usize) -> u64
     ensures { result ≡ length (filled_words filling s (take used words.now)) }
 {
     let none = [0u64; 0];
-    let n = words::word(&none, &*words, used, s) / kinds::COUNT;
+    let n = words::word(&none, words, used, s) / kinds::COUNT;
     match filling {
         Filling::Fields => columns::LENT_FIELD as u64 * n,
         Filling::Offsets => n + 1,
@@ -61,11 +61,11 @@ fn fill_rows(words: &[u64], used: usize, bits: &[u64], filling: Filling, n: u64,
     requires { Marked words.now bits.now used }
     ensures { result ≡ output_rows (filling_rows filling s) (filled_words filling s) n (take used words.now) }
 {
-    let no = filling_rows(&*words, used, &*bits, filling, s);
+    let no = filling_rows(words, used, bits, filling, s);
     if no != 0 {
         return no;
     }
-    if n < filled(&*words, used, filling, s as usize) {
+    if n < filled(words, used, filling, s as usize) {
         return 11; // an output that is shorter than the answer
     }
     0
@@ -77,16 +77,14 @@ pub fn rows_of(words: &[u64], used: usize, bits: &[u64], of: OfStruct, s: u64) -
     ensures { result ≡ of_struct_rows of s (take used words.now) }
 {
     match of {
-        OfStruct::Name => {
-            of_types::kind_rows(&*words, used, &*bits, s, kinds::STRUCT, kinds::FREF)
-        }
-        OfStruct::Find(name) => of_structs::find_rows(&*words, used, &*bits, s, name),
-        OfStruct::FindAlias(alias) => of_structs::find_alias_rows(&*words, used, &*bits, s, alias),
-        OfStruct::IsAry => of_structs::fields_rows(&*words, used, &*bits, s),
-        OfStruct::Offset(i) => of_offsets::offset_rows(&*words, used, &*bits, s, i),
-        OfStruct::AryBase => of_offsets::ary_base_rows(&*words, used, &*bits, s),
-        OfStruct::AryScale => of_offsets::ary_scale_rows(&*words, used, &*bits, s),
-        OfStruct::Fill(filling, n) => fill_rows(&*words, used, &*bits, filling, n, s),
+        OfStruct::Name => { of_types::kind_rows(words, used, bits, s, kinds::STRUCT, kinds::FREF) }
+        OfStruct::Find(name) => of_structs::find_rows(words, used, bits, s, name),
+        OfStruct::FindAlias(alias) => of_structs::find_alias_rows(words, used, bits, s, alias),
+        OfStruct::IsAry => of_structs::fields_rows(words, used, bits, s),
+        OfStruct::Offset(i) => of_offsets::offset_rows(words, used, bits, s, i),
+        OfStruct::AryBase => of_offsets::ary_base_rows(words, used, bits, s),
+        OfStruct::AryScale => of_offsets::ary_scale_rows(words, used, bits, s),
+        OfStruct::Fill(filling, n) => fill_rows(words, used, bits, filling, n, s),
     }
 }
 
@@ -109,21 +107,19 @@ pub fn tell(words: &[u64], used: usize, of: OfStruct, s: u64) -> Answer
     let none = [0u64; 0];
     match of {
         OfStruct::Name => {
-            Answer::Handle(words::word(&none, &*words, used, s as usize + columns::NAME))
+            Answer::Handle(words::word(&none, words, used, s as usize + columns::NAME))
         }
-        OfStruct::Find(name) => {
-            place(of_structs::find(&*words, used, s as usize, name as usize))
-        }
+        OfStruct::Find(name) => { place(of_structs::find(words, used, s as usize, name as usize)) }
         OfStruct::FindAlias(alias) => {
-            place(of_structs::find_alias(&*words, used, s as usize, alias))
+            place(of_structs::find_alias(words, used, s as usize, alias))
         }
-        OfStruct::IsAry => Answer::Flag(of_structs::is_ary(&*words, used, s)),
+        OfStruct::IsAry => Answer::Flag(of_structs::is_ary(words, used, s)),
         OfStruct::Offset(i) => {
-            Answer::Number(of_offsets::offset(&*words, used, s as usize, i as usize))
+            Answer::Number(of_offsets::offset(words, used, s as usize, i as usize))
         }
-        OfStruct::AryBase => Answer::Number(of_offsets::offset(&*words, used, s as usize, 1)),
-        OfStruct::AryScale => Answer::Number(of_offsets::ary_scale(&*words, used, s as usize)),
-        OfStruct::Fill(filling, _) => Answer::Number(filled(&*words, used, filling, s as usize)),
+        OfStruct::AryBase => Answer::Number(of_offsets::offset(words, used, s as usize, 1)),
+        OfStruct::AryScale => Answer::Number(of_offsets::ary_scale(words, used, s as usize)),
+        OfStruct::Fill(filling, _) => Answer::Number(filled(words, used, filling, s as usize)),
     }
 }
 
@@ -133,7 +129,7 @@ pub fn fill(words: &[u64], used: usize, filling: Filling, s: u64, output: &mut [
     ensures { output.new ≡ filled_words filling s (take used words.now) ++ drop (length (filled_words filling s (take used words.now))) output.old }
 {
     match filling {
-        Filling::Fields => of_structs::fill_fields(&*words, used, s as usize, output),
-        Filling::Offsets => of_offsets::fill_offsets(&*words, used, s as usize, output),
+        Filling::Fields => of_structs::fill_fields(words, used, s as usize, output),
+        Filling::Offsets => of_offsets::fill_offsets(words, used, s as usize, output),
     }
 }

@@ -14,13 +14,13 @@ fn named_rule(old: &[u64], new: &[u64], used: usize, a: usize, b: usize) -> Stru
     requires a_lt_longest_allowed { (a < longest_allowed) × (b < longest_allowed) × NamesBelow (take used (old.now ++ new.now)) a × NamesBelow (take used (old.now ++ new.now)) b }
     ensures { result ≡ named_rule (take used (old.now ++ new.now)) a b }
 {
-    let x = words::word(&*old, &*new, used, a + columns::NAME) as usize;
-    let y = words::word(&*old, &*new, used, b + columns::NAME) as usize;
-    if !same_names::same_name(&*old, &*new, used, x, y) {
+    let x = words::word(old, new, used, a + columns::NAME) as usize;
+    let y = words::word(old, new, used, b + columns::NAME) as usize;
+    if !same_names::same_name(old, new, used, x, y) {
         return StructRule::Lowest;
     }
-    let f = words::word(&*old, &*new, used, a);
-    let g = words::word(&*old, &*new, used, b);
+    let f = words::word(old, new, used, a);
+    let g = words::word(old, new, used, b);
     if f % kinds::DEPTH == kinds::FREF {
         return StructRule::Latter; // a forward reference yields to its namesake
     }
@@ -31,14 +31,7 @@ fn named_rule(old: &[u64], new: &[u64], used: usize, a: usize, b: usize) -> Stru
         return StructRule::Lowest;
     }
     let n = (f / kinds::COUNT) as usize;
-    if !same_names::same_fields(
-        &*old,
-        &*new,
-        used,
-        n,
-        a + columns::FIELDS,
-        b + columns::FIELDS,
-    ) {
+    if !same_names::same_fields(old, new, used, n, a + columns::FIELDS, b + columns::FIELDS) {
         return StructRule::Lowest;
     }
     StructRule::Fields
@@ -65,5 +58,5 @@ pub fn struct_rule(old: &[u64], new: &[u64], used: usize, a: usize, b: usize) ->
     if b == fresh::STRUCT_TOP {
         return StructRule::Former;
     }
-    named_rule(&*old, &*new, used, a, b)
+    named_rule(old, new, used, a, b)
 }

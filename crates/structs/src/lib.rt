@@ -53,8 +53,8 @@ fn tuple_in(
     ensures { Runs (λ u. make u (tuple_entry types.now u)) old.now new.old used new.new result }
 {
     let n = types.len();
-    widened(handles, &*types);
-    makers::tuple(&*old, new, used, &handles[..n], &*index)
+    widened(handles, types);
+    makers::tuple(old, new, used, &handles[..n], index)
 }
 
 // Makes a tuple of these types.
@@ -66,10 +66,10 @@ pub fn tuple_of(old: &[u64], new: &mut [u64], used: usize, types: &[u32], index:
 {
     if types.len() <= FEW_ELEMENTS {
         let mut few = [0u64; FEW_ELEMENTS];
-        return tuple_in(&*old, new, used, &*types, &mut few, &*index);
+        return tuple_in(old, new, used, types, &mut few, index);
     }
     let mut many = [0u64; limits::MOST_COUNTED];
-    tuple_in(&*old, new, used, &*types, &mut many, &*index)
+    tuple_in(old, new, used, types, &mut many, index)
 }
 
 // ---- structs
@@ -105,8 +105,8 @@ fn fields_with(
     let mut i = 0;
     while i < n {
         let at = p + columns::FIELD * i;
-        let name = words::word(&*old, &*new, used, at);
-        let alias = words::word(&*old, &*new, used, at + columns::FLAGS) / 2;
+        let name = words::word(old, new, used, at);
+        let alias = words::word(old, new, used, at + columns::FLAGS) / 2;
         words::write(
             &mut dst[columns::LENT_FIELD * i..],
             &[name, wide(types[i]), alias, flag(finals[i])],
@@ -133,23 +133,15 @@ fn made_again_in(
     ensures { Runs (remake a types.now finals.now) old.now new.old used new.new result }
 {
     let n = types.len();
-    fields_with(
-        fields,
-        &*old,
-        new,
-        used,
-        a + columns::FIELDS,
-        &*types,
-        &*finals,
-    );
-    let name = words::word(&*old, new, used, a + columns::NAME);
+    fields_with(fields, old, new, used, a + columns::FIELDS, types, finals);
+    let name = words::word(old, new, used, a + columns::NAME);
     makers::structure(
-        &*old,
+        old,
         new,
         used,
         name,
         &fields[..columns::LENT_FIELD * n],
-        &*index,
+        index,
     )
 }
 
@@ -171,8 +163,8 @@ pub fn made_again(
 {
     if types.len() <= FEW_FIELDS {
         let mut few = [0u64; FEW_LENT];
-        return made_again_in(&*old, new, used, a, &*types, &*finals, &mut few, &*index);
+        return made_again_in(old, new, used, a, types, finals, &mut few, index);
     }
     let mut many = [0u64; MOST_LENT];
-    made_again_in(&*old, new, used, a, &*types, &*finals, &mut many, &*index)
+    made_again_in(old, new, used, a, types, finals, &mut many, index)
 }

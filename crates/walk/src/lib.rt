@@ -47,7 +47,7 @@ pub fn walk_type(
     ensures walked { Walked op old.now new.old used a new.new result }
     ensures remembered { Remembered op old.now new.new result memo.new }
 {
-    let form = walk_answers::form_of(op, &*old, new, used, a);
+    let form = walk_answers::form_of(op, old, new, used, a);
     let key = walk_key(form, a);
     let line = memo::recall(memo, key);
     if let Recalled::Is(h) = line {
@@ -55,44 +55,44 @@ pub fn walk_type(
     }
     match form {
         Form::Is(h) => Interned::At(h, used),
-        Form::AnInt => walk_answers::int_of(op, &*old, new, used, a, &*index),
-        Form::AFloat => walk_answers::float_of(op, &*old, new, used, a, &*index),
+        Form::AnInt => walk_answers::int_of(op, old, new, used, a, index),
+        Form::AFloat => walk_answers::float_of(op, old, new, used, a, index),
         Form::AStruct => {
-            let r = walk_struct(op, &*old, new, used, a, memo, &*index);
+            let r = walk_struct(op, old, new, used, a, memo, index);
             memo::noted(memo, key, r)
         }
         Form::APointer => {
-            let x = words::word(&*old, new, used, a + columns::TARGET) as usize;
-            let nil = walk_rules::nil_of(op, words::word(&*old, new, used, a + columns::NIL));
-            let m = walk_type(op, &*old, new, used, x, memo, &*index);
+            let x = words::word(old, new, used, a + columns::TARGET) as usize;
+            let nil = walk_rules::nil_of(op, words::word(old, new, used, a + columns::NIL));
+            let m = walk_type(op, old, new, used, x, memo, index);
             match m {
                 Interned::At(h, v) => {
-                    let r = makers::pointer(&*old, new, v, h as u64, nil, &*index);
+                    let r = makers::pointer(old, new, v, h as u64, nil, index);
                     memo::noted(memo, key, r)
                 }
                 Interned::Full => Interned::Full,
             }
         }
         Form::AMemory => {
-            let alias = words::word(&*old, new, used, a + columns::ALIAS);
-            let x = words::word(&*old, new, used, a + columns::INNER) as usize;
-            let m = walk_type(op, &*old, new, used, x, memo, &*index);
+            let alias = words::word(old, new, used, a + columns::ALIAS);
+            let x = words::word(old, new, used, a + columns::INNER) as usize;
+            let m = walk_type(op, old, new, used, x, memo, index);
             match m {
                 Interned::At(h, v) => {
-                    let r = makers::memory(&*old, new, v, alias, h as u64, &*index);
+                    let r = makers::memory(old, new, v, alias, h as u64, index);
                     memo::noted(memo, key, r)
                 }
                 Interned::Full => Interned::Full,
             }
         }
         Form::ATuple => {
-            let n = (words::word(&*old, new, used, a) / kinds::COUNT) as usize;
+            let n = (words::word(old, new, used, a) / kinds::COUNT) as usize;
             let mut parts = [0u32; limits::MOST_COUNTED];
             let mut v = used;
             let mut i: usize = 0;
             while i < n {
-                let x = words::word(&*old, new, used, a + columns::ELEMENTS + i) as usize;
-                let m = walk_type(op, &*old, new, v, x, memo, &*index);
+                let x = words::word(old, new, used, a + columns::ELEMENTS + i) as usize;
+                let m = walk_type(op, old, new, v, x, memo, index);
                 match m {
                     Interned::At(h, w) => {
                         parts[i] = h as u32;
@@ -104,7 +104,7 @@ pub fn walk_type(
                 }
                 i += 1;
             }
-            let r = structs::tuple_of(&*old, new, v, &parts[..n], &*index);
+            let r = structs::tuple_of(old, new, v, &parts[..n], index);
             memo::noted(memo, key, r)
         }
     }
@@ -127,18 +127,18 @@ fn walk_struct(
     ensures walked { Walked op old.now new.old used a new.new result }
     ensures remembered { Remembered op old.now new.new result memo.new }
 {
-    let n = (words::word(&*old, new, used, a) / kinds::COUNT) as usize;
+    let n = (words::word(old, new, used, a) / kinds::COUNT) as usize;
     let mut types = [0u32; limits::MOST_COUNTED];
     let mut v = used;
     let mut i: usize = 0;
     while i < n {
         let x = words::word(
-            &*old,
+            old,
             new,
             used,
             a + columns::FIELD_TYPES + columns::FIELD * i,
         ) as usize;
-        let m = walk_type(op, &*old, new, v, x, memo, &*index);
+        let m = walk_type(op, old, new, v, x, memo, index);
         match m {
             Interned::At(h, w) => {
                 types[i] = h as u32;
@@ -150,5 +150,5 @@ fn walk_struct(
         }
         i += 1;
     }
-    walk_fields::fields_of(op, &*old, new, v, a, &types[..n], &*index)
+    walk_fields::fields_of(op, old, new, v, a, &types[..n], index)
 }

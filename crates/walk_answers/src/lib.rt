@@ -18,7 +18,7 @@ pub fn form_of(walk: Walk, old: &[u64], new: &[u64], used: usize, a: usize) -> F
     requires { (length old.now ≤ used) × (used ≤ length old.now + length new.now) }
     ensures { result ≡ form_for walk a (kind_on (take used (old.now ++ new.now)) a) }
 {
-    walk_rules::form_for(walk, a, words::word(&*old, &*new, used, a) % kinds::DEPTH)
+    walk_rules::form_for(walk, a, words::word(old, new, used, a) % kinds::DEPTH)
 }
 
 // ---- answers
@@ -38,9 +38,9 @@ pub fn int_of(
 {
     match walk {
         Walk::Dual => {
-            let min = words::word(&*old, new, used, a + columns::MAX);
-            let max = words::word(&*old, new, used, a + columns::MIN);
-            makers::int(&*old, new, used, min, max, &*index)
+            let min = words::word(old, new, used, a + columns::MAX);
+            let max = words::word(old, new, used, a + columns::MIN);
+            makers::int(old, new, used, min, max, index)
         }
         Walk::Glb => Interned::At(fresh::INT_BOT, used),
         Walk::Lub => Interned::At(fresh::INT_TOP, used),
@@ -53,12 +53,12 @@ fn dual_float(old: &[u64], new: &mut [u64], used: usize, a: usize, index: &[u64]
     requires covers { Covers (take used (old.now ++ new.old)) index.now }
     ensures { Runs (float_of Dual a) old.now new.old used new.new result }
 {
-    let size = words::word(&*old, new, used, a + columns::SIZE);
+    let size = words::word(old, new, used, a + columns::SIZE);
     if size == wellformed::SIZE_ZERO {
         return Interned::At(a, used);
     }
     let f = type_float::float_of(wellformed::LARGEST_SIZE - size, 0);
-    makers::float(&*old, new, used, f, 0, &*index)
+    makers::float(old, new, used, f, 0, index)
 }
 
 pub fn float_of(
@@ -75,7 +75,7 @@ pub fn float_of(
     ensures { Runs (float_of walk a) old.now new.old used new.new result }
 {
     match walk {
-        Walk::Dual => dual_float(&*old, new, used, a, &*index),
+        Walk::Dual => dual_float(old, new, used, a, index),
         Walk::Glb => Interned::At(fresh::FLOAT_BOT, used),
         Walk::Lub => Interned::At(fresh::FLOAT_TOP, used),
     }

@@ -23,7 +23,7 @@ fn finals_of(walk: Walk, dst: &mut [u8], old: &[u64], new: &[u64], used: usize, 
     while i < n {
         dst[i] = walk_rules::final_of(
             walk,
-            words::word(&*old, &*new, used, p + columns::FIELD * i),
+            words::word(old, new, used, p + columns::FIELD * i),
         ) as u8;
         i += 1;
     }
@@ -47,8 +47,8 @@ fn fields_in(
     ensures { Runs (walk_fields walk a types.now) old.now new.old used new.new result }
 {
     let n = types.len();
-    finals_of(walk, finals, &*old, new, used, n, a + columns::FIELD_FLAGS);
-    structs::made_again(&*old, new, used, a, &*types, &finals[..n], &*index)
+    finals_of(walk, finals, old, new, used, n, a + columns::FIELD_FLAGS);
+    structs::made_again(old, new, used, a, types, &finals[..n], index)
 }
 
 // Makes the struct at a with these types and the walk's finals.
@@ -67,5 +67,5 @@ pub fn fields_of(
     ensures { Runs (walk_fields walk a types.now) old.now new.old used new.new result }
 {
     let mut finals = [0u8; limits::MOST_COUNTED];
-    fields_in(walk, &*old, new, used, a, &*types, &mut finals, &*index)
+    fields_in(walk, old, new, used, a, types, &mut finals, index)
 }

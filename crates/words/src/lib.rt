@@ -134,19 +134,19 @@ fn look(words: &[u64], base: usize, from: usize, to: usize, entry: &[u64]) -> Se
     requires { (to ≤ length words.now) × (base + length words.now < 2 ^ 63) × (fills 0 (slice from to words.now) ≡ true) }
     ensures { Searched (rows (base + from) 0 (slice from to words.now)) entry.now result.found result.count }
 {
-    let head = head_of(&*entry);
+    let head = head_of(entry);
     let n = size(head);
     let mut at = from;
     let mut count = 0;
     while at < to {
-        at = pass_over(&*words, at, to, head, n);
+        at = pass_over(words, at, to, head, n);
         if to <= at {
             return Search {
                 found: Found::Nothing,
                 count: count,
             };
         }
-        if same(&words[at..at + n], &*entry) {
+        if same(&words[at..at + n], entry) {
             return Search {
                 found: Found::At(base + at),
                 count: count + 1,
@@ -179,20 +179,14 @@ pub fn find(old: &[u64], new: &[u64], used: usize, from: usize, entry: &[u64]) -
     ensures { Searched (rows from 0 (drop from (take used (old.now ++ new.now)))) entry.now result.found result.count }
 {
     if old.len() <= from {
-        return look(
-            &*new,
-            old.len(),
-            from - old.len(),
-            used - old.len(),
-            &*entry,
-        );
+        return look(new, old.len(), from - old.len(), used - old.len(), entry);
     }
-    let first = look(&*old, 0, from, old.len(), &*entry);
+    let first = look(old, 0, from, old.len(), entry);
     let f = first.found;
     match f {
         Found::At(_) => first,
         Found::Nothing => {
-            let second = look(&*new, old.len(), 0, used - old.len(), &*entry);
+            let second = look(new, old.len(), 0, used - old.len(), entry);
             behind(first.count, second)
         }
     }
@@ -222,7 +216,7 @@ pub fn headed(dst: &mut [u64], head: u64, list: &[u64])
     requires { 1 + length list.now ≤ length dst.old }
     ensures { dst.new ≡ (head ∷ list.now) ++ drop (1 + length list.now) dst.old }
 {
-    write(&mut dst[1..], &*list);
+    write(&mut dst[1..], list);
     dst[0] = head;
 }
 
