@@ -7,8 +7,9 @@ use lib.ListN.{length, take, length-append, take-append-drop}
 use lib.Seq.{length-take-le}
 use Rattle.words.specs.Ran.{HasSize, Segments, Ran, Runs}
 use Rattle.words.specs.Made.{Grown, make}
+use Rattle.std.specs.Prelude.{Option, None}
+use Rattle.words.specs.Ran.{interned}
 use Rattle.words.specs.declared.Interned.{Interned}
-use Rattle.words.specs.declared.Interned.TheVariants.{At, Full}
 use Rattle.words.proofs.Extend.{ext_length}
 use Rattle.words.proofs.Room.{Fit, fitted, fit_front, fit_length, then, stop}
 use Rattle.words.proofs.Placed.{make_extends}
@@ -45,7 +46,7 @@ start {old} {new} {used} s =
 
 module _ {old new : List ℕ} {used : ℕ} {g : Grown} {now : List ℕ} {h v : ℕ} (so : Reached old new used g now h v) where
   -- one more ran, of an entry that may depend on the words: so all ran
-  pub more : (e : List ℕ → List ℕ) (now₂ : List ℕ) {r : Interned} → Runs (λ u. make u (e u)) old now v now₂ r → Ran used (make g.words (e g.words)) (old ++ new) (old ++ now₂) r
+  pub more : (e : List ℕ → List ℕ) (now₂ : List ℕ) {r : Option Interned} → Runs (λ u. make u (e u)) old now v now₂ r → Ran used (make g.words (e g.words)) (old ++ new) (old ++ now₂) r
   more e now₂ {r} ran =
       let g₂ = make g.words (e g.words) in
       let two : Ran v g₂ (old ++ now) (old ++ now₂) r = rw (fit_front g (old ++ new) (old ++ now) h v so.fits) at ran in
@@ -53,7 +54,7 @@ module _ {old new : List ℕ} {used : ℕ} {g : Grown} {now : List ℕ} {h v : �
       then g (old ++ new) (old ++ now) h v so.fits used so.keeps.ext low g₂ (old ++ now₂) r (make_extends g.words (e g.words)) two
 
   -- where it fitted, the next may begin
-  pub next : (e now₂ : List ℕ) {r : Interned} {h₂ v₂ : ℕ} → HasSize e → Runs (λ u. make u e) old now v now₂ r → r ≡ At h₂ v₂ → Reached old new used (make g.words e) now₂ h₂ v₂
+  pub next : (e now₂ : List ℕ) {r : Option Interned} {h₂ v₂ : ℕ} → HasSize e → Runs (λ u. make u e) old now v now₂ r → r ≡ interned h₂ v₂ → Reached old new used (make g.words e) now₂ h₂ v₂
   next e now₂ {r} {h₂} {v₂} sized ran is =
       let u = take used (old ++ new) in
       let g₂ = make g.words e in
@@ -68,5 +69,5 @@ pub reached_covers : {old new : List ℕ} {used : ℕ} {g : Grown} {now : List �
 reached_covers {old} {new} {used} {g} {now} {h} {v} {index} so c = rw (fit_front g (old ++ new) (old ++ now) h v so.fits) (covers_more (take used (old ++ new)) g.words index so.keeps.ext c)
 
 -- where there was no room, there is none with one more
-pub still : {used : ℕ} (g : Grown) {ws ws₁ : List ℕ} (e : List ℕ) → Ran used g ws ws₁ Full → Ran used (make g.words e) ws ws₁ Full
+pub still : {used : ℕ} (g : Grown) {ws ws₁ : List ℕ} (e : List ℕ) → Ran used g ws ws₁ None → Ran used (make g.words e) ws ws₁ None
 still {used} g {ws} {ws₁} e = stop used g (make g.words e) ws ws₁ (make_extends g.words e)

@@ -9,8 +9,7 @@ use native.Mathlib.Omega.{arith}
 use lib.ListN.{length, drop, get_or, length-drop, get_or-append}
 use Rattle.words.specs.Table.{Row, entries, starts, RowIn, find_in}
 use Rattle.words.specs.Made.{Grown, make}
-use Rattle.words.specs.declared.Found.{Found}
-use Rattle.words.specs.declared.Found.TheVariants.{At, Nothing}
+use Rattle.std.specs.Prelude.{Option, Some, None}
 use Rattle.words.proofs.Placed.{make_there, make_new}
 use Rattle.words.proofs.Kept.{entries_append, make_appends}
 use Rattle.words.proofs.Extend.{ext_length}
@@ -66,13 +65,13 @@ module _ (u e : List ℕ) (s : Sound u) (f : Fitting u e) where
         ends = λ n. still_ends n (find_in u e) refl;
       }
     where
-      go : (t : Found) → find_in u e ≡ t → ok_rows (make u e).words nowhere (entries (make u e).words) ≡ true
-      go (At h) q = rw (make_there u e h q) s.right
-      go Nothing q = rw (make_new u e q) right_behind
+      go : (t : Option ℕ) → find_in u e ≡ t → ok_rows (make u e).words nowhere (entries (make u e).words) ≡ true
+      go (Some h) q = rw (make_there u e h q) s.right
+      go None q = rw (make_new u e q) right_behind
 
-      still_ends : Ends (entries u) → (t : Found) → find_in u e ≡ t → Ends (entries (make u e).words)
-      still_ends n (At h) q = rw (make_there u e h q) n
-      still_ends n Nothing q = rw (make_new u e q) (ends_behind n)
+      still_ends : Ends (entries u) → (t : Option ℕ) → find_in u e ≡ t → Ends (entries (make u e).words)
+      still_ends n (Some h) q = rw (make_there u e h q) n
+      still_ends n None q = rw (make_new u e q) (ends_behind n)
 
 -- an operation that makes nothing
 pub adds_none : (u : List ℕ) (h : ℕ) → Sound u → Adds u (record { words = u; handle = h })

@@ -11,8 +11,9 @@ use lib.Seq.{take_all, length-take-le}
 use borrow.Rule.Slice.PartMut.{put_mid}
 use Rattle.words.specs.Made.{Grown}
 use Rattle.words.specs.Ran.{Segments, Ran}
+use Rattle.std.specs.Prelude.{Option, Some, None}
+use Rattle.words.specs.Ran.{interned}
 use Rattle.words.specs.declared.Interned.{Interned}
-use Rattle.words.specs.declared.Interned.TheVariants.{At, Full}
 use Rattle.words.proofs.Room.{fitted, overflowed}
 use Rattle.index.specs.Covers.{Covers}
 use Rattle.index.proofs.Keep.{covers_none}
@@ -26,12 +27,12 @@ use Rattle.call.proofs.Zeros.{all_zero_is}
 
 -- ---- the end
 
-module _ (used : ℕ) (ws : List ℕ) (r : Interned) where
-  pub fin_at : (h end : ℕ) → r ≡ At h end → left (made (Handle h)) (set ws 0 end) ≡ finish_in used r ws
+module _ (used : ℕ) (ws : List ℕ) (r : Option Interned) where
+  pub fin_at : (h end : ℕ) → r ≡ interned h end → left (made (Handle h)) (set ws 0 end) ≡ finish_in used r ws
   unfolding finish_in
   fin_at h end is = rw is
 
-  pub fin_full : r ≡ Full → (d : List ℕ) → d ≡ replicate (length (take (length ws - used) (drop used ws))) 0 → left (made (Refused 12)) (put_mid used (length ws - used) ws d) ≡ finish_in used r ws
+  pub fin_full : r ≡ None → (d : List ℕ) → d ≡ replicate (length (take (length ws - used) (drop used ws))) 0 → left (made (Refused 12)) (put_mid used (length ws - used) ws d) ≡ finish_in used r ws
   unfolding finish_in
   fin_full is d e =
       let h : length (drop used ws) ≤ length ws - used = omega (arith, length-drop used ws) in
@@ -112,7 +113,7 @@ module _ (rows : List ℕ → ℕ) (op : List ℕ → Grown) (ws : List ℕ) (us
     unfolding call
     passed q = rw (begin_call.ok, q)
 
-    pub ended : rows (take used ws) ≡ 0 → (ws₁ : List ℕ) (r : Interned) → length ws₁ ≡ length ws
+    pub ended : rows (take used ws) ≡ 0 → (ws₁ : List ℕ) (r : Option Interned) → length ws₁ ≡ length ws
         → Ran used (op (take used ws)) ws ws₁ r → (o : Outcome) → o ≡ finish_in used r ws₁ → o ≡ call rows op ws
     unfolding finish_in
     ended q ws₁ r len ran o e = go r refl
@@ -126,11 +127,13 @@ module _ (rows : List ℕ → ℕ) (op : List ℕ → Grown) (ws : List ℕ) (us
         q' : rows (used_words ws) ≡ 0
         q' = rw begin_call.is at q
 
-        go : (s : Interned) → r ≡ s → o ≡ call rows op ws
-        go (At h end) k =
+        go : (s : Option Interned) → r ≡ s → o ≡ call rows op ws
+        go (Some s) k =
+            let h = s.handle in
+            let end = s.used in
             let f = fitted used g ws ws₁ r ran h end k in
             e ∙ rw (k, passed q', same, le-ltb (length ws) (length g.words) f.room, f.handle, f.end, f.words)
-        go Full k =
+        go None k =
             let more = overflowed used g ws ws₁ r ran k in
             let t = tests ws begin_call.ok in
             let zero : drop used ws ≡ drop (get_or ws 0 0) ws = rw begin_call.is in

@@ -1,8 +1,8 @@
 -- What the steps of a call give, in its functions.
 use Rattle.std.specs.Prelude.{◌≡◌, cond, List, ◌++◌, ℕ, ◌-◌, ◌≤◌, length, take, set, replicate}
 use Rattle.words.specs.Table.{starts}
+use Rattle.std.specs.Prelude.{Option, Some, None}
 use Rattle.words.specs.declared.Interned.{Interned}
-use Rattle.words.specs.declared.Interned.TheVariants.{At, Full}
 use Rattle.bitset.specs.Bitset.{bit_at}
 use Rattle.wellformed.specs.Form.{well_formed, used_count}
 use Rattle.call.specs.Call.{Outcome, left, handle, refused}
@@ -22,6 +22,6 @@ pub record Beginning (ws bits : List ℕ) (used : ℕ) : Type 0 where
   pub ready : (used ≡ 0 → ⊥) → Marked ws bits used
 
 -- the end of a call, in the words that its operation left: word 0, or the way back
-unfoldable pub finish_in : ℕ → Interned → List ℕ → Outcome
-finish_in used (At h end) ws = left (handle h) (set ws 0 end)
-finish_in used Full ws = left (refused 12) (take used ws ++ replicate (length ws - used) 0)
+unfoldable pub finish_in : ℕ → Option Interned → List ℕ → Outcome
+finish_in used (Some m) ws = left (handle m.handle) (set ws 0 m.used)
+finish_in used None ws = left (refused 12) (take used ws ++ replicate (length ws - used) 0)

@@ -3,8 +3,7 @@ use Rattle.std.proofs.Common.{◌≡◌, ℕ, zero, suc, pred, ◌<◌, Bool, tr
 use mathlib.Core.List.Memᴰ
 use Rattle.words.specs.Words.{size_of, eqs}
 use Rattle.words.specs.Table.{Row, rows, first_of, RowIn, Own}
-use Rattle.words.specs.declared.Found.{Found}
-use Rattle.words.specs.declared.Found.TheVariants.{At, Nothing}
+use Rattle.std.specs.Prelude.{Option, Some, None}
 use Rattle.words.proofs.Alike.{eqs_refl, eqs_eq}
 use Rattle.words.proofs.Handles.{rows_bound}
 use Rattle.distinct.specs.Distinct.{found_at, each_own, own}
@@ -29,14 +28,14 @@ apart_own at (suc k) (w ∷ l) h r m = apart_own (suc at) k l h r m
 
 -- ---- the test
 
-at_inj : (a b : ℕ) → At a ≡ At b → a ≡ b
+at_inj : (a b : ℕ) → Some a ≡ Some b → a ≡ b
 at_inj a b e = cc
 
-found_at_is : (f : Found) (a : ℕ) → found_at f a ≡ true → f ≡ At a
-found_at_is (At h) a e = ap At (eqb-true h a e)
-found_at_is Nothing a e = let z : ◌≡◌ {A = ℕ} 0 1 = cc in absurd (omega arith)
+found_at_is : (f : Option ℕ) (a : ℕ) → found_at f a ≡ true → f ≡ Some a
+found_at_is (Some h) a e = ap Some (eqb-true h a e)
+found_at_is None a e = let z : ◌≡◌ {A = ℕ} 0 1 = cc in absurd (omega arith)
 
-each : (rs t : List Row) → each_own rs t ≡ true → (r : Row) → RowIn r t → first_of rs r.words ≡ At r.at
+each : (rs t : List Row) → each_own rs t ≡ true → (r : Row) → RowIn r t → first_of rs r.words ≡ Some r.at
 unfolding each_own
 each rs [] h r m = absurd (Memᴰ.not-nil m)
 each rs (x ∷ t) h r m =
@@ -46,7 +45,7 @@ each rs (x ∷ t) h r m =
     (λ (i : RowIn r t). each rs t (and_right a (each_own rs t) h) r i)
     (Memᴰ.cases_cons m)
 
-each_back : (rs t : List Row) → ((r : Row) → RowIn r t → first_of rs r.words ≡ At r.at) → each_own rs t ≡ true
+each_back : (rs t : List Row) → ((r : Row) → RowIn r t → first_of rs r.words ≡ Some r.at) → each_own rs t ≡ true
 unfolding each_own
 each_back rs [] h = refl
 each_back rs (x ∷ t) h = rw (h x (Memᴰ.head refl), eq-eqb x.at x.at refl, each_back rs t (λ r m. h r (Memᴰ.tail m)))

@@ -2,12 +2,11 @@
 use Rattle.std.specs.Prelude.{◌≡◌, ℕ, ◌≤◌, Bool, true, false, ◌&&◌, List, [], ◌∷◌, length, take, drop, ◌==◌}
 use Rattle.words.specs.Words.{fills}
 use Rattle.words.specs.Table.{Row, first_of}
-use Rattle.words.specs.declared.Found.{Found}
-use Rattle.words.specs.declared.Found.TheVariants.{At, Nothing}
+use Rattle.std.specs.Prelude.{Option, Some, None}
 
-abbrev pub found_at : Found → ℕ → Bool
-found_at (At h) a = h == a
-found_at Nothing a = false
+abbrev pub found_at : Option ℕ → ℕ → Bool
+found_at (Some h) a = h == a
+found_at None a = false
 
 -- each of these is the first of rs with its words
 unfoldable pub each_own : List Row → List Row → Bool

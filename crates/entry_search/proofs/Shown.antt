@@ -9,8 +9,7 @@ use lib.ListN.{length, take, drop, get_or}
 use Rattle.words.specs.Table.{rows, entries, find_in}
 use Rattle.words.specs.Search.{Searched}
 use Rattle.words.specs.Ran.{Segments, Tail}
-use Rattle.words.specs.declared.Found.{Found}
-use Rattle.words.specs.declared.Found.TheVariants.{At, Nothing}
+use Rattle.std.specs.Prelude.{Option, Some, None}
 use Rattle.words.proofs.Two.{from_one}
 use Rattle.wellformed.specs.Form.{well_formed}
 use Rattle.wellformed.proofs.Before.{tests, well_segments}
@@ -35,12 +34,12 @@ module _ (ws e : List ℕ) (t : Bool) (is : t ≡ well_formed ws) where
     pub to_find : Segments [] ws (get_or ws 0 0) × Tail [] (take (get_or ws 0 0) ws) 1
     to_find = let s = well_segments ws good in (s, from_one [] ws (get_or ws 0 0) s)
 
-    module _ (f : Found) (n : ℕ) (s : Searched (rows 1 0 (drop 1 (take (get_or ws 0 0) ws))) e f n) where
-      pub found_there : (h : ℕ) → f ≡ At h → Variants.Found h n ≡ entry_search ws e
+    module _ (f : Option ℕ) (n : ℕ) (s : Searched (rows 1 0 (drop 1 (take (get_or ws 0 0) ws))) e f n) where
+      pub found_there : (h : ℕ) → f ≡ Some h → Variants.Found h n ≡ entry_search ws e
       unfolding entry_search find_in entries
       found_there h at = sym (rw (good, sym s.answer ∙ at, sym s.number))
 
-      pub found_nowhere : f ≡ Nothing → Variants.Absent n ≡ entry_search ws e
+      pub found_nowhere : f ≡ None → Variants.Absent n ≡ entry_search ws e
       unfolding entry_search find_in entries
       found_nowhere none = sym (rw (good, sym s.answer ∙ none, sym s.number))
 

@@ -2,16 +2,15 @@
 use Rattle.std.specs.Prelude.{Bool, true, false, List, ℕ}
 use Rattle.words.specs.Table.{entries, find_in}
 use Rattle.words.specs.Search.{not_passed_over}
-use Rattle.words.specs.declared.Found.{Found}
-use Rattle.words.specs.declared.Found.TheVariants.{At, Nothing}
+use Rattle.std.specs.Prelude.{Option, Some, None}
 use Rattle.wellformed.specs.Form.{well_formed, used_words}
 use Rattle.entry_search.specs.declared.EntrySearch.{EntrySearch}
 use Rattle.entry_search.specs.declared.EntrySearch.TheVariants as Variants
 
 -- the answer, and the number beside it
-abbrev pub shown : Found → ℕ → EntrySearch
-shown (At h) n = Variants.Found h n
-shown Nothing n = Variants.Absent n
+abbrev pub shown : Option ℕ → ℕ → EntrySearch
+shown (Some h) n = Variants.Found h n
+shown None n = Variants.Absent n
 
 -- row 1: 1 where the words are not well formed
 abbrev pub once_well_formed : Bool → EntrySearch → EntrySearch

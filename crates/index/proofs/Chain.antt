@@ -10,8 +10,7 @@ use lib.Seq.{length-take-le, take-append-le, take-take}
 use Rattle.words.specs.Words.{size_of, eqs, fills}
 use Rattle.words.specs.Table.{rows, entries, first_of, find_in, starts}
 use Rattle.words.specs.Ran.{Segments, Tail}
-use Rattle.words.specs.declared.Found.{Found}
-use Rattle.words.specs.declared.Found.TheVariants.{At, Nothing}
+use Rattle.std.specs.Prelude.{Option, Some, None}
 use Rattle.words.proofs.Grow.{or_else}
 use Rattle.index.specs.Digest.{bucket_of}
 use Rattle.index.proofs.Seek.{Seek, seek_first, seek_starts, seek_next}
@@ -27,7 +26,7 @@ unfolding indexed_to
 to_word index s = rw (ne_eqb _ _ s)
 
 -- one word has no entries
-pub found_none : (u e : List ℕ) → find_in (take 1 u) e ≡ Nothing
+pub found_none : (u e : List ℕ) → find_in (take 1 u) e ≡ None
 unfolding find_in entries first_of rows
 found_none u e =
     let n : length (take 1 u) ≤ 1 = omega (arith, length-take 1 u) in
@@ -40,7 +39,7 @@ module _ (u index : List ℕ) (c : Covers u index) where
   k_long : length (take (indexed_to index) u) ≡ indexed_to index
   k_long = length-take-le k u c.high
 
-  pub empty_index : length index / 2 ≡ 0 → (e : List ℕ) → Nothing ≡ find_in (take (indexed_to index) u) e
+  pub empty_index : length index / 2 ≡ 0 → (e : List ℕ) → None ≡ find_in (take (indexed_to index) u) e
   empty_index z e = sym (rw (sym (to_none index z)) (found_none u e))
 
   module _ (some : length index / 2 ≡ 0 → ⊥) (e : List ℕ) where
@@ -57,12 +56,12 @@ module _ (u index : List ℕ) (c : Covers u index) where
     pub chain_next : (t : Bool) → t ≡ eqs (take (size_of (get_or u at 0)) (drop at u)) e → (next : ℕ) → next ≡ cond t at low → Seek (take (indexed_to index) u) index e (get_or index (length index / 2 + at) 0 - 1) next
     chain_next t same = seek_next (take k u) index e at low s some c.cut t (same ∙ ap (λ (w : List ℕ). eqs w e) (words_whole u k c.low c.high c.cut at start))
 
-  module _ (full : fills 0 (drop 1 u) ≡ true) (e : List ℕ) (f : Found) (is : f ≡ find_in (take (indexed_to index) u) e) where
-    pub found_first : (h : ℕ) → f ≡ At h → At h ≡ find_in u e
+  module _ (full : fills 0 (drop 1 u) ≡ true) (e : List ℕ) (f : Option ℕ) (is : f ≡ find_in (take (indexed_to index) u) e) where
+    pub found_first : (h : ℕ) → f ≡ Some h → Some h ≡ find_in u e
     unfolding or_else
     found_first h at = sym (split_find u k c.low c.high c.cut e ∙ rw (sym is ∙ at))
 
-    pub found_later : f ≡ Nothing → (j : ℕ) → j ≡ indexed_to index → (g : Found) → g ≡ first_of (rows j 0 (drop j u)) e → g ≡ find_in u e
+    pub found_later : f ≡ None → (j : ℕ) → j ≡ indexed_to index → (g : Option ℕ) → g ≡ first_of (rows j 0 (drop j u)) e → g ≡ find_in u e
     unfolding or_else
     found_later gone j to g it = it ∙ rw to (sym (split_find u k c.low c.high c.cut e ∙ rw (sym is ∙ gone)))
 

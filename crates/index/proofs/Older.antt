@@ -9,8 +9,7 @@ use native.Mathlib.Omega.{arith}
 use lib.ListN.{length, take, drop, length-drop}
 use Rattle.words.specs.Words.{size_of, eqs}
 use Rattle.words.specs.Table.{Row, rows, entries, first_of, RowIn}
-use Rattle.words.specs.declared.Found.{Found}
-use Rattle.words.specs.declared.Found.TheVariants.{At, Nothing}
+use Rattle.std.specs.Prelude.{Option, Some, None}
 use Rattle.words.proofs.Grow.{or_else}
 use Rattle.index.specs.Chains.{newest_first}
 
@@ -57,25 +56,25 @@ in_rows rs r m = ⊎_elim (λ (a : RowIn r []). absurd (Memᴰ.not-nil a)) (λ (
 
 -- ---- the search
 
-abbrev pub one : Bool → ℕ → Found
-one t h = cond t (At h) Nothing
+abbrev pub one : Bool → ℕ → Option ℕ
+one t h = cond t (Some h) None
 
 -- the oldest row with these words
-unfoldable pub lowest : List Row → List ℕ → Found
-lowest [] e = Nothing
+unfoldable pub lowest : List Row → List ℕ → Option ℕ
+lowest [] e = None
 lowest (r ∷ rs) e = or_else (lowest rs e) (one (eqs r.words e) r.at)
 
-pub or_none : (f : Found) → or_else f Nothing ≡ f
+pub or_none : (f : Option ℕ) → or_else f None ≡ f
 unfolding or_else
-or_none (At h) = refl
-or_none Nothing = refl
+or_none (Some h) = refl
+or_none None = refl
 
-pub or_assoc : (f g k : Found) → or_else (or_else f g) k ≡ or_else f (or_else g k)
+pub or_assoc : (f g k : Option ℕ) → or_else (or_else f g) k ≡ or_else f (or_else g k)
 unfolding or_else
-or_assoc (At h) g k = refl
-or_assoc Nothing g k = refl
+or_assoc (Some h) g k = refl
+or_assoc None g k = refl
 
-one_or : (t : Bool) (h : ℕ) (f : Found) → or_else (one t h) f ≡ cond t (At h) f
+one_or : (t : Bool) (h : ℕ) (f : Option ℕ) → or_else (one t h) f ≡ cond t (Some h) f
 unfolding or_else
 one_or true h f = refl
 one_or false h f = refl

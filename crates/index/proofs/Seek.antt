@@ -7,8 +7,7 @@ use native.Mathlib.Omega.{arith}
 use lib.ListN.{length, take, drop, get_or}
 use Rattle.words.specs.Words.{size_of, eqs, fills}
 use Rattle.words.specs.Table.{Row, entries, starts, find_in, RowIn}
-use Rattle.words.specs.declared.Found.{Found}
-use Rattle.words.specs.declared.Found.TheVariants.{At, Nothing}
+use Rattle.std.specs.Prelude.{Option, Some, None}
 use Rattle.words.proofs.Grow.{or_else}
 use Rattle.index.specs.Digest.{bucket_of}
 use Rattle.index.specs.Chains.{newest_first, newest, link, Indexed}
@@ -18,9 +17,9 @@ use Rattle.index.proofs.Place.{place}
 use Rattle.index.proofs.Split.{newest_low, nowhere_in, Split, split}
 
 -- the lowest handle so far, 0: none
-unfoldable pub named : ℕ → Found
-named zero = Nothing
-named (suc h) = At (suc h)
+unfoldable pub named : ℕ → Option ℕ
+named zero = None
+named (suc h) = Some (suc h)
 
 -- The chain has come to `at`: what is left to search is `older`
 pub record Seek (u index e : List ℕ) (at low : ℕ) : Type 0 where
@@ -62,7 +61,7 @@ module _ (u index e : List ℕ) where
   named_or true (suc at) low z = refl
   named_or false at low z = refl
 
-  name_of : (low : ℕ) → (low ≡ 0 → ⊥) → named low ≡ At low
+  name_of : (low : ℕ) → (low ≡ 0 → ⊥) → named low ≡ Some low
   unfolding named
   name_of zero q = absurd (q refl)
   name_of (suc low) q = refl
@@ -72,11 +71,11 @@ module _ (u index e : List ℕ) where
     unfolding or_else
     seek_last z = s.found ∙ rw (nowhere_in n b s.older s.falling (s.is ∙ z) e refl)
 
-    pub seek_nothing : at ≡ 0 → low ≡ 0 → Nothing ≡ find_in u e
+    pub seek_nothing : at ≡ 0 → low ≡ 0 → None ≡ find_in u e
     unfolding named
     seek_nothing z q = sym (seek_last z ∙ rw q)
 
-    pub seek_at : at ≡ 0 → (low ≡ 0 → ⊥) → At low ≡ find_in u e
+    pub seek_at : at ≡ 0 → (low ≡ 0 → ⊥) → Some low ≡ find_in u e
     seek_at z q = sym (seek_last z ∙ name_of low q)
 
     module _ (some : at ≡ 0 → ⊥) where
@@ -112,7 +111,7 @@ module _ (u index e : List ℕ) where
             is = m;
             links = λ h p l. s.links h p (omega (arith, seek_falls)) ∙ cut.links h (omega (arith, seek_falls));
             found =
-                s.found ∙ ap (λ (f : Found). or_else f (named low)) (cut.search e refl)
+                s.found ∙ ap (λ (f : Option ℕ). or_else f (named low)) (cut.search e refl)
                 ∙ or_assoc (lowest cut.older e) (one (eqs cut.words e) at) (named low)
                 ∙ ap (or_else (lowest cut.older e)) (rw same-words (named_or t at low z) ∙ ap named (sym step));
             below = omega (arith, seek_falls, s.below);

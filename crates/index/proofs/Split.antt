@@ -9,7 +9,7 @@ use borrow.Author.Tests.{eq-eqb, ne_eqb, eqb-true, eqb-false}
 use lib.Dec.{eqb}
 use Rattle.words.specs.Words.{eqs}
 use Rattle.words.specs.Table.{Row, RowIn}
-use Rattle.words.specs.declared.Found.TheVariants.{Nothing}
+use Rattle.std.specs.Prelude.{None}
 use Rattle.words.proofs.Alike.{eqs_eq}
 use Rattle.words.proofs.Grow.{or_else}
 use Rattle.index.specs.Digest.{bucket_of}
@@ -35,12 +35,12 @@ module _ (n b : ℕ) where
       go false q = refl
 
   -- a bucket without handles has no row with these words
-  pub nowhere_in : {k : ℕ} (rs : List Row) → Falling k rs → newest n b rs ≡ 0 → (e : List ℕ) → bucket_of n e ≡ b → lowest rs e ≡ Nothing
+  pub nowhere_in : {k : ℕ} (rs : List Row) → Falling k rs → newest n b rs ≡ 0 → (e : List ℕ) → bucket_of n e ≡ b → lowest rs e ≡ None
   unfolding newest lowest or_else
   nowhere_in [] f z e in_b = refl
   nowhere_in (r ∷ rs) (more a h f) z e in_b = go (eqb (bucket_of n r.words) b) refl z (λ y. nowhere_in rs f y e in_b)
     where
-      go : (t : Bool) → eqb (bucket_of n r.words) b ≡ t → cond t r.at (newest n b rs) ≡ 0 → (newest n b rs ≡ 0 → lowest rs e ≡ Nothing) → or_else (lowest rs e) (one (eqs r.words e) r.at) ≡ Nothing
+      go : (t : Bool) → eqb (bucket_of n r.words) b ≡ t → cond t r.at (newest n b rs) ≡ 0 → (newest n b rs ≡ 0 → lowest rs e ≡ None) → or_else (lowest rs e) (one (eqs r.words e) r.at) ≡ None
       go true q y ih = absurd (omega arith)
       go false q y ih = rw (ih y, other r.words e q in_b)
 

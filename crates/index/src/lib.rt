@@ -12,7 +12,7 @@ ghost use Rattle.index.specs.Digest.{stirred, hash_from, slot_of, bucket_of};
 ghost use Rattle.index.specs.Chains.{added};
 ghost use Rattle.index.specs.Covers.{indexed_to, Covers, Blank, Opened};
 
-use words::{Found, Interned};
+use words::Interned;
 
 // The numbers of the hash (specs/Digest.antt).
 const HALF: u64 = 4294967296;
@@ -100,14 +100,14 @@ pub fn either(test: bool, a: usize, b: usize) -> usize
 
 // The lowest handle of an entry equal to `entry` among those in the index. A chain goes from the newest to the oldest, and copies stay in it: the
 // last equal entry is the lowest.
-fn search(old: &[u64], new: &[u64], used: usize, entry: &[u64], index: &[u64]) -> Found
+fn search(old: &[u64], new: &[u64], used: usize, entry: &[u64], index: &[u64]) -> Option<usize>
     requires segments { Segments old.now new.now used }
     requires covers { Covers (take used (old.now ++ new.now)) index.now }
     ensures { result ≡ find_in (take (indexed_to index.now) (take used (old.now ++ new.now))) entry.now }
 {
     let half = index.len() / 2;
     if half == 0 {
-        return Found::Nothing;
+        return None;
     }
     let b = bucket(half, entry);
     let mut at = index[b] as usize;
@@ -118,47 +118,47 @@ fn search(old: &[u64], new: &[u64], used: usize, entry: &[u64], index: &[u64]) -
         at = (index[half + at] - 1) as usize;
     }
     if lowest == 0 {
-        return Found::Nothing;
+        return None;
     }
-    Found::At(lowest)
+    Some(lowest)
 }
 
 // The lowest handle of an entry equal to `entry`.
-pub fn find(old: &[u64], new: &[u64], used: usize, entry: &[u64], index: &[u64]) -> Found
+pub fn find(old: &[u64], new: &[u64], used: usize, entry: &[u64], index: &[u64]) -> Option<usize>
     requires segments { Segments old.now new.now used }
     requires covers { Covers (take used (old.now ++ new.now)) index.now }
     ensures { result ≡ find_in (take used (old.now ++ new.now)) entry.now }
 {
-    let f = search(old, new, used, entry, index);
-    match f {
-        Found::At(h) => Found::At(h),
-        Found::Nothing => {
-            let rest = words::find(old, new, used, covered(index), entry);
-            let g = rest.found;
-            g
-        }
+    if let Some(h) = search(old, new, used, entry, index) {
+        return Some(h);
     }
+    words::find(old, new, used, covered(index), entry).found
 }
 
 // Hands back the lowest handle of an entry equal to `entry`, else appends it, where it fits.
-pub fn intern(old: &[u64], new: &mut [u64], used: usize, entry: &[u64], index: &[u64]) -> Interned
+pub fn intern(
+    old: &[u64],
+    new: &mut [u64],
+    used: usize,
+    entry: &[u64],
+    index: &[u64],
+) -> Option<Interned>
     requires segments { Segments old.now new.old used }
     requires covers { Covers (take used (old.now ++ new.old)) index.now }
     ensures { Runs (λ u. make u entry.now) old.now new.old used new.new result }
 {
-    let f = find(old, new, used, entry, index);
-    match f {
-        Found::At(h) => Interned::At(h, used),
-        Found::Nothing => {
-            let at = used - old.len();
-            if entry.len() <= new.len() - at {
-                words::write(&mut new[at..], entry);
-                Interned::At(used, used + entry.len())
-            } else {
-                Interned::Full
-            }
-        }
+    if let Some(handle) = find(old, new, used, entry, index) {
+        return Some(Interned { handle, used });
     }
+    let at = used - old.len();
+    if new.len() - at < entry.len() {
+        return None;
+    }
+    words::write(&mut new[at..], entry);
+    Some(Interned {
+        handle: used,
+        used: used + entry.len(),
+    })
 }
 
 // ---- making the index

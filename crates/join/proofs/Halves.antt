@@ -6,8 +6,9 @@ use native.Mathlib.Omega.{arith}
 use lib.ListN.{length, take, drop, get_or, length-drop}
 use lib.Seq.{length-take-le, length_front, take_at, drop_at, get_or-drop}
 use borrow.Rule.Slice.PartMut.{put_mid, same_len_mid}
+use Rattle.std.specs.Prelude.{Option, None}
+use Rattle.words.specs.Ran.{interned}
 use Rattle.words.specs.declared.Interned.{Interned}
-use Rattle.words.specs.declared.Interned.TheVariants.{At, Full}
 use Rattle.memo.proofs.Lines.{lines_none}
 use Rattle.later.specs.Later.{Later}
 use Rattle.later.proofs.Right.{lines_later}
@@ -48,7 +49,7 @@ module _ (m : List ℕ) (k : ℕ) (half : k ≡ length m / 2) where
       meets = rw (duals_length, sym half, drop_at d (drop k m) k duals_part) ms;
     }
 
-    pub duals_left : {old new' : List ℕ} {r : Interned} → RememberedWalks Dual old new' r d → RightAfter SettledMeet old new' r (take k (drop k m)) → Remembered old new' r (d ++ drop k m)
+    pub duals_left : {old new' : List ℕ} {r : Option Interned} → RememberedWalks Dual old new' r d → RightAfter SettledMeet old new' r (take k (drop k m)) → Remembered old new' r (d ++ drop k m)
     duals_left ds ms = record { is = λ h v e. duals_back (ds.is h v e) (ms.is h v e) }
 
   -- d came back in the place of the second half
@@ -90,9 +91,9 @@ pub remembers_later : {u v memory : List ℕ} → Later u v → Remembers u memo
 remembers_later x r = record { duals = lines_later (settled_stays Dual) x r.duals; meets = lines_later meets-stay x r.meets }
 
 -- nothing was appended
-pub remembered_same : {old new memory : List ℕ} {used h : ℕ} → Remembers (take used (old ++ new)) memory → Remembered old new (At h used) memory
+pub remembered_same : {old new memory : List ℕ} {used h : ℕ} → Remembers (take used (old ++ new)) memory → Remembered old new (interned h used) memory
 remembered_same {used = used} m = record { is = λ k v e. let q : used ≡ v = cc in rw (← q) m }
 
 -- nothing is promised where the store was full
-pub remembered_full : {old new' memory : List ℕ} → Remembered old new' Full memory
+pub remembered_full : {old new' memory : List ℕ} → Remembered old new' None memory
 remembered_full = record { is = λ h v e. let z : ◌≡◌ {A = ℕ} 0 1 = cc in absurd (omega arith) }

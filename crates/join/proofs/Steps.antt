@@ -11,8 +11,9 @@ use borrow.Rule.Slice.PartMut.{put_mid}
 use Rattle.words.specs.Words.{fills}
 use Rattle.words.specs.Made.{Grown}
 use Rattle.words.specs.Ran.{Ran, Runs}
+use Rattle.std.specs.Prelude.{Option, None}
+use Rattle.words.specs.Ran.{interned}
 use Rattle.words.specs.declared.Interned.{Interned}
-use Rattle.words.specs.declared.Interned.TheVariants.{At, Full}
 use Rattle.words.proofs.Extend.{Extends, ext_then}
 use Rattle.index.specs.Covers.{Covers}
 use Rattle.parts.specs.Parts.{Good, Part, Ready, ReadyOne}
@@ -51,7 +52,7 @@ with_grows u a b =
 -- ---- two steps
 
 -- the first operation gives g₁ of the used words, and left the answer m and the words `now`
-record First (old new : List ℕ) (used : ℕ) (g₁ : Grown) (now : List ℕ) (m : Interned) : Type 0 where
+record First (old new : List ℕ) (used : ℕ) (g₁ : Grown) (now : List ℕ) (m : Option Interned) : Type 0 where
   pub good : Good (take used (old ++ new))
   pub within : used ≤ length old + length new
   pub over : length old ≤ used
@@ -61,21 +62,21 @@ record First (old new : List ℕ) (used : ℕ) (g₁ : Grown) (now : List ℕ) (
   pub res : Answers (take used (old ++ new)) 33 1 11 g₁
   pub ran : Ran used g₁ (old ++ new) (old ++ now) m
 
-module _ {old new : List ℕ} {used : ℕ} {g₁ : Grown} {now : List ℕ} {m : Interned} (F : First old new used g₁ now m) where
+module _ {old new : List ℕ} {used : ℕ} {g₁ : Grown} {now : List ℕ} {m : Option Interned} (F : First old new used g₁ now m) where
   first : Grew old new used new used
   first = grew_none F.good F.within
 
-  step_full : m ≡ Full → (g₂ : Grown) → Extends g₁.words g₂.words → Ran used g₂ (old ++ new) (old ++ now) Full
+  step_full : m ≡ None → (g₂ : Grown) → Extends g₁.words g₂.words → Ran used g₂ (old ++ new) (old ++ now) None
   step_full f g₂ x = grew_stop first g₁ now m F.grows F.ran f g₂ x
 
-  module _ (h v : ℕ) (f : m ≡ At h v) where
+  module _ (h v : ℕ) (f : m ≡ interned h v) where
     on : Grew old new used now v
     on = grew_more first g₁ now m F.grows F.ran h v f F.res.adds
 
     are : (h ≡ g₁.handle) × (take v (old ++ now) ≡ g₁.words)
     are = grew_words first g₁ now m F.grows F.ran h v f
 
-    step_made : (op : List ℕ → ℕ → Grown) → ((w : List ℕ) (k : ℕ) → Extends w (op w k).words) → (now₂ : List ℕ) (o : Interned) → Ran v (op (take v (old ++ now)) h) (old ++ now) (old ++ now₂) o → Ran used (op g₁.words g₁.handle) (old ++ new) (old ++ now₂) o
+    step_made : (op : List ℕ → ℕ → Grown) → ((w : List ℕ) (k : ℕ) → Extends w (op w k).words) → (now₂ : List ℕ) (o : Option Interned) → Ran v (op (take v (old ++ now)) h) (old ++ now) (old ++ now₂) o → Ran used (op g₁.words g₁.handle) (old ++ new) (old ++ now₂) o
     step_made op op-grows now₂ o l = then_made first g₁ now m F.grows F.ran h v f on op op-grows now₂ o l
 
     -- the answer, and an operand of the first, in the words that grew
@@ -146,29 +147,29 @@ module _ (old new : List ℕ) (used a b : ℕ) (rd : Ready old new used 1 11 a b
   dual_answers : (x : ℕ) → Part u used 33 1 11 x → Answers u 33 1 11 (dual_of u x)
   dual_answers x p = (walk_nice Dual (suc x)).types u x 33 rd.good (part_below (suc x) (omega arith) p)
 
-  one : (g₁ : Grown) (now : List ℕ) (m : Interned) → Extends u g₁.words → Answers u 33 1 11 g₁ → Ran used g₁ (old ++ new) (old ++ now) m → First old new used g₁ now m
+  one : (g₁ : Grown) (now : List ℕ) (m : Option Interned) → Extends u g₁.words → Answers u 33 1 11 g₁ → Ran used g₁ (old ++ new) (old ++ now) m → First old new used g₁ now m
   one g₁ now m grows res ran = record { good = rd.good; within = rd.within; over = rd.over; small = rd.small; cut = rd.cut; grows = grows; res = res; ran = ran }
 
   -- meet, then dual
-  module _ (now : List ℕ) (m : Interned) (met : Met old new used a b now m) where
+  module _ (now : List ℕ) (m : Option Interned) (met : Met old new used a b now m) where
     met_first : First old new used (meet_of u a b) now m
     met_first =
         let k = suc (max a b) in
         one (meet_of u a b) now m (meet_grows k u a b) (meet_nice k u a b 33 rd.good (part_below k (omega arith) rd.first) (part_below k (omega arith) rd.second)) (met.is k (omega arith) (omega arith))
 
-    pub meet_full : m ≡ Full → Runs (λ w. dual_of_meet w a b) old new used now Full
+    pub meet_full : m ≡ None → Runs (λ w. dual_of_meet w a b) old new used now None
     meet_full f =
         let g = meet_of u a b in
         step_full met_first f (dual_of g.words g.handle) (walk_grows Dual (suc g.handle) g.words g.handle)
 
-    module _ (h v : ℕ) (f : m ≡ At h v) where
+    module _ (h v : ℕ) (f : m ≡ interned h v) where
       pub meet_ready : ReadyOne old now v h
       meet_ready = grown_ready met_first h v f
 
       pub meet_covers : {index : List ℕ} → Covers u index → Covers (take v (old ++ now)) index
       meet_covers = grown_covers met_first h v f
 
-      pub meet_dualled : (now₂ : List ℕ) (o : Interned) → Walked Dual old now v h now₂ o → Runs (λ w. dual_of_meet w a b) old new used now₂ o
+      pub meet_dualled : (now₂ : List ℕ) (o : Option Interned) → Walked Dual old now v h now₂ o → Runs (λ w. dual_of_meet w a b) old new used now₂ o
       meet_dualled now₂ o t =
           step_made met_first h v f
           dual_of (λ w k. walk_grows Dual (suc k) w k) now₂ o (t.is (suc h) (omega arith))
@@ -189,22 +190,22 @@ module _ (old new : List ℕ) (used a b : ℕ) (rd : Ready old new used 1 11 a b
         meet_remembers = lent_duals memory₁ k (meet_half memory d same) met_remembers
 
         -- and d₂ came back from the dual, in the place of that half
-        pub meet_remembered : {d₂ now₂ : List ℕ} {o : Interned} → length d₂ ≡ length (take k memory₁) → Walked Dual old now v h now₂ o → RememberedWalks Dual old now₂ o d₂ → Remembered old now₂ o (d₂ ++ drop k memory₁)
+        pub meet_remembered : {d₂ now₂ : List ℕ} {o : Option Interned} → length d₂ ≡ length (take k memory₁) → Walked Dual old now v h now₂ o → RememberedWalks Dual old now₂ o d₂ → Remembered old now₂ o (d₂ ++ drop k memory₁)
         meet_remembered {d₂} {now₂} {o} same₂ t ds =
             let w = take v (old ++ now) in
             duals_left memory₁ k (meet_half memory d same) d₂ same₂ ds (right_made meets-stay (one_segments meet_ready) (half_meets memory₁ k (meet_half memory d same) met_remembers) (dual_of w h) (walk_grows Dual (suc h) w h) (t.is (suc h) (omega arith)))
 
   -- the second dual, then those
-  module _ (now : List ℕ) (m : Interned) (t : Walked Dual old new used b now m) where
+  module _ (now : List ℕ) (m : Option Interned) (t : Walked Dual old new used b now m) where
     second : First old new used (dual_of u b) now m
     second = one (dual_of u b) now m (walk_grows Dual (suc b) u b) (dual_answers b rd.second) (t.is (suc b) (omega arith))
 
-    pub with_full : m ≡ Full → Runs (λ w. join_with w a b) old new used now Full
+    pub with_full : m ≡ None → Runs (λ w. join_with w a b) old new used now None
     with_full f =
         let g = dual_of u b in
         step_full second f (dual_of_meet g.words a g.handle) (dual_meet_grows g.words a g.handle)
 
-    module _ (h v : ℕ) (f : m ≡ At h v) where
+    module _ (h v : ℕ) (f : m ≡ interned h v) where
       pub with_ready : Ready old now v 1 11 a h
       with_ready =
           grown_two second h v f a h
@@ -217,26 +218,26 @@ module _ (old new : List ℕ) (used a b : ℕ) (rd : Ready old new used 1 11 a b
       pub with_remembers : {memory d : List ℕ} → Remembers u memory → length d ≡ length (take (length memory / 2) memory) → RememberedWalks Dual old now m d → Remembers (take v (old ++ now)) (d ++ drop (length memory / 2) memory)
       with_remembers = grown_duals second h v f
 
-      pub with_made : (now₂ : List ℕ) (o : Interned) → Runs (λ w. dual_of_meet w a h) old now v now₂ o → Runs (λ w. join_with w a b) old new used now₂ o
+      pub with_made : (now₂ : List ℕ) (o : Option Interned) → Runs (λ w. dual_of_meet w a h) old now v now₂ o → Runs (λ w. join_with w a b) old new used now₂ o
       with_made now₂ o l =
           step_made second h v f
           (λ w k. dual_of_meet w a k) (λ w k. dual_meet_grows w a k) now₂ o l
 
   -- "itself for one handle"
-  pub join_same : a ≡ b → Runs (λ w. join_of w a b) old new used new (At a used)
+  pub join_same : a ≡ b → Runs (λ w. join_of w a b) old new used new (interned a used)
   join_same e = let w : Grew old new used new used = grew_none rd.good rd.within in rw (eq-eqb a b e) (grew_there a w)
 
   -- the first dual, then those
-  module _ (ne : a ≡ b → ⊥) (now : List ℕ) (m : Interned) (t : Walked Dual old new used a now m) where
+  module _ (ne : a ≡ b → ⊥) (now : List ℕ) (m : Option Interned) (t : Walked Dual old new used a now m) where
     former : First old new used (dual_of u a) now m
     former = one (dual_of u a) now m (walk_grows Dual (suc a) u a) (dual_answers a rd.first) (t.is (suc a) (omega arith))
 
-    pub join_full : m ≡ Full → Runs (λ w. join_of w a b) old new used now Full
+    pub join_full : m ≡ None → Runs (λ w. join_of w a b) old new used now None
     join_full f =
         let g = dual_of u a in
         rw (ne_eqb a b ne) (step_full former f (join_with g.words g.handle b) (with_grows g.words g.handle b))
 
-    module _ (h v : ℕ) (f : m ≡ At h v) where
+    module _ (h v : ℕ) (f : m ≡ interned h v) where
       pub join_ready : Ready old now v 1 11 h b
       join_ready =
           grown_two former h v f h b
@@ -249,7 +250,7 @@ module _ (old new : List ℕ) (used a b : ℕ) (rd : Ready old new used 1 11 a b
       pub join_remembers : {memory d : List ℕ} → Remembers u memory → length d ≡ length (take (length memory / 2) memory) → RememberedWalks Dual old now m d → Remembers (take v (old ++ now)) (d ++ drop (length memory / 2) memory)
       join_remembers = grown_duals former h v f
 
-      pub join_made : (now₂ : List ℕ) (o : Interned) → Runs (λ w. join_with w h b) old now v now₂ o → Runs (λ w. join_of w a b) old new used now₂ o
+      pub join_made : (now₂ : List ℕ) (o : Option Interned) → Runs (λ w. join_with w h b) old now v now₂ o → Runs (λ w. join_of w a b) old new used now₂ o
       join_made now₂ o l =
           rw (ne_eqb a b ne) (step_made former h v f
           (λ w k. join_with w k b) (λ w k. with_grows w k b) now₂ o l)

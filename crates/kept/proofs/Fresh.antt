@@ -12,8 +12,7 @@ use lib.Dec.{eqb, ltb}
 use lib.ListN.{length, get_or, replicate, length-append, length-replicate}
 use Rattle.words.specs.Words.{words_after, size_of, fills, eqs}
 use Rattle.words.specs.Table.{Row, rows, entries, first_of, RowIn, Own}
-use Rattle.words.specs.declared.Found.{Found}
-use Rattle.words.specs.declared.Found.TheVariants.{At, Nothing}
+use Rattle.std.specs.Prelude.{Option, Some, None}
 use Rattle.bitset.specs.Bitset.{nowhere, also}
 use Rattle.wellformed.specs.Fresh.{fresh_words}
 use Rattle.wellformed.specs.Entry.{most_of, names_in, types_in, all, deepest, float_ok, zero_filled, values_ok, ok_entry}
@@ -80,9 +79,9 @@ each t (q ∷ rs) o r m =
 
 -- ---- no two of its entries are equal
 
-found : Found → ℕ → Bool
-found (At h) at = eqb h at
-found Nothing at = false
+found : Option ℕ → ℕ → Bool
+found (Some h) at = eqb h at
+found None at = false
 
 -- the row is the first with its words
 is_own : Row → Bool
@@ -92,9 +91,9 @@ pub fresh_own : (n : ℕ) → Own (entries (used_words (fresh_store n)))
 unfolding passed is_own found first_of eqs entries rows size_of words_after fresh_words
 fresh_own n r m = go (first_of (entries fresh_used) r.words) (each is_own (entries fresh_used) refl r m)
   where
-    go : (f : Found) → found f r.at ≡ true → f ≡ At r.at
-    go (At h) e = ap At (eqb-true h r.at e)
-    go Nothing e = let z : ◌≡◌ {A = ℕ} 0 1 = cc in absurd (omega arith)
+    go : (f : Option ℕ) → found f r.at ≡ true → f ≡ Some r.at
+    go (Some h) e = ap Some (eqb-true h r.at e)
+    go None e = let z : ◌≡◌ {A = ℕ} 0 1 = cc in absurd (omega arith)
 
 -- ---- the ends of its Ints are 64-bit words
 

@@ -11,8 +11,7 @@ use Rattle.words.specs.Words.{head_of, kind_of, count_of, words_after, size_of, 
 use Rattle.words.specs.Table.{rows, entries, first_of, find_in}
 use Rattle.words.specs.Ran.{HasSize}
 use Rattle.words.specs.Made.{Grown, there, make}
-use Rattle.words.specs.declared.Found.{Found}
-use Rattle.words.specs.declared.Found.TheVariants.{At, Nothing}
+use Rattle.std.specs.Prelude.{Option, Some, None}
 use Rattle.words.proofs.Alike.{eqs_refl}
 use Rattle.words.proofs.Grow.{or_else, first_append, rows_append}
 use Rattle.words.proofs.Extend.{Extends, ext_length, ext_word}
@@ -116,20 +115,20 @@ module _ {u v : List ℕ} (x : Later u v) where
 
 -- ---- an entry that was made is found again
 
-made_first : (u e : List ℕ) → Sound u → HasSize e → first_of (entries (make u e).words) e ≡ At (make u e).handle
+made_first : (u e : List ℕ) → Sound u → HasSize e → first_of (entries (make u e).words) e ≡ Some (make u e).handle
 unfolding find_in first_of or_else
 made_first u e s sized = go (find_in u e) refl
   where
-    go : (f : Found) → find_in u e ≡ f → first_of (entries (make u e).words) e ≡ At (make u e).handle
-    go (At h) q = rw (make_there u e h q) q
-    go Nothing q =
+    go : (f : Option ℕ) → find_in u e ≡ f → first_of (entries (make u e).words) e ≡ Some (make u e).handle
+    go (Some h) q = rw (make_there u e h q) q
+    go None q =
         let t = first_append (entries u) (record { at = length u; words = e } ∷ []) e in
         rw (make_new u e q, entries_append u e s.low s.full sized) (t ∙ rw (q, eqs_refl e))
 
 pub make_again : {u v : List ℕ} (e : List ℕ) → Sound u → HasSize e → Later (make u e).words v → make v e ≡ there v (make u e).handle
 unfolding find_in or_else
 make_again {u} {v} e s sized x =
-    let f : first_of (entries v) e ≡ At (make u e).handle = rw x.rows (first_append (entries (make u e).words) x.extra e ∙ rw (made_first u e s sized)) in
+    let f : first_of (entries v) e ≡ Some (make u e).handle = rw x.rows (first_append (entries (make u e).words) x.extra e ∙ rw (made_first u e s sized)) in
     make_there v e (make u e).handle f
 
 pub sized_of : (k d n : ℕ) (t : List ℕ) → k < 256 → d < 256 → length t ≡ words_after k n → HasSize (head_of k d n ∷ t)

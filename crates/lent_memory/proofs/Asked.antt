@@ -12,8 +12,9 @@ use lib.ListN.{length, take, drop}
 use lib.Seq.{length-take-le, take-take}
 use Rattle.words.specs.Made.{Grown}
 use Rattle.words.specs.Ran.{Ran}
+use Rattle.std.specs.Prelude.{Option, Some, None}
+use Rattle.words.specs.Ran.{interned}
 use Rattle.words.specs.declared.Interned.{Interned}
-use Rattle.words.specs.declared.Interned.TheVariants.{At, Full}
 use Rattle.words.proofs.Extend.{ext_length}
 use Rattle.words.proofs.Room.{fitted, overflowed}
 use Rattle.index.specs.Covers.{Covers}
@@ -65,15 +66,15 @@ module _ {ws : List ℕ} {used a b : ℕ} (rd : Ready [] ws used 1 11 a b) where
   abbrev g : Grown
   g = meet_of u a b
 
-  module _ (new' : List ℕ) (r : Interned) (met : Met u [] used a b new' r) where
+  module _ (new' : List ℕ) (r : Option Interned) (met : Met u [] used a b new' r) where
     ran : Ran used g (u ++ []) (u ++ new') r
     ran = let m = met.is (suc (max a b)) (omega arith) (omega arith) in rw read at m
 
-    pub isa_at : (h v : ℕ) → r ≡ At h v → eqb h b ≡ isa_of u a b
+    pub isa_at : (h v : ℕ) → r ≡ interned h v → eqb h b ≡ isa_of u a b
     isa_at h v e = ap (λ (k : ℕ). eqb k b) (fitted used g (u ++ []) (u ++ new') r ran h v e).handle
 
     -- an answer that would have to be appended is no old handle
-    pub isa_full : r ≡ Full → false ≡ isa_of u a b
+    pub isa_full : r ≡ None → false ≡ isa_of u a b
     isa_full e =
         let more = overflowed used g (u ++ []) (u ++ new') r ran e in
         let n = ap length (append-nil u) in
@@ -88,20 +89,22 @@ module _ {ws : List ℕ} {used a b : ℕ} (rd : Ready [] ws used 1 11 a b) where
     unfolding second
     isa_second x is = go r refl is
       where
-        go : (s : Interned) → r ≡ s → x ≡ second s b → x ≡ isa_of u a b
-        go (At h v) e q = q ∙ isa_at h v e
-        go Full e q = q ∙ isa_full e
+        go : (s : Option Interned) → r ≡ s → x ≡ second s b → x ≡ isa_of u a b
+        go (Some m) e q = q ∙ isa_at m.handle m.used e
+        go None e q = q ∙ isa_full e
 
     -- and the memory, in which d came back from meet, is right for the words as they were
     pub isa_right : length new' ≡ 0 → {memory : List ℕ} → Right u memory → {d : List ℕ} → Remembered u new' r d → length d ≡ length (take (2 * (length memory / 6) - length memory / 6) (drop (length memory / 6) memory))
         → Right u (put_mid (length memory / 6) (2 * (length memory / 6) - length memory / 6) memory d)
     isa_right z {memory} right {d} m long = go r refl
       where
-        go : (s : Interned) → r ≡ s → Right u (put_mid (length memory / 6) (2 * (length memory / 6) - length memory / 6) memory d)
-        go (At h v) e =
+        go : (s : Option Interned) → r ≡ s → Right u (put_mid (length memory / 6) (2 * (length memory / 6) - length memory / 6) memory d)
+        go (Some s) e =
+            let h = s.handle in
+            let v = s.used in
             let there = (met_lent ask_ready (ask_right right) met m.after long).1.is h v e in
             let f = fitted used g (u ++ []) (u ++ new') r ran h v e in
             let more = ext_length u g.words (meet_grows (suc (max a b)) u a b) in
             let q : take v (u ++ new') ≡ u = still_old u new' v (omega (arith, f.end)) z in
             rw q at there
-        go Full e = right_meets right (put 1 (omega arith) memory (length memory / 6) (2 * (length memory / 6)) (omega arith) (omega arith) d long) (m.full e z)
+        go None e = right_meets right (put 1 (omega arith) memory (length memory / 6) (2 * (length memory / 6)) (omega arith) (omega arith) d long) (m.full e z)

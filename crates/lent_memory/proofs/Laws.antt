@@ -11,6 +11,7 @@ use lib.Seq.{get_or-take, get_or-drop}
 use Rattle.bitset.proofs.Bit.{none}
 use Rattle.words.specs.Made.{Grown}
 use Rattle.words.specs.Ran.{Segments, Ran}
+use Rattle.std.specs.Prelude.{Option}
 use Rattle.words.specs.declared.Interned.{Interned}
 use Rattle.words.proofs.Extend.{Extends}
 use Rattle.words.proofs.Zeros.{zeros}
@@ -145,11 +146,11 @@ module _ {u memory d memory' : List ℕ} (r : Right u memory) where
 -- ---- after an operation
 
 -- one that left the memory alone
-pub then_kept : {old new memory : List ℕ} {used : ℕ} → Segments old new used → Right (take used (old ++ new)) memory → (g : Grown) → Extends (take used (old ++ new)) g.words → (new' : List ℕ) {r : Interned} → Ran used g (old ++ new) (old ++ new') r → RightThen old new' r memory
+pub then_kept : {old new memory : List ℕ} {used : ℕ} → Segments old new used → Right (take used (old ++ new)) memory → (g : Grown) → Extends (take used (old ++ new)) g.words → (new' : List ℕ) {r : Option Interned} → Ran used g (old ++ new) (old ++ new') r → RightThen old new' r memory
 then_kept s m g x new' ran = record { is = λ h v e. right_later (made_later s g x new' ran h v e) m }
 
 -- one that was lent a part
-module _ {old new' memory d memory' : List ℕ} {r : Interned} (t : RightThen old new' r memory) where
+module _ {old new' memory d memory' : List ℕ} {r : Option Interned} (t : RightThen old new' r memory) where
   pub then_walks : (walk : Walk) → Put (part_of walk) memory d memory' → RightAfter (SettledWalk walk) old new' r d → RightThen old new' r memory'
   then_walks walk p m = record { is = λ h v e. right_walks (t.is h v e) walk p (m.is h v e) }
 

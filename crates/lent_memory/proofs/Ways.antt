@@ -8,14 +8,13 @@ use borrow.Rule.Slice.PartMut.{put_mid}
 use lib.ListN.{length, take, drop, length-append}
 use lib.Seq.{length-take-le}
 use Rattle.words.specs.Ran.{Runs}
+use Rattle.std.specs.Prelude.{Option, Some}
+use Rattle.words.specs.Ran.{interned}
 use Rattle.words.specs.declared.Interned.{Interned}
-use Rattle.words.specs.declared.Interned.TheVariants.{At}
 use Rattle.words.proofs.Extend.{Extends, ext_by}
 use Rattle.parts.specs.Parts.{Ready, ReadyOne}
 use Rattle.parts.proofs.Good.{part_weak, ready_segments, one_segments}
 use Rattle.memo.specs.Memo.{Lines, Tells, Learned}
-use Rattle.memo.specs.declared.Recalled.{Recalled}
-use Rattle.memo.specs.declared.Recalled.TheVariants.{Is as Recalled-as-Is}
 use Rattle.later.specs.Right.{RightAfter}
 use Rattle.meet.specs.Meet.{meet_of}
 use Rattle.meet.specs.Met.{Met}
@@ -90,7 +89,7 @@ module _ {u memory : List ℕ} (right : Right u memory) where
 
 -- ---- meet
 
-module _ {old new memory : List ℕ} {used a b : ℕ} (rd : Ready old new used 1 11 a b) (right : Right (take used (old ++ new)) memory) {new' : List ℕ} {r : Interned} (met : Met old new used a b new' r) where
+module _ {old new memory : List ℕ} {used a b : ℕ} (rd : Ready old new used 1 11 a b) (right : Right (take used (old ++ new)) memory) {new' : List ℕ} {r : Option Interned} (met : Met old new used a b new' r) where
   met_runs : Runs (λ u. meet_of u a b) old new used new' r
   met_runs = met.is (suc (max a b)) (omega arith) (omega arith)
 
@@ -108,7 +107,7 @@ module _ {old new memory : List ℕ} {used a b : ℕ} (rd : Ready old new used 1
 
 -- ---- join
 
-module _ {old new memory : List ℕ} {used a b : ℕ} (rd : Ready old new used 1 11 a b) (right : Right (take used (old ++ new)) memory) (new' : List ℕ) {r : Interned} (runs : Runs (λ u. join_of u a b) old new used new' r) where
+module _ {old new memory : List ℕ} {used a b : ℕ} (rd : Ready old new used 1 11 a b) (right : Right (take used (old ++ new)) memory) (new' : List ℕ) {r : Option Interned} (runs : Runs (λ u. join_of u a b) old new used new' r) where
   join_grows : Extends (take used (old ++ new)) (join_of (take used (old ++ new)) a b).words
   join_grows =
       let u = take used (old ++ new) in
@@ -132,7 +131,7 @@ module _ {old new memory : List ℕ} {used a : ℕ} (rd : ReadyOne old new used 
   abbrev k : ℕ
   k = length memory / 6
 
-  module _ {op : Walk} {new' : List ℕ} {r : Interned} (walked : Walked op old new used a new' r) where
+  module _ {op : Walk} {new' : List ℕ} {r : Option Interned} (walked : Walked op old new used a new' r) where
     walked_runs : Runs (λ u. walk_of op u a) old new used new' r
     walked_runs = walked.is (suc a) (omega arith)
 
@@ -152,7 +151,7 @@ module _ {old new memory : List ℕ} {used a : ℕ} (rd : ReadyOne old new used 
         (walked_runs, then_walks walked_kept op q₁ m)
 
   -- make_ro
-  module _ {new' : List ℕ} {r : Interned} (made : MadeRo old new used a new' r) where
+  module _ {new' : List ℕ} {r : Option Interned} (made : MadeRo old new used a new' r) where
     ro_runs : Runs (λ u. make_ro_of u a) old new used new' r
     ro_runs = made.is (suc a) (omega arith)
 
@@ -169,23 +168,23 @@ module _ {old new memory : List ℕ} {used a : ℕ} (rd : ReadyOne old new used 
     ro_lent {d} m long = (ro_runs, then_ros ro_kept (put 4 (omega arith) memory (4 * k) (5 * k) (omega arith) (omega arith) d long) m)
 
     -- with a memory of its own and the lent set, and the answer noted
-    pub ro_large : {d : List ℕ} → ((h v : ℕ) → r ≡ At h v → Knows (take v (old ++ new')) d) → length d ≡ length (take (6 * k - 5 * k) (drop (5 * k) memory))
+    pub ro_large : {d : List ℕ} → ((h v : ℕ) → r ≡ interned h v → Knows (take v (old ++ new')) d) → length d ≡ length (take (6 * k - 5 * k) (drop (5 * k) memory))
         → {lines : List ℕ} → Learned (take (5 * k - 4 * k) (drop (4 * k) (put_mid (5 * k) (6 * k - 5 * k) memory d))) a r lines
         → length lines ≡ length (take (5 * k - 4 * k) (drop (4 * k) (put_mid (5 * k) (6 * k - 5 * k) memory d)))
-        → (o : Interned) → o ≡ r → Runs (λ u. make_ro_of u a) old new used new' o × RightThen old new' o (put_mid (4 * k) (5 * k - 4 * k) (put_mid (5 * k) (6 * k - 5 * k) memory d) lines)
+        → (o : Option Interned) → o ≡ r → Runs (λ u. make_ro_of u a) old new used new' o × RightThen old new' o (put_mid (4 * k) (5 * k - 4 * k) (put_mid (5 * k) (6 * k - 5 * k) memory d) lines)
     ro_large {d} knows long {lines} learned same o is =
         let m = put_mid (5 * k) (6 * k - 5 * k) memory d in
         let n : length m ≡ length memory = put_long memory d (5 * k) (6 * k) (omega arith) (omega arith) long in
         let five = put 5 (omega arith) memory (5 * k) (6 * k) (omega arith) (omega arith) d long in
         let four = put 4 (omega arith) m (4 * k) (5 * k) (omega (arith, n)) (omega (arith, n)) lines same in
         let there = lent 4 (omega arith) m (4 * k) (5 * k) (omega (arith, n)) (omega (arith, n)) in
-        let right₁ : (h v : ℕ) → r ≡ At h v → Right (take v (old ++ new')) m = λ h v e. right_finals (ro_kept.is h v e) five (knows h v e) in
+        let right₁ : (h v : ℕ) → r ≡ interned h v → Right (take v (old ++ new')) m = λ h v e. right_finals (ro_kept.is h v e) five (knows h v e) in
         let known : Remembered old new' r (take (5 * k - 4 * k) (drop (4 * k) m)) d = record { is = λ h v e. record { lines = rw there (right₁ h v e).ros; finals = knows h v e } } in
         let got = made_noted rd (λ some. refl) made known learned o is in
         (got.0.is (suc a) (omega arith), record { is = λ h v e. right_ros (right₁ h v (sym is ∙ e)) four (got.1.is h v e).lines })
 
   -- an answer that is remembered
-  pub ro_known : {line : Recalled} → Tells (take (5 * k - 4 * k) (drop (4 * k) memory)) a line → (h : ℕ) → line ≡ Recalled-as-Is h → Runs (λ u. make_ro_of u a) old new used new (At h used) × RightThen old new (At h used) memory
+  pub ro_known : {line : Option ℕ} → Tells (take (5 * k - 4 * k) (drop (4 * k) memory)) a line → (h : ℕ) → line ≡ Some h → Runs (λ u. make_ro_of u a) old new used new (interned h used) × RightThen old new (interned h used) memory
   ro_known t h e =
       let u = take used (old ++ new) in
       ro_own (made_known rd (λ some. refl) (record { lines = ros_lent right; finals = knows_blank u 0 }) t h e).0

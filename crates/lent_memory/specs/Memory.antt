@@ -1,8 +1,9 @@
 -- A lent memory in which the answers of all operations live on. It is one list in six equal parts, one for each kind of answer; words behind the sixth
 -- part, at most five, are not asked. `u` is the used words.
 use Rattle.std.specs.Prelude.{◌≡◌, List, ◌++◌, ℕ, ◌*◌, ◌/◌, length, take, drop}
+use Rattle.std.specs.Prelude.{Option}
+use Rattle.words.specs.Ran.{interned}
 use Rattle.words.specs.declared.Interned.{Interned}
-use Rattle.words.specs.declared.Interned.TheVariants.{At}
 use Rattle.memo.specs.Memo.{Lines}
 use Rattle.meet_types.specs.Remembered.{Remembers as RemembersMeets}
 use Rattle.walk_rules.specs.declared.Walk.TheVariants.{Dual, Glb, Lub}
@@ -28,5 +29,5 @@ pub record Right (u memory : List ℕ) : Type 0 where
 
 -- what an operation leaves of a memory: where its answer fitted, one that is right for the used words as they are then; where the store was full, nothing
 -- is promised
-pub record RightThen (old new' : List ℕ) (r : Interned) (memory' : List ℕ) : Type 0 where
-  pub is : (h v : ℕ) → r ≡ At h v → Right (take v (old ++ new')) memory'
+pub record RightThen (old new' : List ℕ) (r : Option Interned) (memory' : List ℕ) : Type 0 where
+  pub is : (h v : ℕ) → r ≡ interned h v → Right (take v (old ++ new')) memory'

@@ -6,6 +6,7 @@ use Prim.Native.Nat.{ℕ, zero, suc, ◌≤◌}
 use native.Mathlib.Omega.{arith}
 use lib.ListN.{length, take, replicate, length-replicate}
 use Rattle.words.specs.Ran.{Ran}
+use Rattle.std.specs.Prelude.{Option}
 use Rattle.words.specs.declared.Interned.{Interned}
 use Rattle.wellformed.specs.Entry.{all, is_flag}
 use Rattle.structs.specs.Remade.{remake}
@@ -31,5 +32,5 @@ module _ (types finals : List ℕ) (m : ℕ) (few : length types ≤ m) (is : fi
   pub ones_fit : all is_flag (take (length types) finals) ≡ true
   ones_fit = rw front (ones_flags (length types))
 
-  pub made_final : (a : ℕ) (u : List ℕ) (kept : ℕ) (ws ws' : List ℕ) (r : Interned) → Ran kept (remake a types (take (length types) finals) u) ws ws' r → Ran kept (remake a types (replicate (length types) 1) u) ws ws' r
+  pub made_final : (a : ℕ) (u : List ℕ) (kept : ℕ) (ws ws' : List ℕ) (r : Option Interned) → Ran kept (remake a types (take (length types) finals) u) ws ws' r → Ran kept (remake a types (replicate (length types) 1) u) ws ws' r
   made_final a u kept ws ws' r ran = rw front at ran

@@ -5,8 +5,9 @@ use Prim.Native.Nat.{ℕ, ◌+◌, ◌-◌, ◌*◌, ◌≤◌, ◌<◌}
 use native.Mathlib.Omega.{arith}
 use lib.ListN.{length, take, get_or, set}
 use Rattle.words.specs.Ran.{Segments, Ran}
+use Rattle.std.specs.Prelude.{Option, None}
+use Rattle.words.specs.Ran.{interned}
 use Rattle.words.specs.declared.Interned.{Interned}
-use Rattle.words.specs.declared.Interned.TheVariants.{At, Full}
 use Rattle.words.specs.Columns.{every, word}
 use Rattle.parts.specs.Parts.{Part, All, ReadyOne}
 use Rattle.parts.proofs.Good.{good_adds}
@@ -73,29 +74,29 @@ module _ {old new : List ℕ} {used a n : ℕ} {now types : List ℕ} {v i : ℕ
     going_next = (part_t.earlier, turn_ready J.turn J.inside part_t)
 
     -- what the field's call left
-    module _ {now' : List ℕ} {r : Interned} (made : FieldRo old now v value t now' r) where
+    module _ {now' : List ℕ} {r : Option Interned} (made : FieldRo old now v value t now' r) where
       told : (k : ℕ) → a ≤ k → Ran v ((fields_of n a w₀).step k i w) (old ++ now) (old ++ now') r
       unfolding fields_of
       told k l = rw (is_type, is_value) at (made.is k (omega (arith, part_t.earlier)))
 
-      pub going_stop : r ≡ Full → (k : ℕ) → a ≤ k → Ran used (read_only_struct_of a (every_type k)) (old ++ new) (old ++ now') Full
+      pub going_stop : r ≡ None → (k : ℕ) → a ≤ k → Ran used (read_only_struct_of a (every_type k)) (old ++ new) (old ++ now') None
       going_stop f k ka = rw (whole k) at (turn_stop J.turn more now' r told f (read_only_struct_of a) (struct_grows a) k ka)
 
-      pub going_turn : (h v' : ℕ) → r ≡ At h v' → i < length types → GoingRo old new used a n now' (set types i h) v' (i + 1)
+      pub going_turn : (h v' : ℕ) → r ≡ interned h v' → i < length types → GoingRo old new used a n now' (set types i h) v' (i + 1)
       unfolding fields_of
       going_turn h v' f l =
           let res = field_nice (make_ro_within a) a (make_ro_nice a) w value t 33 (good_adds J.turn.grew.start J.turn.grew.adds) (turn_part J.turn a (omega arith) part_t) in
           record { turn = turn_on J.turn more now' r told (rw (is_type, is_value) at res.adds) h v' f l; inside = J.inside; parts = J.parts }
 
       -- its handle is that of an entry of the store
-      pub going_small : (h v' : ℕ) → r ≡ At h v' → h < 1048576
+      pub going_small : (h v' : ℕ) → r ≡ interned h v' → h < 1048576
       unfolding fields_of
       going_small h v' f =
           let res = field_nice (make_ro_within a) a (make_ro_nice a) w value t 33 (good_adds J.turn.grew.start J.turn.grew.adds) (turn_part J.turn a (omega arith) part_t) in
           turn_small J.turn more now' r told (rw (is_type, is_value) at res.adds) (rw (is_type, is_value) at res.part.earlier) h v' f
 
   -- the last field is done
-  pub going_end : n ≤ i → i ≤ n → (now' : List ℕ) (r : Interned) → Ran v (read_only_struct_of a (record { words = w; handles = take n types })) (old ++ now) (old ++ now') r → (k : ℕ) → a ≤ k → Ran used (read_only_struct_of a (every_type k)) (old ++ new) (old ++ now') r
+  pub going_end : n ≤ i → i ≤ n → (now' : List ℕ) (r : Option Interned) → Ran v (read_only_struct_of a (record { words = w; handles = take n types })) (old ++ now) (old ++ now') r → (k : ℕ) → a ≤ k → Ran used (read_only_struct_of a (every_type k)) (old ++ new) (old ++ now') r
   going_end lo hi now' r t k ka = rw (whole k) at (turn_end J.turn lo hi (read_only_struct_of a) (struct_grows a) now' r t k ka)
 
   -- what the maker at the loop's end requires

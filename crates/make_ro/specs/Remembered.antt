@@ -1,8 +1,9 @@
 -- What a memory of make_ro holds: answers that are settled; beside it stands a set of types that are known to be final. `u` is the used words.
 use Rattle.std.specs.Prelude.{◌≡◌, List, ◌++◌, ℕ, ◌<◌, take}
 use Rattle.words.specs.Made.{there}
+use Rattle.std.specs.Prelude.{Option}
+use Rattle.words.specs.Ran.{interned}
 use Rattle.words.specs.declared.Interned.{Interned}
-use Rattle.words.specs.declared.Interned.TheVariants.{At}
 use Rattle.later.specs.Later.{Later}
 use Rattle.memo.specs.Memo.{Lines}
 use Rattle.finals.specs.Known.{Knows}
@@ -18,5 +19,5 @@ pub record Remembers (u memo known : List ℕ) : Type 0 where
   pub finals : Knows u known
 
 -- what the functions leave of both: where the answer fitted, they are right for the used words as they are then
-pub record Remembered (old new' : List ℕ) (r : Interned) (memo' known' : List ℕ) : Type 0 where
-  pub is : (h v : ℕ) → r ≡ At h v → Remembers (take v (old ++ new')) memo' known'
+pub record Remembered (old new' : List ℕ) (r : Option Interned) (memo' known' : List ℕ) : Type 0 where
+  pub is : (h v : ℕ) → r ≡ interned h v → Remembers (take v (old ++ new')) memo' known'

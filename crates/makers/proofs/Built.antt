@@ -13,6 +13,7 @@ use Rattle.words.specs.Words.{depth_of}
 use Rattle.type_float.specs.Float.{word_of}
 use Rattle.words.specs.Made.{make}
 use Rattle.words.specs.Ran.{Ran}
+use Rattle.std.specs.Prelude.{Option}
 use Rattle.words.specs.declared.Interned.{Interned}
 use Rattle.wellformed.specs.Entry.{deepest}
 use Rattle.words.specs.Columns.{word}
@@ -21,7 +22,7 @@ use Rattle.makers.specs.Entries.{float_entry, tuple_entry, pointer_entry, memory
 pub front_of : (l x a : List ℕ) → a ≡ l ++ x → (n : ℕ) → n ≡ length l → take n a ≡ l
 front_of l x a is n len = rw is (take_at l x n (sym len))
 
-module _ (kept : ℕ) (u ws ws' : List ℕ) (r : Interned) where
+module _ (kept : ℕ) (u ws ws' : List ℕ) (r : Option Interned) where
   pub tuple_made : (types a x : List ℕ) (d : ℕ) → d ≡ deepest (word u) types → a ≡ ((7 + 256 * (1 + d) + 65536 * length types) ∷ types) ++ x
       → Ran kept (make u (take (1 + length types) a)) ws ws' r → Ran kept (make u (tuple_entry types u)) ws ws' r
   tuple_made types a x d deep is ran =

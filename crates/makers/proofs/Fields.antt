@@ -13,6 +13,7 @@ use Rattle.words.specs.Words.{depth_of}
 use Rattle.words.proofs.Written.{written_on, written_all}
 use Rattle.words.specs.Made.{make}
 use Rattle.words.specs.Ran.{Ran}
+use Rattle.std.specs.Prelude.{Option}
 use Rattle.words.specs.declared.Interned.{Interned}
 use Rattle.wellformed.specs.Entry.{all, is_flag, is_alias, deepest}
 use Rattle.words.specs.Columns.{every, word}
@@ -135,7 +136,7 @@ pub struct_built : (dst fs d : List ℕ) (head name : ℕ) → 2 + 3 * (length f
     → set (set (put_mid 2 (length dst - 2) dst d) 1 name) 0 head ≡ (head ∷ name ∷ field_words (length fs / 4) 0 fs) ++ drop (2 + 3 * (length fs / 4)) dst
 struct_built dst fs d head name h e = struct_all dst (field_words (length fs / 4) 0 fs) d head name (3 * (length fs / 4)) (sym (fields_length (length fs / 4) 0 fs)) h e
 
-pub struct_made : (kept : ℕ) (u ws ws' : List ℕ) (r : Interned) (name : ℕ) (fs a x : List ℕ) (d : ℕ) → d ≡ deepest (word u) (field_types fs)
+pub struct_made : (kept : ℕ) (u ws ws' : List ℕ) (r : Option Interned) (name : ℕ) (fs a x : List ℕ) (d : ℕ) → d ≡ deepest (word u) (field_types fs)
     → a ≡ ((8 + 256 * (1 + d) + 65536 * (length fs / 4)) ∷ name ∷ field_words (length fs / 4) 0 fs) ++ x
     → Ran kept (make u (take (2 + 3 * (length fs / 4)) a)) ws ws' r → Ran kept (make u (struct_entry name fs u)) ws ws' r
 struct_made kept u ws ws' r name fs a x d deep is ran =

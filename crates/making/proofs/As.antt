@@ -1,6 +1,7 @@
 -- A call that is known to be one of the values, and `run` of each: its rows, then its operation. Assumes nothing.
 use Rattle.std.proofs.Common.{◌≡◌, ℕ, suc, ◌^◌, ◌<◌, true, ◌&&◌, List, [], ◌∷◌, get_or, refl, lt-ltb}
 use Rattle.words.specs.Ran.{Ran}
+use Rattle.std.specs.Prelude.{Option}
 use Rattle.words.specs.declared.Interned.{Interned}
 use Rattle.call.specs.Call.{call}
 use Rattle.walk_rules.specs.declared.Walk.{Walk}
@@ -38,7 +39,7 @@ module _ {m n : Making} (is : m ≡ n) (list text : List ℕ) where
   pub as_cleared : {old new : List ℕ} {used : ℕ} → Cleared (rows_of m list text) old new used → Cleared (rows_of n list text) old new used
   as_cleared c = rw is at c
 
-  pub as_ran : (u : List ℕ) {used : ℕ} {ws ws' : List ℕ} {r : Interned} → Ran used (op_of n list text u) ws ws' r → Ran used (op_of m list text u) ws ws' r
+  pub as_ran : (u : List ℕ) {used : ℕ} {ws ws' : List ℕ} {r : Option Interned} → Ran used (op_of n list text u) ws ws' r → Ran used (op_of m list text u) ws ws' r
   as_ran u ran = rw is ran
 
   pub as_typed : typed (appended n list text) ≡ true → typed (appended m list text) ≡ true

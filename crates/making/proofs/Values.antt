@@ -3,6 +3,7 @@ use Rattle.std.proofs.Common.{◌≡◌, ℕ, ◌+◌, ◌%◌, ◌^◌, ◌<◌
 use borrow.Author.Tests.{not-true, not-false}
 use Rattle.words.specs.Made.{make}
 use Rattle.words.specs.Ran.{Ran}
+use Rattle.std.specs.Prelude.{Option}
 use Rattle.words.specs.declared.Interned.{Interned}
 use Rattle.type_float.specs.Float.{size_from, word_of, is_size_word, is_size}
 use Rattle.type_float.proofs.Size.{word_size, size_ok}
@@ -12,7 +13,7 @@ use Rattle.call.specs.Call.{◌when◌}
 use Rattle.makers.specs.Entries.{float_entry, stored_size}
 use Rattle.makers.proofs.FloatSize.{size_word}
 
-pub plain_name : (name u : List ℕ) {kept : ℕ} {ws ws' : List ℕ} {r : Interned} → Ran kept (make u (name_entry (wrapped false name))) ws ws' r → Ran kept (make u (name_entry name)) ws ws' r
+pub plain_name : (name u : List ℕ) {kept : ℕ} {ws ws' : List ℕ} {r : Option Interned} → Ran kept (make u (name_entry (wrapped false name))) ws ws' r → Ran kept (make u (name_entry name)) ws ws' r
 unfolding wrapped
 plain_name name u ran = ran
 
@@ -24,6 +25,6 @@ module _ (sz bits size : ℕ) (is : size ≡ (sz + 64) % 2 ^ 64) where
     pub size_fits : (z : ℤ) → z ≡ size_from size → is_size z ≡ true
     size_fits z e = rw e (size_ok size size_known)
 
-    pub float_stored : (z : ℤ) → z ≡ size_from size → (u : List ℕ) {kept : ℕ} {ws ws' : List ℕ} {r : Interned} → Ran kept (make u (float_entry (word_of z) bits)) ws ws' r
+    pub float_stored : (z : ℤ) → z ≡ size_from size → (u : List ℕ) {kept : ℕ} {ws ws' : List ℕ} {r : Option Interned} → Ran kept (make u (float_entry (word_of z) bits)) ws ws' r
         → Ran kept (make u (float_entry (stored_size sz) bits)) ws ws' r
     float_stored z e u ran = let q : word_of z ≡ stored_size sz = ap word_of e ∙ word_size size size_known ∙ is in rw q at ran

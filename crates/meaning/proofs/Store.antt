@@ -13,7 +13,7 @@ use Rattle.words.specs.Words.{size_of, kind_of}
 use Rattle.words.specs.Table.{Row, entries, starts, RowIn, Own, first_of}
 use Rattle.words.specs.Ran.{HasSize}
 use Rattle.words.specs.Made.{Grown, make}
-use Rattle.words.specs.declared.Found.TheVariants.{At}
+use Rattle.std.specs.Prelude.{Some}
 use Rattle.words.proofs.Kept.{make_in}
 use Rattle.wellformed.specs.Entry.{kind}
 use Rattle.words.specs.Columns.{every, word, kind_on, depth_on, count_on}
@@ -56,7 +56,7 @@ typed_struct g p = typed g (record { entry = p.entry; earlier = p.earlier; least
 -- ---- the row of a handle
 
 pub same_handle : (rs : List Row) (r s : Row) → Own rs → RowIn r rs → RowIn s rs → r.words ≡ s.words → r.at ≡ s.at
-same_handle rs r s own i j e = let q : At r.at ≡ At s.at = sym (own r i) ∙ ap (first_of rs) e ∙ own s j in cc
+same_handle rs r s own i j e = let q : Some r.at ≡ Some s.at = sym (own r i) ∙ ap (first_of rs) e ∙ own s j in cc
 
 -- the words of the entry at h, read off the used words
 pub row_words : {u : List ℕ} → Good u → (r : Row) → RowIn r (entries u) → (h : ℕ) → r.at ≡ h → r.words ≡ every 1 (size_of (word u h)) h u

@@ -10,8 +10,9 @@ use lib.Seq.{take-suc-set, append_snoc}
 use Rattle.words.specs.Words.{fills}
 use Rattle.words.specs.Made.{Grown}
 use Rattle.words.specs.Ran.{Segments, Ran}
+use Rattle.std.specs.Prelude.{Option, None}
+use Rattle.words.specs.Ran.{interned}
 use Rattle.words.specs.declared.Interned.{Interned}
-use Rattle.words.specs.declared.Interned.TheVariants.{At, Full}
 use Rattle.words.proofs.Extend.{Extends, ext_then}
 use Rattle.call.specs.Adds.{Adds}
 use Rattle.parts.specs.Parts.{Good, Part, ReadyOne}
@@ -71,11 +72,11 @@ module _ {n : ℕ} {Q : Sequence n} {low : ℕ} {old new : List ℕ} {used : ℕ
       }
 
   -- what the next part's call left
-  module _ (more : i < n) (now' : List ℕ) (r : Interned) (told : (k : ℕ) → low ≤ k → Ran v (Q.step k i w) (old ++ now) (old ++ now') r) where
+  module _ (more : i < n) (now' : List ℕ) (r : Option Interned) (told : (k : ℕ) → low ≤ k → Ran v (Q.step k i w) (old ++ now) (old ++ now') r) where
     unrolled : (k : ℕ) → low ≤ k → Q.rest k 0 w₀ ≡ joined (take i parts) (led (Q.step k i w).handle (Q.rest k (i + 1) (Q.step k i w).words))
     unrolled k l = J.is k l ∙ ap (joined (take i parts)) (Q.next k i w more)
 
-    pub turn_stop : r ≡ Full → (F : Many → Grown) → ((m : Many) → Extends m.words (F m).words) → (k : ℕ) → low ≤ k → Ran used (F (Q.rest k 0 w₀)) (old ++ new) (old ++ now') Full
+    pub turn_stop : r ≡ None → (F : Many → Grown) → ((m : Many) → Extends m.words (F m).words) → (k : ℕ) → low ≤ k → Ran used (F (Q.rest k 0 w₀)) (old ++ new) (old ++ now') None
     turn_stop f F grows k l =
         let m = Q.step k i w in
         let all = Q.rest k 0 w₀ in
@@ -84,7 +85,7 @@ module _ {n : ℕ} {Q : Sequence n} {low : ℕ} {old new : List ℕ} {used : ℕ
         grew_stop J.grew m now' r (Q.step_grows k i w) (told k l) f (F all) (ext_then m.words all.words (F all).words x (grows all))
 
     -- its handle is that of an entry of the store
-    pub turn_small : Adds w (Q.step low i w) → (Q.step low i w).handle < length (Q.step low i w).words → (h v' : ℕ) → r ≡ At h v' → h < 1048576
+    pub turn_small : Adds w (Q.step low i w) → (Q.step low i w).handle < length (Q.step low i w).words → (h v' : ℕ) → r ≡ interned h v' → h < 1048576
     turn_small adds below h v' f =
         let g = Q.step low i w in
         let s = grew_words J.grew g now' r (Q.step_grows low i w) (told low (omega arith)) h v' f in
@@ -92,7 +93,7 @@ module _ {n : ℕ} {Q : Sequence n} {low : ℕ} {old new : List ℕ} {used : ℕ
         let long : length g.words ≤ v' = rw (← s.1) (omega (arith, length-take v' (old ++ now'))) in
         omega (arith, below, s.0, long, grew_high G, J.small)
 
-    pub turn_on : Adds w (Q.step low i w) → (h v' : ℕ) → r ≡ At h v' → i < length parts → InTurn Q low old new used now' (set parts i h) v' (i + 1)
+    pub turn_on : Adds w (Q.step low i w) → (h v' : ℕ) → r ≡ interned h v' → i < length parts → InTurn Q low old new used now' (set parts i h) v' (i + 1)
     turn_on adds h v' f l = record {
       some = J.some;
       over = J.over;
@@ -108,7 +109,7 @@ module _ {n : ℕ} {Q : Sequence n} {low : ℕ} {old new : List ℕ} {used : ℕ
     }
 
   -- the last part is done
-  pub turn_end : n ≤ i → i ≤ n → (F : Many → Grown) → ((m : Many) → Extends m.words (F m).words) → (now' : List ℕ) (r : Interned) → Ran v (F (record { words = w; handles = take n parts })) (old ++ now) (old ++ now') r
+  pub turn_end : n ≤ i → i ≤ n → (F : Many → Grown) → ((m : Many) → Extends m.words (F m).words) → (now' : List ℕ) (r : Option Interned) → Ran v (F (record { words = w; handles = take n parts })) (old ++ now) (old ++ now') r
       → (k : ℕ) → low ≤ k → Ran used (F (Q.rest k 0 w₀)) (old ++ new) (old ++ now') r
   turn_end lo hi F grows now' r t k l =
       let e : i ≡ n = omega arith in

@@ -10,6 +10,7 @@ use borrow.Author.Tests.{le-leb}
 use lib.ListN.{length, take, drop, set}
 use lib.Seq.{set_split, drop-drop}
 use Rattle.words.specs.Ran.{Ran}
+use Rattle.std.specs.Prelude.{Option}
 use Rattle.words.specs.declared.Interned.{Interned}
 use Rattle.wellformed.specs.Entry.{all, is_flag}
 use Rattle.words.specs.Columns.{every, word}
@@ -87,6 +88,6 @@ module _ (u types f x : List ℕ) (a b : ℕ) (is : f ≡ finals u (length types
   pub finals_fit : all is_flag (take (length types) f) ≡ true
   finals_fit = rw front (either_flags (every 3 (length types) (a + 4) u) (every 3 (length types) (b + 4) u))
 
-  pub fields_met : (kept : ℕ) (ws ws' : List ℕ) (r : Interned) → Ran kept (remake a types (take (length types) f) u) ws ws' r → Ran kept (meet_fields a b types u) ws ws' r
+  pub fields_met : (kept : ℕ) (ws ws' : List ℕ) (r : Option Interned) → Ran kept (remake a types (take (length types) f) u) ws ws' r → Ran kept (meet_fields a b types u) ws ws' r
   unfolding meet_fields
   fields_met kept ws ws' r ran = rw front at ran

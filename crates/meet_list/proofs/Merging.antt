@@ -7,8 +7,9 @@ use lib.ListN.{length, take, drop, get_or, length-append, drop_of_length-le}
 use lib.Seq.{length-take-le, drop-cons}
 use Rattle.words.specs.Made.{Grown}
 use Rattle.words.specs.Ran.{Runs}
+use Rattle.std.specs.Prelude.{Option, None}
+use Rattle.words.specs.Ran.{interned}
 use Rattle.words.specs.declared.Interned.{Interned}
-use Rattle.words.specs.declared.Interned.TheVariants.{At, Full}
 use Rattle.words.proofs.Extend.{Extends}
 use Rattle.words.proofs.Room.{fit}
 use Rattle.index.specs.Covers.{Covers}
@@ -44,7 +45,7 @@ module _ {old new : List ℕ} {used : ℕ} {types : List ℕ} (c : Cleared (meet
     u = take v (old ++ now)
 
     -- the list is at its end
-    pub merging_done : length types ≤ i → Runs (meet_list_of types) old new used now (At t v)
+    pub merging_done : length types ≤ i → Runs (meet_list_of types) old new used now (interned t v)
     unfolding merge_from
     merging_done end =
         let none : drop i types ≡ [] = drop_of_length-le types end in
@@ -92,14 +93,14 @@ module _ {old new : List ℕ} {used : ℕ} {types : List ℕ} (c : Cleared (meet
         second = here two.0;
       }
 
-      module _ (now' : List ℕ) (r : Interned) (ran : Runs (λ w. meet_of w t h) old now v now' r) where
+      module _ (now' : List ℕ) (r : Option Interned) (ran : Runs (λ w. meet_of w t h) old now v now' r) where
         grows : Extends u g.words
         grows = meet_grows (suc (max t h)) u t h
 
-        pub merging_full : r ≡ Full → Runs (meet_list_of types) old new used now' Full
+        pub merging_full : r ≡ None → Runs (meet_list_of types) old new used now' None
         merging_full e = rw next (grew_stop m.grew g now' r grows ran e (merge_from g.handle (drop (i + 1) types) g.words) (merge_grows g.handle (drop (i + 1) types) g.words))
 
-        pub merging_more : (k w : ℕ) → r ≡ At k w → Merging old new used types now' k w (i + 1)
+        pub merging_more : (k w : ℕ) → r ≡ interned k w → Merging old new used types now' k w (i + 1)
         merging_more k w e =
             let s = grew_words m.grew g now' r grows ran k w e in
             record {
@@ -111,15 +112,15 @@ module _ {old new : List ℕ} {used : ℕ} {types : List ℕ} (c : Cleared (meet
             }
 
         -- an index of the words before is one of those after it
-        pub merging_covers : (k w : ℕ) → r ≡ At k w → {index : List ℕ} → Covers u index → Covers (take w (old ++ now')) index
+        pub merging_covers : (k w : ℕ) → r ≡ interned k w → {index : List ℕ} → Covers u index → Covers (take w (old ++ now')) index
         merging_covers k w e {index} x = let s = grew_words m.grew g now' r grows ran k w e in rw s.1 (covers_more u g.words index grows x)
 
 -- ---- the memory
 
 -- nothing is promised where the store was full
-pub then_full : {old new' memory : List ℕ} → RightThen old new' Full memory
+pub then_full : {old new' memory : List ℕ} → RightThen old new' None memory
 then_full = record { is = λ h v e. let z : ◌≡◌ {A = ℕ} 0 1 = cc in absurd (omega arith) }
 
 -- right for the words that are used at the end
-pub then_now : {old now memory : List ℕ} {t v : ℕ} → Right (take v (old ++ now)) memory → RightThen old now (At t v) memory
+pub then_now : {old now memory : List ℕ} {t v : ℕ} → Right (take v (old ++ now)) memory → RightThen old now (interned t v) memory
 then_now {v = v} r = record { is = λ h w e. let q : v ≡ w = cc in rw (← q) r }

@@ -6,8 +6,9 @@ use native.Mathlib.Omega.{arith}
 use lib.ListN.{length, take, get_or, set}
 use Rattle.words.specs.Made.{Grown}
 use Rattle.words.specs.Ran.{Segments, Ran}
+use Rattle.std.specs.Prelude.{Option, None}
+use Rattle.words.specs.Ran.{interned}
 use Rattle.words.specs.declared.Interned.{Interned}
-use Rattle.words.specs.declared.Interned.TheVariants.{At, Full}
 use Rattle.words.proofs.Extend.{Extends}
 use Rattle.words.specs.Columns.{every, word}
 use Rattle.parts.specs.Parts.{Part, All, Ready}
@@ -89,15 +90,15 @@ module _ {s : ℕ} {old new : List ℕ} {used a b n p₀ q₀ : ℕ} {now parts 
         record { over = rx.over; within = rx.within; small = rx.small; cut = rx.cut; near = rx.near; next = ry.near; good = rx.good; first = rx.first; second = ry.first }
 
     -- what the part's call left
-    module _ {now' : List ℕ} {r : Interned} (met : Met old now v x y now' r) where
+    module _ {now' : List ℕ} {r : Option Interned} (met : Met old now v x y now' r) where
       told : (k : ℕ) → max a b ≤ k → Ran v ((pairs s n p₀ q₀ w₀).step k i w) (old ++ now) (old ++ now') r
       unfolding pairs
       told k l = rw (is_x, is_y) at (met.is k (omega (arith, going_first)) (omega (arith, going_second)))
 
-      pub going_stop : r ≡ Full → (F : Many → Grown) → ((m : Many) → Extends m.words (F m).words) → (k : ℕ) → a ≤ k → b ≤ k → Ran used (F (every_part k)) (old ++ new) (old ++ now') Full
+      pub going_stop : r ≡ None → (F : Many → Grown) → ((m : Many) → Extends m.words (F m).words) → (k : ℕ) → a ≤ k → b ≤ k → Ran used (F (every_part k)) (old ++ new) (old ++ now') None
       going_stop f F grows k ka kb = rw (whole k) at (turn_stop J.turn more now' r told f F grows k (omega arith))
 
-      pub going_turn : (h v' : ℕ) → r ≡ At h v' → i < length parts → Going s old new used a b n p₀ q₀ now' (set parts i h) v' (i + 1)
+      pub going_turn : (h v' : ℕ) → r ≡ interned h v' → i < length parts → Going s old new used a b n p₀ q₀ now' (set parts i h) v' (i + 1)
       unfolding pairs
       going_turn h v' f l =
           let k = max a b in
@@ -105,7 +106,7 @@ module _ {s : ℕ} {old new : List ℕ} {used a b n p₀ q₀ : ℕ} {now parts 
           record { turn = turn_on J.turn more now' r told (rw (is_x, is_y) at res.adds) h v' f l; inside = J.inside; first = J.first; second = J.second }
 
       -- its handle is that of an entry of the store
-      pub going_small : (h v' : ℕ) → r ≡ At h v' → h < 1048576
+      pub going_small : (h v' : ℕ) → r ≡ interned h v' → h < 1048576
       unfolding pairs
       going_small h v' f =
           let k = max a b in
@@ -113,7 +114,7 @@ module _ {s : ℕ} {old new : List ℕ} {used a b n p₀ q₀ : ℕ} {now parts 
           turn_small J.turn more now' r told (rw (is_x, is_y) at res.adds) (rw (is_x, is_y) at res.part.earlier) h v' f
 
   -- the last part is done
-  pub going_end : n ≤ i → i ≤ n → (F : Many → Grown) → ((m : Many) → Extends m.words (F m).words) → (now' : List ℕ) (r : Interned) → Ran v (F (record { words = w; handles = take n parts })) (old ++ now) (old ++ now') r → (k : ℕ) → a ≤ k → b ≤ k
+  pub going_end : n ≤ i → i ≤ n → (F : Many → Grown) → ((m : Many) → Extends m.words (F m).words) → (now' : List ℕ) (r : Option Interned) → Ran v (F (record { words = w; handles = take n parts })) (old ++ now) (old ++ now') r → (k : ℕ) → a ≤ k → b ≤ k
       → Ran used (F (every_part k)) (old ++ new) (old ++ now') r
   going_end lo hi F grows now' r t k ka kb = rw (whole k) at (turn_end J.turn lo hi F grows now' r t k (omega arith))
 

@@ -10,8 +10,9 @@ use lib.ListN.{length, take}
 use lib.Seq.{take_all}
 use Rattle.words.specs.Made.{Grown, there, make}
 use Rattle.words.specs.Ran.{Segments, Ran, Runs}
+use Rattle.std.specs.Prelude.{Option, Some, None}
+use Rattle.words.specs.Ran.{interned}
 use Rattle.words.specs.declared.Interned.{Interned}
-use Rattle.words.specs.declared.Interned.TheVariants.{At, Full}
 use Rattle.words.proofs.Extend.{Extends}
 use Rattle.words.proofs.Placed.{make_extends}
 use Rattle.words.proofs.Room.{fitted, fit_front, overflowed}
@@ -25,8 +26,6 @@ use Rattle.later.proofs.Later.{later_same, later_then}
 use Rattle.later.proofs.Right.{right_full, right_same, right_learned, right_made}
 use Rattle.makers.specs.Entries.{pointer_entry, memory_entry}
 use Rattle.memo.specs.Memo.{Tells, Learned}
-use Rattle.memo.specs.declared.Recalled.{Recalled}
-use Rattle.memo.specs.declared.Recalled.TheVariants.{Is as Recalled-as-Is}
 use Rattle.memo.proofs.Lines.{recalled}
 use Rattle.meet_rules.specs.Rules.{type_rule, pair_rule, rule_for, struct_rule}
 use Rattle.meet_rules.specs.declared.Rule.TheVariants.{Structs}
@@ -43,11 +42,11 @@ pub settled_stays : Stays Settled
 settled_stays u v key h x s = record { is = λ w y. s.is w (later_then x y) }
 
 -- nothing was appended
-pub remembered_same : {old new memo : List ℕ} {used h : ℕ} → Remembers (take used (old ++ new)) memo → Remembered old new (At h used) memo
+pub remembered_same : {old new memo : List ℕ} {used h : ℕ} → Remembers (take used (old ++ new)) memo → Remembered old new (interned h used) memo
 remembered_same m = record { after = right_same Settled m; full = λ e z. let x : ◌≡◌ {A = ℕ} 0 1 = cc in absurd (omega arith) }
 
 -- a part had no room
-pub remembered_full : {old new' memo : List ℕ} {r : Interned} → r ≡ Full → Remembered old new' r memo → Remembered old new' Full memo
+pub remembered_full : {old new' memo : List ℕ} {r : Option Interned} → r ≡ None → Remembered old new' r memo → Remembered old new' None memo
 remembered_full e m = record { after = right_full; full = λ f z. m.full e z }
 
 -- no word was lent to append to
@@ -56,26 +55,26 @@ still_old old [] v le z = ap (take v) (append-nil old) ∙ take_all v old le
 still_old old (w ∷ ws) v le z = absurd (omega (arith, z))
 
 -- entries were made, in words for which the memory is right
-remembered_made : {old now memo : List ℕ} {v : ℕ} → Segments old now v → Remembers (take v (old ++ now)) memo → (g : Grown) → Extends (take v (old ++ now)) g.words → {now₂ : List ℕ} {o : Interned} → Ran v g (old ++ now) (old ++ now₂) o → Remembered old now₂ o memo
+remembered_made : {old now memo : List ℕ} {v : ℕ} → Segments old now v → Remembers (take v (old ++ now)) memo → (g : Grown) → Extends (take v (old ++ now)) g.words → {now₂ : List ℕ} {o : Option Interned} → Ran v g (old ++ now) (old ++ now₂) o → Remembered old now₂ o memo
 remembered_made {old} {now} {memo} {v} s m g x {now₂} {o} ran = record { after = right_made settled_stays s m g x ran; full = still }
   where
-    still : o ≡ Full → length now₂ ≡ 0 → Remembers old memo
+    still : o ≡ None → length now₂ ≡ 0 → Remembers old memo
     still e z =
         let kept = ran.full (overflowed v g (old ++ now) (old ++ now₂) o ran e) in
         let q : take v (old ++ now) ≡ old = sym kept ∙ still_old old now₂ v s.over z in
         rw q at m
 
-pub remembered_entry : {old now memo : List ℕ} {v : ℕ} → Segments old now v → Remembers (take v (old ++ now)) memo → (e : List ℕ) {now₂ : List ℕ} {o : Interned} → Ran v (make (take v (old ++ now)) e) (old ++ now) (old ++ now₂) o → Remembered old now₂ o memo
+pub remembered_entry : {old now memo : List ℕ} {v : ℕ} → Segments old now v → Remembers (take v (old ++ now)) memo → (e : List ℕ) {now₂ : List ℕ} {o : Option Interned} → Ran v (make (take v (old ++ now)) e) (old ++ now) (old ++ now₂) o → Remembered old now₂ o memo
 remembered_entry {old} {now} {v = v} s m e ran = remembered_made s m (make (take v (old ++ now)) e) (make_extends (take v (old ++ now)) e) ran
 
-pub remembered_pointer : {old now memo : List ℕ} {v : ℕ} → Segments old now v → Remembers (take v (old ++ now)) memo → (h nil : ℕ) {now₂ : List ℕ} {o : Interned} → Runs (λ w. make w (pointer_entry h nil w)) old now v now₂ o → Remembered old now₂ o memo
+pub remembered_pointer : {old now memo : List ℕ} {v : ℕ} → Segments old now v → Remembers (take v (old ++ now)) memo → (h nil : ℕ) {now₂ : List ℕ} {o : Option Interned} → Runs (λ w. make w (pointer_entry h nil w)) old now v now₂ o → Remembered old now₂ o memo
 remembered_pointer {old} {now} {v = v} s m h nil ran = remembered_entry s m (pointer_entry h nil (take v (old ++ now))) ran
 
-pub remembered_memory : {old now memo : List ℕ} {v : ℕ} → Segments old now v → Remembers (take v (old ++ now)) memo → (alias h : ℕ) {now₂ : List ℕ} {o : Interned} → Runs (λ w. make w (memory_entry alias h w)) old now v now₂ o → Remembered old now₂ o memo
+pub remembered_memory : {old now memo : List ℕ} {v : ℕ} → Segments old now v → Remembers (take v (old ++ now)) memo → (alias h : ℕ) {now₂ : List ℕ} {o : Option Interned} → Runs (λ w. make w (memory_entry alias h w)) old now v now₂ o → Remembered old now₂ o memo
 remembered_memory {old} {now} {v = v} s m alias h ran = remembered_entry s m (memory_entry alias h (take v (old ++ now))) ran
 
 -- a struct was made
-pub remembered_fields : {old now memo : List ℕ} {v : ℕ} → Segments old now v → Remembers (take v (old ++ now)) memo → (a b : ℕ) (hs : List ℕ) {now₂ : List ℕ} {o : Interned} → Ran v (meet_fields a b hs (take v (old ++ now))) (old ++ now) (old ++ now₂) o → Remembered old now₂ o memo
+pub remembered_fields : {old now memo : List ℕ} {v : ℕ} → Segments old now v → Remembers (take v (old ++ now)) memo → (a b : ℕ) (hs : List ℕ) {now₂ : List ℕ} {o : Option Interned} → Ran v (meet_fields a b hs (take v (old ++ now))) (old ++ now) (old ++ now₂) o → Remembered old now₂ o memo
 remembered_fields {old} {now} {v = v} s m a b hs ran = let p : Many = record { words = take v (old ++ now); handles = hs } in remembered_made s m (meet_struct_of a b p) (struct_grows a b p) ran
 
 -- ---- the meet of two structs or forward references is that of two types
@@ -106,7 +105,7 @@ module _ {old new : List ℕ} {used a b : ℕ} (rd : Ready old new used 1 11 a b
   small_b = omega (arith, rd.next, rd.within, rd.small)
 
   -- a line of the memory
-  pub met_known : {memo : List ℕ} → Remembers u memo → {r : Recalled} → Tells memo key r → (h : ℕ) → r ≡ Recalled-as-Is h → Met old new used a b new (At h used)
+  pub met_known : {memo : List ℕ} → Remembers u memo → {r : Option ℕ} → Tells memo key r → (h : ℕ) → r ≡ Some h → Met old new used a b new (interned h used)
   met_known {memo} m t h e = record {
     is = λ n la lb.
         let k = ek (t.line h e).1.some in
@@ -114,7 +113,7 @@ module _ {old new : List ℕ} {used a b : ℕ} (rd : Ready old new used 1 11 a b
   }
 
   -- an answer is settled once it is given
-  met_settled : {new' : List ℕ} {r : Interned} → Met old new used a b new' r → (h v : ℕ) → r ≡ At h v → (key ≡ 0 → ⊥) → Settled (take v (old ++ new')) key h
+  met_settled : {new' : List ℕ} {r : Option Interned} → Met old new used a b new' r → (h v : ℕ) → r ≡ interned h v → (key ≡ 0 → ⊥) → Settled (take v (old ++ new')) key h
   met_settled {new'} {r} t h v e some = record {
     is = λ w x c d ld ec n lc l.
         let k = ek some in
@@ -131,7 +130,7 @@ module _ {old new : List ℕ} {used a b : ℕ} (rd : Ready old new used 1 11 a b
   }
 
   -- and a line of the memory from then on
-  pub met_noted : {new' memo : List ℕ} {r : Interned} → Met old new used a b new' r → Remembered old new' r memo → {memo' : List ℕ} {o : Interned} → o ≡ r → Learned memo key r memo' → Met old new used a b new' o × Remembered old new' o memo'
+  pub met_noted : {new' memo : List ℕ} {r : Option Interned} → Met old new used a b new' r → Remembered old new' r memo → {memo' : List ℕ} {o : Option Interned} → o ≡ r → Learned memo key r memo' → Met old new used a b new' o × Remembered old new' o memo'
   met_noted {new'} {r = r} t m {memo'} e l =
       let n : Remembered old new' r memo' = record { after = right_learned Settled m.after l (met_settled t); full = λ f z. rw (l.full f) (m.full f z) } in
       rw e (t, n)
@@ -145,14 +144,14 @@ module _ {old new : List ℕ} {used a b : ℕ} (rd : Ready old new used 8 9 a b)
   same : (n : ℕ) → meet_within (suc n) w a b ≡ meet_struct (meet_within n) w a b
   same n = struct_type n w a b (rd.first.least, rd.first.most) (rd.second.least, rd.second.most)
 
-  as_type : {new' : List ℕ} {r : Interned} → MetStruct old new used a b new' r → Met old new used a b new' r
+  as_type : {new' : List ℕ} {r : Option Interned} → MetStruct old new used a b new' r → Met old new used a b new' r
   as_type {new'} {r} t = record { is = go }
     where
       go : (n : ℕ) → a < n → b < n → Ran used (meet_within n (take used (old ++ new)) a b) (old ++ new) (old ++ new') r
       go zero h l = absurd (omega arith)
       go (suc n) h l = rw (same n) (t.is n (omega arith) (omega arith))
 
-  as_struct : {new' : List ℕ} {r : Interned} → Met old new used a b new' r → MetStruct old new used a b new' r
+  as_struct : {new' : List ℕ} {r : Option Interned} → Met old new used a b new' r → MetStruct old new used a b new' r
   as_struct t = record { is = λ n la lb. rw (same n) at (t.is (suc n) (omega arith) (omega arith)) }
 
   wider : {h : ℕ} → Part w used 33 8 9 h → Part w used 33 1 11 h
@@ -162,8 +161,8 @@ module _ {old new : List ℕ} {used a b : ℕ} (rd : Ready old new used 8 9 a b)
   ready_types = record { over = rd.over; within = rd.within; small = rd.small; cut = rd.cut; near = rd.near; next = rd.next; good = rd.good; first = wider rd.first; second = wider rd.second }
 
   module _ (key : ℕ) (ek : key ≡ pair_key a b) where
-    pub struct_known : {memo : List ℕ} → Remembers w memo → {r : Recalled} → Tells memo key r → (h : ℕ) → r ≡ Recalled-as-Is h → MetStruct old new used a b new (At h used)
+    pub struct_known : {memo : List ℕ} → Remembers w memo → {r : Option ℕ} → Tells memo key r → (h : ℕ) → r ≡ Some h → MetStruct old new used a b new (interned h used)
     struct_known m t h e = as_struct (met_known ready_types key (λ some. ek) m t h e)
 
-    pub struct_noted : {new' memo : List ℕ} {r : Interned} → MetStruct old new used a b new' r → Remembered old new' r memo → {memo' : List ℕ} {o : Interned} → o ≡ r → Learned memo key r memo' → MetStruct old new used a b new' o × Remembered old new' o memo'
+    pub struct_noted : {new' memo : List ℕ} {r : Option Interned} → MetStruct old new used a b new' r → Remembered old new' r memo → {memo' : List ℕ} {o : Option Interned} → o ≡ r → Learned memo key r memo' → MetStruct old new used a b new' o × Remembered old new' o memo'
     struct_noted t m e l = let both = met_noted ready_types key (λ some. ek) (as_type t) m e l in (as_struct both.0, both.1)

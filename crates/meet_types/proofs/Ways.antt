@@ -9,8 +9,9 @@ use lib.Dec.{eqb, ltb}
 use lib.ListN.{length, take, get_or, set}
 use Rattle.words.specs.Made.{Grown, there, make}
 use Rattle.words.specs.Ran.{Segments, Ran, Runs}
+use Rattle.std.specs.Prelude.{Option, None}
+use Rattle.words.specs.Ran.{interned}
 use Rattle.words.specs.declared.Interned.{Interned}
-use Rattle.words.specs.declared.Interned.TheVariants.{At, Full}
 use Rattle.words.proofs.Extend.{Extends}
 use Rattle.wellformed.specs.Entry.{all, is_alias_final}
 use Rattle.words.specs.Columns.{every, word, kind_on, depth_on, count_on, first_flags_on}
@@ -40,7 +41,7 @@ use Rattle.parts.proofs.Grew.{Grew, grew_none, grew_there, grew_more, grew_stop,
 use Rattle.meet_types.proofs.Loop.{Going, going_begin, going_first, going_second, going_ready, going_stop, going_turn, going_small, going_end}
 
 -- an answer that is there already
-old_ran : {old new : List ℕ} {used low high a b : ℕ} (h : ℕ) → Ready old new used low high a b → Ran used (there (take used (old ++ new)) h) (old ++ new) (old ++ new) (At h used)
+old_ran : {old new : List ℕ} {used low high a b : ℕ} (h : ℕ) → Ready old new used low high a b → Ran used (there (take used (old ++ new)) h) (old ++ new) (old ++ new) (interned h used)
 old_ran {old} {new} {used} h rd = let w : Grew old new used new used = grew_none rd.good rd.within in grew_there h w
 
 -- parts below 33
@@ -53,7 +54,7 @@ module _ (old new : List ℕ) (used a b : ℕ) (rd : Ready old new used 1 11 a b
   abbrev u : List ℕ
   u = take used (old ++ new)
 
-  by_rule : (X : Rule) → r ≡ X → (new' : List ℕ) (m : Interned) → ((k : ℕ) → a ≤ k → b ≤ k → Ran used (follow (meet_within k) u a b X) (old ++ new) (old ++ new') m) → Met old new used a b new' m
+  by_rule : (X : Rule) → r ≡ X → (new' : List ℕ) (m : Option Interned) → ((k : ℕ) → a ≤ k → b ≤ k → Ran used (follow (meet_within k) u a b X) (old ++ new) (old ++ new') m) → Met old new used a b new' m
   unfolding meet_within
   by_rule X e new' m f = record { is = go }
     where
@@ -61,19 +62,19 @@ module _ (old new : List ℕ) (used a b : ℕ) (rd : Ready old new used 1 11 a b
       go zero h l = absurd (omega arith)
       go (suc n) h l = rw (sym er ∙ e) (f n (omega arith) (omega arith))
 
-  pub met_first : r ≡ First → Met old new used a b new (At a used)
+  pub met_first : r ≡ First → Met old new used a b new (interned a used)
   unfolding follow
-  met_first e = by_rule First e new (At a used) (λ k ka kb. old_ran a rd)
+  met_first e = by_rule First e new (interned a used) (λ k ka kb. old_ran a rd)
 
-  pub met_second : r ≡ Second → Met old new used a b new (At b used)
+  pub met_second : r ≡ Second → Met old new used a b new (interned b used)
   unfolding follow
-  met_second e = by_rule Second e new (At b used) (λ k ka kb. old_ran b rd)
+  met_second e = by_rule Second e new (interned b used) (λ k ka kb. old_ran b rd)
 
-  pub met_bottom : r ≡ Bottom → Met old new used a b new (At 5 used)
+  pub met_bottom : r ≡ Bottom → Met old new used a b new (interned 5 used)
   unfolding follow
-  met_bottom e = by_rule Bottom e new (At 5 used) (λ k ka kb. old_ran 5 rd)
+  met_bottom e = by_rule Bottom e new (interned 5 used) (λ k ka kb. old_ran 5 rd)
 
-  pub met_ints : r ≡ Ints → (new' : List ℕ) (m : Interned) → Runs (λ v. meet_int v a b) old new used new' m → Met old new used a b new' m
+  pub met_ints : r ≡ Ints → (new' : List ℕ) (m : Option Interned) → Runs (λ v. meet_int v a b) old new used new' m → Met old new used a b new' m
   unfolding follow
   met_ints e new' m t = by_rule Ints e new' m (λ k ka kb. t)
 
@@ -83,9 +84,9 @@ module _ (old new : List ℕ) (used a b : ℕ) (rd : Ready old new used 1 11 a b
       let s = sure_floats u a b (sym er ∙ e) in
       (size_word (word u (a + 1)) (word u (a + 2)) (of_float rd.good.sound rd.first s.0), size_word (word u (b + 1)) (word u (b + 2)) (of_float rd.good.sound rd.second s.1))
 
-  pub met_floats : r ≡ Floats → (h : ℕ) → h ≡ float_handle a b (float_rule (reading_on u a) (reading_on u b)) → Met old new used a b new (At h used)
+  pub met_floats : r ≡ Floats → (h : ℕ) → h ≡ float_handle a b (float_rule (reading_on u a) (reading_on u b)) → Met old new used a b new (interned h used)
   unfolding follow
-  met_floats e h q = by_rule Floats e new (At h used) (λ k ka kb. rw (← q) (old_ran h rd))
+  met_floats e h q = by_rule Floats e new (interned h used) (λ k ka kb. rw (← q) (old_ran h rd))
 
   -- structs
   pub ready_structs : r ≡ Structs → Ready old new used 8 9 a b
@@ -93,7 +94,7 @@ module _ (old new : List ℕ) (used a b : ℕ) (rd : Ready old new used 1 11 a b
       let s = sure_structs u a b (sym er ∙ e) in
       record { over = rd.over; within = rd.within; small = rd.small; cut = rd.cut; near = rd.near; next = rd.next; good = rd.good; first = narrow 8 9 rd.first s.0 s.1; second = narrow 8 9 rd.second s.2 s.3 }
 
-  pub met_structs : r ≡ Structs → (new' : List ℕ) (m : Interned) → MetStruct old new used a b new' m → Met old new used a b new' m
+  pub met_structs : r ≡ Structs → (new' : List ℕ) (m : Option Interned) → MetStruct old new used a b new' m → Met old new used a b new' m
   unfolding follow
   met_structs e new' m t = by_rule Structs e new' m (λ k ka kb. t.is k ka kb)
 
@@ -117,11 +118,11 @@ module _ (old new : List ℕ) (used a b : ℕ) (rd : Ready old new used 1 11 a b
 
   -- an entry around one part: `part` is what the part's meet gives, and F makes the entry of it
   module _ (X : Rule) (e : r ≡ X) (part : ℕ → Grown) (F : Grown → Grown) (is : (k : ℕ) → follow (meet_within k) u a b X ≡ F (part k)) (F-grows : (g : Grown) → Extends g.words (F g).words)
-      (grows : (k : ℕ) → Extends u (part k).words) (adds : Adds u (part (max a b))) (now : List ℕ) (m : Interned) (told : (k : ℕ) → a ≤ k → b ≤ k → Ran used (part k) (old ++ new) (old ++ now) m) where
-    around_full : m ≡ Full → Met old new used a b now Full
-    around_full f = by_rule X e now Full (λ k ka kb. rw (is k) (grew_stop grew (part k) now m (grows k) (told k ka kb) f (F (part k)) (F-grows (part k))))
+      (grows : (k : ℕ) → Extends u (part k).words) (adds : Adds u (part (max a b))) (now : List ℕ) (m : Option Interned) (told : (k : ℕ) → a ≤ k → b ≤ k → Ran used (part k) (old ++ new) (old ++ now) m) where
+    around_full : m ≡ None → Met old new used a b now None
+    around_full f = by_rule X e now None (λ k ka kb. rw (is k) (grew_stop grew (part k) now m (grows k) (told k ka kb) f (F (part k)) (F-grows (part k))))
 
-    module _ (h v : ℕ) (f : m ≡ At h v) where
+    module _ (h v : ℕ) (f : m ≡ interned h v) where
       on : Grew old new used now v
       on = grew_more grew (part (max a b)) now m (grows (max a b)) (told (max a b) (omega arith) (omega arith)) h v f adds
 
@@ -132,7 +133,7 @@ module _ (old new : List ℕ) (used a b : ℕ) (rd : Ready old new used 1 11 a b
       around_required : {index : List ℕ} → Covers u index → Segments old now v × Covers (take v (old ++ now)) index
       around_required c = (around_segments, grew_covers on c)
 
-      around_made : (now₂ : List ℕ) (o : Interned) → Ran v (F (there (take v (old ++ now)) h)) (old ++ now) (old ++ now₂) o → Met old new used a b now₂ o
+      around_made : (now₂ : List ℕ) (o : Option Interned) → Ran v (F (there (take v (old ++ now)) h)) (old ++ now) (old ++ now₂) o → Met old new used a b now₂ o
       around_made now₂ o l = by_rule X e now₂ o (λ k ka kb. rw (is k) (then_made grew (part k) now m (grows k) (told k ka kb) h v f on (λ w n. F (there w n)) (λ w n. F-grows (there w n)) now₂ o l))
 
   -- pointers
@@ -146,7 +147,7 @@ module _ (old new : List ℕ) (used a b : ℕ) (rd : Ready old new used 1 11 a b
     pub pointer_next : (x < a) × (y < b) × Ready old new used 8 9 x y
     pointer_next = (to_a.earlier, to_b.earlier, ready_parts 8 9 x y to_a to_b)
 
-    module _ (now : List ℕ) (m : Interned) (t : MetStruct old new used x y now m) where
+    module _ (now : List ℕ) (m : Option Interned) (t : MetStruct old new used x y now m) where
       abbrev struct : ℕ → Grown
       struct k = meet_struct (meet_within k) u x y
 
@@ -165,17 +166,17 @@ module _ (old new : List ℕ) (used a b : ℕ) (rd : Ready old new used 1 11 a b
       struct_told : (k : ℕ) → a ≤ k → b ≤ k → Ran used (struct k) (old ++ new) (old ++ now) m
       struct_told k ka kb = t.is k (omega (arith, to_a.earlier)) (omega (arith, to_b.earlier))
 
-      pub pointer_full : m ≡ Full → Met old new used a b now Full
+      pub pointer_full : m ≡ None → Met old new used a b now None
       pointer_full = around_full Pointers e struct (pointer_of (either_nil u a b)) is_pointer (pointer_grows (either_nil u a b)) struct_grown struct_adds now m struct_told
 
-      module _ (h v : ℕ) (f : m ≡ At h v) where
+      module _ (h v : ℕ) (f : m ≡ interned h v) where
         pub pointer_segments : Segments old now v
         pointer_segments = around_segments Pointers e struct (pointer_of (either_nil u a b)) is_pointer (pointer_grows (either_nil u a b)) struct_grown struct_adds now m struct_told h v f
 
         pub pointer_required : {index : List ℕ} → Covers (take used (old ++ new)) index → Segments old now v × Covers (take v (old ++ now)) index
         pointer_required = around_required Pointers e struct (pointer_of (either_nil u a b)) is_pointer (pointer_grows (either_nil u a b)) struct_grown struct_adds now m struct_told h v f
 
-        pub met_pointers : (p q nil : ℕ) → p ≡ get_or (take used (old ++ new)) (a + 2) 0 → q ≡ get_or (take used (old ++ new)) (b + 2) 0 → nil ≡ max p q → (now₂ : List ℕ) (o : Interned) → Runs (λ w. make w (pointer_entry h nil w)) old now v now₂ o → Met old new used a b now₂ o
+        pub met_pointers : (p q nil : ℕ) → p ≡ get_or (take used (old ++ new)) (a + 2) 0 → q ≡ get_or (take used (old ++ new)) (b + 2) 0 → nil ≡ max p q → (now₂ : List ℕ) (o : Option Interned) → Runs (λ w. make w (pointer_entry h nil w)) old now v now₂ o → Met old new used a b now₂ o
         met_pointers p q nil ep eq en now₂ o l =
             let n : nil ≡ either_nil u a b = en ∙ rw (ep, eq) in
             around_made Pointers e struct (pointer_of (either_nil u a b)) is_pointer (pointer_grows (either_nil u a b)) struct_grown struct_adds now m struct_told h v f now₂ o (rw n at l)
@@ -191,7 +192,7 @@ module _ (old new : List ℕ) (used a b : ℕ) (rd : Ready old new used 1 11 a b
     pub memory_next : (x < a) × (y < b) × Ready old new used 1 11 x y
     memory_next = (at_a.earlier, at_b.earlier, ready_parts 1 11 x y at_a at_b)
 
-    module _ (now : List ℕ) (m : Interned) (t : Met old new used x y now m) where
+    module _ (now : List ℕ) (m : Option Interned) (t : Met old new used x y now m) where
       abbrev type : ℕ → Grown
       type k = meet_within k u x y
 
@@ -210,17 +211,17 @@ module _ (old new : List ℕ) (used a b : ℕ) (rd : Ready old new used 1 11 a b
       type_told : (k : ℕ) → a ≤ k → b ≤ k → Ran used (type k) (old ++ new) (old ++ now) m
       type_told k ka kb = t.is k (omega (arith, at_a.earlier)) (omega (arith, at_b.earlier))
 
-      pub memory_full : m ≡ Full → Met old new used a b now Full
+      pub memory_full : m ≡ None → Met old new used a b now None
       memory_full = around_full Memories e type (memory_of alias) is_memory (memory_grows alias) (λ k. meet_grows k u x y) type_adds now m type_told
 
-      module _ (h v : ℕ) (f : m ≡ At h v) where
+      module _ (h v : ℕ) (f : m ≡ interned h v) where
         pub memory_segments : Segments old now v
         memory_segments = around_segments Memories e type (memory_of alias) is_memory (memory_grows alias) (λ k. meet_grows k u x y) type_adds now m type_told h v f
 
         pub memory_required : {index : List ℕ} → Covers (take used (old ++ new)) index → Segments old now v × Covers (take v (old ++ now)) index
         memory_required = around_required Memories e type (memory_of alias) is_memory (memory_grows alias) (λ k. meet_grows k u x y) type_adds now m type_told h v f
 
-        pub met_memories : (p q shared : ℕ) → p ≡ get_or (take used (old ++ new)) (a + 1) 0 → q ≡ get_or (take used (old ++ new)) (b + 1) 0 → shared ≡ shared_alias p q → (now₂ : List ℕ) (o : Interned) → Runs (λ w. make w (memory_entry shared h w)) old now v now₂ o → Met old new used a b now₂ o
+        pub met_memories : (p q shared : ℕ) → p ≡ get_or (take used (old ++ new)) (a + 1) 0 → q ≡ get_or (take used (old ++ new)) (b + 1) 0 → shared ≡ shared_alias p q → (now₂ : List ℕ) (o : Option Interned) → Runs (λ w. make w (memory_entry shared h w)) old now v now₂ o → Met old new used a b now₂ o
         met_memories p q shared ep eq en now₂ o l =
             let n : shared ≡ alias = en ∙ rw (ep, eq) in
             around_made Memories e type (memory_of alias) is_memory (memory_grows alias) (λ k. meet_grows k u x y) type_adds now m type_told h v f now₂ o (rw n at l)
@@ -241,11 +242,11 @@ module _ (old new : List ℕ) (used a b : ℕ) (rd : Ready old new used 1 11 a b
           (rw (ex, sure.2) (shallower rd.good rd.second (every 1 (count_on u b) (b + 1) u) (of_tuple rd.good.sound rd.second sure.1).types))
 
       module _ (now parts : List ℕ) (v i : ℕ) (J : Going 1 old new used a b (x / 65536) (a + 1) (b + 1) now parts v i) where
-        pub tuple_stop : (more : i < x / 65536) (p q : ℕ) → p ≡ get_or (take used (old ++ now)) (a + 1 + i) 0 → q ≡ get_or (take used (old ++ now)) (b + 1 + i) 0 → (now₂ : List ℕ) (m : Interned) → Met old now v p q now₂ m → m ≡ Full → Met old new used a b now₂ Full
+        pub tuple_stop : (more : i < x / 65536) (p q : ℕ) → p ≡ get_or (take used (old ++ now)) (a + 1 + i) 0 → q ≡ get_or (take used (old ++ now)) (b + 1 + i) 0 → (now₂ : List ℕ) (m : Option Interned) → Met old now v p q now₂ m → m ≡ None → Met old new used a b now₂ None
         unfolding follow
-        tuple_stop more p q ep eq now₂ m t f = by_rule Tuples e now₂ Full (λ k ka kb. rw (← sure.2, ← ex) (going_stop J more (a + 1 + i) (b + 1 + i) p q (omega arith) (omega arith) ep eq t f tuple_of tuple_grows k ka kb))
+        tuple_stop more p q ep eq now₂ m t f = by_rule Tuples e now₂ None (λ k ka kb. rw (← sure.2, ← ex) (going_stop J more (a + 1 + i) (b + 1 + i) p q (omega arith) (omega arith) ep eq t f tuple_of tuple_grows k ka kb))
 
-        pub tuple_end : x / 65536 ≤ i → i ≤ x / 65536 → (now₂ : List ℕ) (m : Interned) → Runs (λ w. make w (tuple_entry (take (x / 65536) parts) w)) old now v now₂ m → Met old new used a b now₂ m
+        pub tuple_end : x / 65536 ≤ i → i ≤ x / 65536 → (now₂ : List ℕ) (m : Option Interned) → Runs (λ w. make w (tuple_entry (take (x / 65536) parts) w)) old now v now₂ m → Met old new used a b now₂ m
         unfolding follow
         tuple_end lo hi now₂ m t = by_rule Tuples e now₂ m (λ k ka kb. rw (← sure.2, ← ex) (going_end J lo hi tuple_of tuple_grows now₂ m t k ka kb))
 
@@ -258,10 +259,10 @@ module _ (old new : List ℕ) (used a b n : ℕ) (now parts : List ℕ) (v i : �
     going_ready J more (a + 1 + i) (b + 1 + i) p q (omega arith) (omega arith) ep eq,
   )
 
-  pub tuple_turn : {now₂ : List ℕ} {m : Interned} → Met old now v p q now₂ m → (h v' : ℕ) → m ≡ At h v' → i < length parts → Going 1 old new used a b n (a + 1) (b + 1) now₂ (set parts i h) v' (i + 1)
+  pub tuple_turn : {now₂ : List ℕ} {m : Option Interned} → Met old now v p q now₂ m → (h v' : ℕ) → m ≡ interned h v' → i < length parts → Going 1 old new used a b n (a + 1) (b + 1) now₂ (set parts i h) v' (i + 1)
   tuple_turn t = going_turn J more (a + 1 + i) (b + 1 + i) p q (omega arith) (omega arith) ep eq t
 
-  pub tuple_small : {now₂ : List ℕ} {m : Interned} → Met old now v p q now₂ m → (h v' : ℕ) → m ≡ At h v' → h < 1048576
+  pub tuple_small : {now₂ : List ℕ} {m : Option Interned} → Met old now v p q now₂ m → (h v' : ℕ) → m ≡ interned h v' → h < 1048576
   tuple_small t = going_small J more (a + 1 + i) (b + 1 + i) p q (omega arith) (omega arith) ep eq t
 
 -- ---- a struct's meet
@@ -298,21 +299,21 @@ module _ (old new : List ℕ) (used a b : ℕ) (rd : Ready old new used 8 9 a b)
     abbrev w : List ℕ
     w = take used (old ++ new)
 
-    by_struct : (X : StructRule) → r ≡ X → (new' : List ℕ) (m : Interned) → ((k : ℕ) → a ≤ k → b ≤ k → Ran used (follow_struct (meet_within k) w a b X) (old ++ new) (old ++ new') m) → MetStruct old new used a b new' m
+    by_struct : (X : StructRule) → r ≡ X → (new' : List ℕ) (m : Option Interned) → ((k : ℕ) → a ≤ k → b ≤ k → Ran used (follow_struct (meet_within k) w a b X) (old ++ new) (old ++ new') m) → MetStruct old new used a b new' m
     unfolding meet_struct
     by_struct X e new' m f = record { is = λ k ka kb. rw (sym er ∙ e) (f k ka kb) }
 
-    pub met_former : r ≡ Former → MetStruct old new used a b new (At a used)
+    pub met_former : r ≡ Former → MetStruct old new used a b new (interned a used)
     unfolding follow_struct
-    met_former e = by_struct Former e new (At a used) (λ k ka kb. old_ran a rd)
+    met_former e = by_struct Former e new (interned a used) (λ k ka kb. old_ran a rd)
 
-    pub met_latter : r ≡ Latter → MetStruct old new used a b new (At b used)
+    pub met_latter : r ≡ Latter → MetStruct old new used a b new (interned b used)
     unfolding follow_struct
-    met_latter e = by_struct Latter e new (At b used) (λ k ka kb. old_ran b rd)
+    met_latter e = by_struct Latter e new (interned b used) (λ k ka kb. old_ran b rd)
 
-    pub met_lowest : r ≡ Lowest → MetStruct old new used a b new (At 20 used)
+    pub met_lowest : r ≡ Lowest → MetStruct old new used a b new (interned 20 used)
     unfolding follow_struct
-    met_lowest e = by_struct Lowest e new (At 20 used) (λ k ka kb. old_ran 20 rd)
+    met_lowest e = by_struct Lowest e new (interned 20 used) (λ k ka kb. old_ran 20 rd)
 
     module _ (e : r ≡ Fields) where
       sure_structures : (kind_on w a ≡ 8) × (kind_on w b ≡ 8) × (count_on w a ≡ count_on w b)
@@ -333,11 +334,11 @@ module _ (old new : List ℕ) (used a b : ℕ) (rd : Ready old new used 8 9 a b)
             (rw (ex, sure_structures.2) (shallower rd.good rd.second (every 3 (count_on w b) (b + 3) w) (of_struct rd.good.sound rd.second sure_structures.1).types))
 
         module _ (now parts : List ℕ) (v i : ℕ) (J : Going 3 old new used a b (x / 65536) (a + 3) (b + 3) now parts v i) where
-          pub struct_stop : (more : i < x / 65536) (p q : ℕ) → p ≡ get_or (take used (old ++ now)) (a + 3 + 3 * i) 0 → q ≡ get_or (take used (old ++ now)) (b + 3 + 3 * i) 0 → (now₂ : List ℕ) (m : Interned) → Met old now v p q now₂ m → m ≡ Full → MetStruct old new used a b now₂ Full
+          pub struct_stop : (more : i < x / 65536) (p q : ℕ) → p ≡ get_or (take used (old ++ now)) (a + 3 + 3 * i) 0 → q ≡ get_or (take used (old ++ now)) (b + 3 + 3 * i) 0 → (now₂ : List ℕ) (m : Option Interned) → Met old now v p q now₂ m → m ≡ None → MetStruct old new used a b now₂ None
           unfolding follow_struct
-          struct_stop more p q ep eq now₂ m t f = by_struct Fields e now₂ Full (λ k ka kb. rw (← sure_structures.2, ← ex) (going_stop J more (a + 3 + 3 * i) (b + 3 + 3 * i) p q refl refl ep eq t f (meet_struct_of a b) (struct_grows a b) k ka kb))
+          struct_stop more p q ep eq now₂ m t f = by_struct Fields e now₂ None (λ k ka kb. rw (← sure_structures.2, ← ex) (going_stop J more (a + 3 + 3 * i) (b + 3 + 3 * i) p q refl refl ep eq t f (meet_struct_of a b) (struct_grows a b) k ka kb))
 
-          pub struct_end : x / 65536 ≤ i → i ≤ x / 65536 → (now₂ : List ℕ) (m : Interned) → Runs (meet_fields a b (take (x / 65536) parts)) old now v now₂ m → MetStruct old new used a b now₂ m
+          pub struct_end : x / 65536 ≤ i → i ≤ x / 65536 → (now₂ : List ℕ) (m : Option Interned) → Runs (meet_fields a b (take (x / 65536) parts)) old now v now₂ m → MetStruct old new used a b now₂ m
           unfolding follow_struct
           struct_end lo hi now₂ m t = by_struct Fields e now₂ m (λ k ka kb. rw (← sure_structures.2, ← ex) (going_end J lo hi (meet_struct_of a b) (struct_grows a b) now₂ m t k ka kb))
 
@@ -354,8 +355,8 @@ module _ (old new : List ℕ) (used a b n : ℕ) (now parts : List ℕ) (v i : �
     going_ready J more (a + 3 + 3 * i) (b + 3 + 3 * i) p q refl refl ep eq,
   )
 
-  pub struct_turn : {now₂ : List ℕ} {m : Interned} → Met old now v p q now₂ m → (h v' : ℕ) → m ≡ At h v' → i < length parts → Going 3 old new used a b n (a + 3) (b + 3) now₂ (set parts i h) v' (i + 1)
+  pub struct_turn : {now₂ : List ℕ} {m : Option Interned} → Met old now v p q now₂ m → (h v' : ℕ) → m ≡ interned h v' → i < length parts → Going 3 old new used a b n (a + 3) (b + 3) now₂ (set parts i h) v' (i + 1)
   struct_turn t = going_turn J more (a + 3 + 3 * i) (b + 3 + 3 * i) p q refl refl ep eq t
 
-  pub struct_small : {now₂ : List ℕ} {m : Interned} → Met old now v p q now₂ m → (h v' : ℕ) → m ≡ At h v' → h < 1048576
+  pub struct_small : {now₂ : List ℕ} {m : Option Interned} → Met old now v p q now₂ m → (h v' : ℕ) → m ≡ interned h v' → h < 1048576
   struct_small t = going_small J more (a + 3 + 3 * i) (b + 3 + 3 * i) p q refl refl ep eq t

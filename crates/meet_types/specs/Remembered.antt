@@ -1,8 +1,8 @@
 -- What a memory of meets holds: answers that are settled. `u` is the used words.
 use Rattle.std.specs.Prelude.{◌≡◌, List, ℕ, ◌+◌, ◌*◌, ◌<◌, length}
 use Rattle.words.specs.Made.{there}
+use Rattle.std.specs.Prelude.{Option, None}
 use Rattle.words.specs.declared.Interned.{Interned}
-use Rattle.words.specs.declared.Interned.TheVariants.{Full}
 use Rattle.memo.specs.Memo.{Lines, answers}
 use Rattle.later.specs.Later.{Later}
 use Rattle.later.specs.Right.{RightAfter}
@@ -22,6 +22,6 @@ Remembers u memo = Lines (Settled u) memo
 
 -- what the two functions of the cycle leave of a memory: where the answer fitted, one that is right for the used words as they are then; and where no word was
 -- lent to append to, one that is right for the words as they were, also where the answer did not fit (isa meets so)
-pub record Remembered (old new' : List ℕ) (r : Interned) (memo' : List ℕ) : Type 0 where
+pub record Remembered (old new' : List ℕ) (r : Option Interned) (memo' : List ℕ) : Type 0 where
   pub after : RightAfter Settled old new' r memo'
-  pub full : r ≡ Full → length new' ≡ 0 → Remembers old memo'
+  pub full : r ≡ None → length new' ≡ 0 → Remembers old memo'

@@ -9,18 +9,17 @@ use borrow.Author.Tests.{eqb-true, eqb-false}
 use lib.Dec.{eqb}
 use lib.ListN.{length, get_or, set}
 use lib.Seq.{get_or-set_same, get_or-set_other}
+use Rattle.std.specs.Prelude.{Option, Some, None}
+use Rattle.words.specs.Ran.{interned}
 use Rattle.words.specs.declared.Interned.{Interned}
-use Rattle.words.specs.declared.Interned.TheVariants.{At, Full}
 use Rattle.memo.specs.Memo.{Line, Lines, Tells, Noted, Learned}
-use Rattle.memo.specs.declared.Recalled.{Recalled}
-use Rattle.memo.specs.declared.Recalled.TheVariants.{Is, Nothing}
 
 -- ---- the functions
 
-pub tells_nothing : (memo : List ℕ) (key : ℕ) → Tells memo key Nothing
+pub tells_nothing : (memo : List ℕ) (key : ℕ) → Tells memo key None
 tells_nothing memo key = record { line = λ h e. let z : ◌≡◌ {A = ℕ} 0 1 = cc in absurd (omega arith) }
 
-pub tells_line : (memo : List ℕ) (key i : ℕ) → (key ≡ 0 → ⊥) → get_or memo i 0 / 1048576 ≡ key → Tells memo key (Is (get_or memo i 0 % 1048576))
+pub tells_line : (memo : List ℕ) (key i : ℕ) → (key ≡ 0 → ⊥) → get_or memo i 0 / 1048576 ≡ key → Tells memo key (Some (get_or memo i 0 % 1048576))
 tells_line memo key i some k = record {
   line = λ h e.
       let a : get_or memo i 0 % 1048576 ≡ h = cc in
@@ -40,10 +39,10 @@ noted_line memo key answer j room some fits = record { line = λ i. go i (eqb i 
         inr (record { some = some; fits = fits; word = rw e w })
     go i false q = inl (get_or-set_other memo j i (key * 1048576 + answer) 0 (eqb-false i j q))
 
-pub learned_at : (memo : List ℕ) (key h v : ℕ) (memo' : List ℕ) (r : Interned) → r ≡ At h v → Noted memo key h memo' → Learned memo key r memo'
+pub learned_at : (memo : List ℕ) (key h v : ℕ) (memo' : List ℕ) (r : Option Interned) → r ≡ interned h v → Noted memo key h memo' → Learned memo key r memo'
 learned_at memo key h v memo' r e n = record { at = λ k w f. let q : h ≡ k = cc in rw q at n; full = λ f. let z : ◌≡◌ {A = ℕ} 0 1 = cc in absurd (omega arith) }
 
-pub learned_none : (memo : List ℕ) (key : ℕ) (r : Interned) → r ≡ Full → Learned memo key r memo
+pub learned_none : (memo : List ℕ) (key : ℕ) (r : Option Interned) → r ≡ None → Learned memo key r memo
 learned_none memo key r e = record { at = λ h v f. let z : ◌≡◌ {A = ℕ} 0 1 = cc in absurd (omega arith); full = λ f. refl }
 
 -- it holds of a memory without any
@@ -56,7 +55,7 @@ lines_weak f all = record { line = λ i key answer l. f key answer (all.line i k
 
 module _ {P : ℕ → ℕ → Type 0} {memo : List ℕ} (all : Lines P memo) {key : ℕ} where
   -- it holds of what is recalled
-  pub recalled : {r : Recalled} → Tells memo key r → (h : ℕ) → r ≡ Is h → P key h
+  pub recalled : {r : Option ℕ} → Tells memo key r → (h : ℕ) → r ≡ Some h → P key h
   recalled t h e = let l = t.line h e in all.line l.0 key h l.1
 
   -- and noting an answer of which it holds keeps it

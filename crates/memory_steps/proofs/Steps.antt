@@ -6,8 +6,9 @@ use Prim.Native.Nat.{ℕ}
 use native.Mathlib.Omega.{arith}
 use lib.Dec.{eqb}
 use lib.ListN.{length, replicate}
+use Rattle.std.specs.Prelude.{Option, None}
+use Rattle.words.specs.Ran.{interned}
 use Rattle.words.specs.declared.Interned.{Interned}
-use Rattle.words.specs.declared.Interned.TheVariants.{At, Full}
 use Rattle.walk_rules.specs.declared.Walk.{Walk}
 use Rattle.walk_rules.specs.declared.Walk.TheVariants.{Dual, Glb, Lub}
 use Rattle.memory_steps.specs.Steps.{part_of, second, Forgot}
@@ -25,22 +26,22 @@ module _ (walk : Walk) where
   unfolding part_of
   lub_part e = rw e
 
-module _ (m : Interned) where
-  pub second_at : (h v b : ℕ) → m ≡ At h v → eqb h b ≡ second m b
+module _ (m : Option Interned) where
+  pub second_at : (h v b : ℕ) → m ≡ interned h v → eqb h b ≡ second m b
   unfolding second
   second_at h v b e = rw e
 
-  pub second_full : (b : ℕ) → m ≡ Full → false ≡ second m b
+  pub second_full : (b : ℕ) → m ≡ None → false ≡ second m b
   unfolding second
   second_full b e = rw e
 
 -- a memory that is forgotten where the answer did not fit
-module _ (r : Interned) (memory : List ℕ) where
-  pub forgot_all : (memory' : List ℕ) → r ≡ Full → memory' ≡ replicate (length memory) 0 → Forgot r memory memory'
+module _ (r : Option Interned) (memory : List ℕ) where
+  pub forgot_all : (memory' : List ℕ) → r ≡ None → memory' ≡ replicate (length memory) 0 → Forgot r memory memory'
   forgot_all memory' is z = record { full = λ _. z; kept = λ ne. absurd (ne is) }
 
-  pub forgot_none : (h v : ℕ) → r ≡ At h v → Forgot r memory memory
+  pub forgot_none : (h v : ℕ) → r ≡ interned h v → Forgot r memory memory
   forgot_none h v is = record { full = λ e. absurd (clash (sym is ∙ e)); kept = λ _. refl }
     where
-      clash : At h v ≡ Full → ⊥
+      clash : interned h v ≡ None → ⊥
       clash q = let z : ◌≡◌ {A = ℕ} 0 1 = cc in omega arith

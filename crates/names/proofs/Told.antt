@@ -11,9 +11,8 @@ use Rattle.words.specs.Words.{eqs}
 use Rattle.words.specs.Table.{find_in}
 use Rattle.words.specs.Made.{make}
 use Rattle.words.specs.Ran.{Segments, Ran}
-use Rattle.words.specs.declared.Found.{Found}
-use Rattle.words.specs.declared.Found.TheVariants.{Nothing}
-use Rattle.words.specs.declared.Interned.TheVariants.{At, Full}
+use Rattle.std.specs.Prelude.{Option, None}
+use Rattle.words.specs.Ran.{interned}
 use Rattle.words.proofs.Alike.{other_length, other_word, same_word}
 use Rattle.words.proofs.Copy.{front, front_more, front_all}
 use Rattle.words.proofs.Placed.{appended, no_room}
@@ -45,11 +44,11 @@ module _ (e d₀ d : List ℕ) (i n : ℕ) (is : d ≡ front e i d₀) (long : n
   pub all_written : i ≤ length e → n ≤ i → d ≡ e ++ drop (length e) d₀
   all_written low out = front_all e d₀ d i is low (omega arith)
 
-module _ (old new : List ℕ) (used : ℕ) (e : List ℕ) (s : Segments old new used) (f : Found) (is : f ≡ find_in (take used (old ++ new)) e) (gone : f ≡ Nothing) (n : ℕ) (long : n ≡ length e) where
+module _ (old new : List ℕ) (used : ℕ) (e : List ℕ) (s : Segments old new used) (f : Option ℕ) (is : f ≡ find_in (take used (old ++ new)) e) (gone : f ≡ None) (n : ℕ) (long : n ≡ length e) where
   pub put : (d : List ℕ) → n ≤ length new - (used - length old)
       → d ≡ e ++ drop (length e) (take (length new - (used - length old)) (drop (used - length old) new))
-      → Ran used (make (take used (old ++ new)) e) (old ++ new) (old ++ put_mid (used - length old) (length new - (used - length old)) new d) (At used (used + n))
+      → Ran used (make (take used (old ++ new)) e) (old ++ new) (old ++ put_mid (used - length old) (length new - (used - length old)) new d) (interned used (used + n))
   put d room eq = rw long (appended old new used e s f is gone d (omega arith) eq)
 
-  pub too_long : length new - (used - length old) < n → Ran used (make (take used (old ++ new)) e) (old ++ new) (old ++ new) Full
+  pub too_long : length new - (used - length old) < n → Ran used (make (take used (old ++ new)) e) (old ++ new) (old ++ new) None
   too_long out = no_room old new used e s f is gone (omega arith)

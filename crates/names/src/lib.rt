@@ -15,7 +15,7 @@ ghost use Rattle.index.specs.Covers.{indexed_to, Covers};
 ghost use Rattle.source.specs.Packed.{of_bytes};
 ghost use Rattle.names.specs.Name.{name_entry, wrapped, longest_text};
 
-use words::{Found, Search, kinds};
+use words::{Interned, Search, kinds};
 
 // The bytes of "[" and "]".
 const OPEN_BRACKET: u64 = 91;
@@ -139,13 +139,13 @@ fn look_name(words: &[u64], base: usize, from: usize, to: usize, text: &[u8], wr
         at = words::pass_over(words, at, to, head, n);
         if to <= at {
             return Search {
-                found: Found::Nothing,
+                found: None,
                 count: count,
             };
         }
         if same_name(&words[at..at + n], text, wrap) {
             return Search {
-                found: Found::At(base + at),
+                found: Some(base + at),
                 count: count + 1,
             };
         }
@@ -153,7 +153,7 @@ fn look_name(words: &[u64], base: usize, from: usize, to: usize, text: &[u8], wr
         at += n;
     }
     Search {
-        found: Found::Nothing,
+        found: None,
         count: count,
     }
 }
@@ -204,7 +204,7 @@ fn search_name(
     text: &[u8],
     wrap: bool,
     index: &[u64],
-) -> Found
+) -> Option<usize>
     requires segments { Segments old.now new.now used }
     requires text_len_bound { length text.now ≤ longest_text }
     requires covers { Covers (take used (old.now ++ new.now)) index.now }
@@ -212,7 +212,7 @@ fn search_name(
 {
     let half = index.len() / 2;
     if half == 0 {
-        return Found::Nothing;
+        return None;
     }
     let b = name_bucket(half, text, wrap);
     let mut at = index[b] as usize;
@@ -223,9 +223,9 @@ fn search_name(
         at = (index[half + at] - 1) as usize;
     }
     if lowest == 0 {
-        return Found::Nothing;
+        return None;
     }
-    Found::At(lowest)
+    Some(lowest)
 }
 
 // The first entry of a name among those from `from` on; from 1 on, among all.
@@ -254,8 +254,8 @@ pub fn find_bytes(
     let first = look_name(old, 0, from, old.len(), text, wrap);
     let f = first.found;
     match f {
-        Found::At(_) => first,
-        Found::Nothing => {
+        Some(_) => first,
+        None => {
             let second = look_name(new, old.len(), 0, used - old.len(), text, wrap);
             words::behind(first.count, second)
         }
@@ -263,21 +263,23 @@ pub fn find_bytes(
 }
 
 // The lowest handle of a name's entry.
-fn find_name(old: &[u64], new: &[u64], used: usize, text: &[u8], wrap: bool, index: &[u64]) -> Found
+fn find_name(
+    old: &[u64],
+    new: &[u64],
+    used: usize,
+    text: &[u8],
+    wrap: bool,
+    index: &[u64],
+) -> Option<usize>
     requires segments { Segments old.now new.now used }
     requires text_len_bound { length text.now ≤ longest_text }
     requires covers { Covers (take used (old.now ++ new.now)) index.now }
     ensures { result ≡ find_in (take used (old.now ++ new.now)) (name_entry (wrapped wrap text.now)) }
 {
-    let f = search_name(old, new, used, text, wrap, index);
-    match f {
-        Found::At(h) => Found::At(h),
-        Found::Nothing => {
-            let rest = find_bytes(old, new, used, index::covered(index), text, wrap);
-            let g = rest.found;
-            g
-        }
+    if let Some(h) = search_name(old, new, used, text, wrap, index) {
+        return Some(h);
     }
+    find_bytes(old, new, used, index::covered(index), text, wrap).found
 }
 
 // Fills the first words of `dst` with a name's entry.
@@ -302,24 +304,23 @@ pub fn intern_name(
     text: &[u8],
     wrap: bool,
     index: &[u64],
-) -> words::Interned
+) -> Option<Interned>
     requires segments { Segments old.now new.old used }
     requires text_len_bound { length text.now ≤ longest_text }
     requires covers { Covers (take used (old.now ++ new.old)) index.now }
     ensures { Runs (λ u. make u (name_entry (wrapped wrap text.now))) old.now new.old used new.new result }
 {
-    let f = find_name(old, new, used, text, wrap, index);
-    match f {
-        Found::At(h) => words::Interned::At(h, used),
-        Found::Nothing => {
-            let at = used - old.len();
-            let n = name_size(text, wrap);
-            if n <= new.len() - at {
-                write_name(&mut new[at..], text, wrap);
-                words::Interned::At(used, used + n)
-            } else {
-                words::Interned::Full
-            }
-        }
+    if let Some(handle) = find_name(old, new, used, text, wrap, index) {
+        return Some(Interned { handle, used });
     }
+    let at = used - old.len();
+    let n = name_size(text, wrap);
+    if new.len() - at < n {
+        return None;
+    }
+    write_name(&mut new[at..], text, wrap);
+    Some(Interned {
+        handle: used,
+        used: used + n,
+    })
 }

@@ -8,8 +8,9 @@ use lib.ListN.{length, take, drop, get_or, set, length-set}
 use lib.Seq.{take-take}
 use Rattle.words.specs.Words.{fills}
 use Rattle.words.specs.Ran.{Runs}
+use Rattle.std.specs.Prelude.{Option, Some, None}
+use Rattle.words.specs.Ran.{interned}
 use Rattle.words.specs.declared.Interned.{Interned}
-use Rattle.words.specs.declared.Interned.TheVariants.{At, Full}
 use Rattle.wellformed.specs.Form.{well_formed, used_words}
 use Rattle.wellformed.proofs.Before.{tests}
 use Rattle.index.specs.Covers.{indexed_to, Opened}
@@ -52,7 +53,7 @@ module _ (ws index memory types : List ℕ) (o : OpenStore ws index memory) (q :
   k_fits = omega (arith, is, o.whole.room)
 
   -- what the merge left, and the end
-  module _ (ws₁ : List ℕ) (r : Interned) (ran : Runs (meet_list_of types) [] ws used ws₁ r) (same : length ws₁ ≡ length ws) (m : Made) (ws₂ : List ℕ) (e : left (made m) ws₂ ≡ finish_in used r ws₁) (long : length ws₂ ≡ length ws₁)
+  module _ (ws₁ : List ℕ) (r : Option Interned) (ran : Runs (meet_list_of types) [] ws used ws₁ r) (same : length ws₁ ≡ length ws) (m : Made) (ws₂ : List ℕ) (e : left (made m) ws₂ ≡ finish_in used r ws₁) (long : length ws₂ ≡ length ws₁)
       (d : List ℕ) (lent : length d ≡ length (take (length index - k) (drop k index))) where
     list_ended : left (made m) ws₂ ≡ run (meet_list types) ws
     list_ended = ended (meet_list_rows types) (meet_list_of types) ws used (used_is ws o.well) (used_some ws o.well) q ws₁ r same ran (left (made m) ws₂) e
@@ -72,23 +73,25 @@ module _ (ws index memory types : List ℕ) (o : OpenStore ws index memory) (q :
 
     -- an answer that fitted
     record Set (h v : ℕ) : Type 0 where
-      at : r ≡ At h v
+      at : r ≡ interned h v
       words : used_words ws₂ ≡ set (take v ws₁) 0 v
 
     settled : (h : ℕ) → m ≡ Made-variants.Handle h → (v : ℕ) × Set h v
     unfolding finish_in
     settled h f = go r refl
       where
-        go : (s : Interned) → r ≡ s → (v : ℕ) × Set h v
-        go (At g v) a =
+        go : (s : Option Interned) → r ≡ s → (v : ℕ) × Set h v
+        go (Some s) a =
+            let g = s.handle in
+            let v = s.used in
             let e₁ : left (handle h) ws₂ ≡ left (handle g) (set ws₁ 0 v) = rw (f, a) at e in
             let y : handle h ≡ handle g = ap (λ (y : Outcome). y.reply) e₁ in
             let hg : h ≡ g = cc in
             let some : 0 < length ws₁ = omega (arith, same, (tests ws o.well).least) in
             let q = used_then ws ws₁ ws₂ used r (meet_list_of types (take used ws)) m (used_low ws o.well) (tests ws o.well).within some (merge_grows 6 types (take used ws)) ran e g v a in
             (v, record { at = rw hg a; words = q })
-        go Full a =
-            let e₁ : left (handle h) ws₂ ≡ finish_in used Full ws₁ = rw (f, a) at e in
+        go None a =
+            let e₁ : left (handle h) ws₂ ≡ finish_in used None ws₁ = rw (f, a) at e in
             let y : handle h ≡ refused 12 = ap (λ (y : Outcome). y.reply) e₁ in
             let z : ◌≡◌ {A = ℕ} 0 1 = cc in
             absurd (omega arith)
@@ -135,8 +138,8 @@ module _ (ws index memory types : List ℕ) (o : OpenStore ws index memory) (q :
 -- ---- the chains on the way
 
 -- nothing is promised where the store was full
-pub opened_full : {ws' chains : List ℕ} → OpenedThen ws' Full chains
+pub opened_full : {ws' chains : List ℕ} → OpenedThen ws' None chains
 opened_full = record { is = λ h v e. let z : ◌≡◌ {A = ℕ} 0 1 = cc in absurd (omega arith) }
 
-pub opened_now : {ws chains : List ℕ} {t v : ℕ} → Opened (take v ws) chains → OpenedThen ws (At t v) chains
+pub opened_now : {ws chains : List ℕ} {t v : ℕ} → Opened (take v ws) chains → OpenedThen ws (interned t v) chains
 opened_now {v = v} x = record { is = λ h w e. let q : v ≡ w = cc in rw (← q) x }

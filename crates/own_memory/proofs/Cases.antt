@@ -4,6 +4,7 @@ use mathlib.Core.List.{List}
 use Prim.Native.Nat.{ℕ, ◌+◌, ◌≤◌}
 use native.Mathlib.Omega.{arith}
 use lib.ListN.{length}
+use Rattle.std.specs.Prelude.{Option}
 use Rattle.words.specs.declared.Interned.{Interned}
 use Rattle.parts.specs.Parts.{Ready, ReadyOne}
 use Rattle.meet.specs.Met.{Met}
@@ -28,23 +29,23 @@ module _ (op : Operation) (old new : List ℕ) (used a : ℕ) where
   pub asked_meet : (b : ℕ) → op ≡ Meet b → Asked op old new used a → Ready old new used 1 11 a b
   asked_meet b e q = rw e at q
 
-  pub done_meet : (new' known' : List ℕ) (r : Interned) (b : ℕ) → op ≡ Meet b → Met old new used a b new' r → Done op old new used a new' r × KnowsAfter op old new' r known'
+  pub done_meet : (new' known' : List ℕ) (r : Option Interned) (b : ℕ) → op ≡ Meet b → Met old new used a b new' r → Done op old new used a new' r × KnowsAfter op old new' r known'
   done_meet new' known' r b e m = rw e (m, tt)
 
   pub asked_walk : (w : Walk) → op ≡ OfWalk w → Asked op old new used a → ReadyOne old new used a
   asked_walk w e q = rw e at q
 
-  pub done_walk : (new' known' : List ℕ) (r : Interned) (w : Walk) → op ≡ OfWalk w → Walked w old new used a new' r → Done op old new used a new' r × KnowsAfter op old new' r known'
+  pub done_walk : (new' known' : List ℕ) (r : Option Interned) (w : Walk) → op ≡ OfWalk w → Walked w old new used a new' r → Done op old new used a new' r × KnowsAfter op old new' r known'
   done_walk new' known' r w e m = rw e (m, tt)
 
   pub asked_ro : op ≡ MakeRo → Asked op old new used a → ReadyOne old new used a
   asked_ro e q = rw e at q
 
-  pub done_ro : (new' known' : List ℕ) (r : Interned) → op ≡ MakeRo → MadeRo old new used a new' r → {memo' : List ℕ} → Remembered old new' r memo' known' → Done op old new used a new' r × KnowsAfter op old new' r known'
+  pub done_ro : (new' known' : List ℕ) (r : Option Interned) → op ≡ MakeRo → MadeRo old new used a new' r → {memo' : List ℕ} → Remembered old new' r memo' known' → Done op old new used a new' r × KnowsAfter op old new' r known'
   done_ro new' known' r e m k = rw e (m, λ h v q. (k.is h v q).finals)
 
   pub asked_join : (b : ℕ) → op ≡ Join b → Asked op old new used a → Ready old new used 1 11 a b
   asked_join b e q = rw e at q
 
-  pub done_join : (new' known' : List ℕ) (r : Interned) (b : ℕ) → op ≡ Join b → Runs (λ u. join_of u a b) old new used new' r → Done op old new used a new' r × KnowsAfter op old new' r known'
+  pub done_join : (new' known' : List ℕ) (r : Option Interned) (b : ℕ) → op ≡ Join b → Runs (λ u. join_of u a b) old new used new' r → Done op old new used a new' r × KnowsAfter op old new' r known'
   done_join new' known' r b e m = rw e (m, tt)

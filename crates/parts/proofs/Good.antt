@@ -9,8 +9,7 @@ use lib.ListN.{length, take, drop, get_or, length-append, length-take, length-dr
 use lib.Seq.{get_or-take, get_or-drop, take-append-le, drop-append-le}
 use Rattle.words.specs.Words.{words_after, size_of, fills, kind_of, depth_of}
 use Rattle.words.specs.Table.{Row, rows, entries, starts, is_at, find_in}
-use Rattle.words.specs.declared.Found.{Found}
-use Rattle.words.specs.declared.Found.TheVariants.{At, Nothing}
+use Rattle.std.specs.Prelude.{Option, Some, None}
 use Rattle.words.specs.Made.{Grown, make}
 use Rattle.words.specs.Ran.{Segments}
 use Rattle.words.proofs.Alike.{eqs_eq}
@@ -182,20 +181,20 @@ any_below n top (h ∷ hs) a y = ⊎_elim (λ (l : n ≤ h). omega (arith, a.0))
 make_new : (u e : List ℕ) → New u (make u e)
 make_new u e = go (find_in u e) refl
   where
-    go : (f : Found) → find_in u e ≡ f → New u (make u e)
-    go (At h) q = rw (make_there u e h q) (inl refl)
-    go Nothing q = rw (made-new u e q) (inr (omega arith))
+    go : (f : Option ℕ) → find_in u e ≡ f → New u (make u e)
+    go (Some h) q = rw (make_there u e h q) (inl refl)
+    go None q = rw (made-new u e q) (inr (omega arith))
 
 -- an entry with a new part is new
 make_late : (n : ℕ) (w e : List ℕ) → Good w → n ≤ length w → Any (λ p. n ≤ p) (types_in e) → n ≤ (make w e).handle
 unfolding find_in
 make_late n w e g l y = go (find_in w e) refl
   where
-    go : (f : Found) → find_in w e ≡ f → n ≤ (make w e).handle
-    go (At h) q =
+    go : (f : Option ℕ) → find_in w e ≡ f → n ≤ (make w e).handle
+    go (Some h) q =
         let r : Row = record { at = h; words = e } in
         rw (make_there w e h q) (any_below n h (types_in e) (types_earlier w g.sound r (found_in (entries w) e h q)) y)
-    go Nothing q = rw (made-new w e q) l
+    go None q = rw (made-new w e q) l
 
 pub made_late : (u w e : List ℕ) → Good w → length u ≤ length w → Late u w (types_in e) → New u (make w e)
 made_late u w e g l late = ⊎_elim (λ (q : w ≡ u). from q (make_new w e)) (λ y. inr (make_late (length u) w e g l y)) late

@@ -9,8 +9,9 @@ use lib.Seq.{length-take-le, take-take}
 use Rattle.words.specs.Words.{fills, kind_of, count_of}
 use Rattle.words.specs.Made.{Grown, there}
 use Rattle.words.specs.Ran.{Segments, Ran}
+use Rattle.std.specs.Prelude.{Option, None}
+use Rattle.words.specs.Ran.{interned}
 use Rattle.words.specs.declared.Interned.{Interned}
-use Rattle.words.specs.declared.Interned.TheVariants.{At, Full}
 use Rattle.words.proofs.Extend.{Extends, ext_take}
 use Rattle.words.proofs.Room.{Fit, fit, fitted, fit_front, fit_length, then, stop}
 use Rattle.index.specs.Covers.{Covers}
@@ -48,7 +49,7 @@ grew_none {old} {new} {used} g h =
     }
 
 -- an answer that is there already
-pub grew_there : {old new : List ℕ} {used : ℕ} (h : ℕ) → Grew old new used new used → Ran used (record { words = take used (old ++ new); handle = h }) (old ++ new) (old ++ new) (At h used)
+pub grew_there : {old new : List ℕ} {used : ℕ} (h : ℕ) → Grew old new used new used → Ran used (record { words = take used (old ++ new); handle = h }) (old ++ new) (old ++ new) (interned h used)
 grew_there {old} {new} {used} h w =
     let f = w.fits in
     fit used (record { words = take used (old ++ new); handle = h }) (old ++ new) (old ++ new) h used (record { handle = refl; end = f.end; room = f.room; words = f.words })
@@ -77,16 +78,16 @@ module _ {old new : List ℕ} {used : ℕ} {now : List ℕ} {v : ℕ} (w : Grew 
       sym (take-take used v (old ++ now) grew_up) ∙ ap (λ (k : ℕ). take k u) (sym (length-take-le used (old ++ new) w.within)) ∙ ext_take u₀ u ext
 
   -- an operation more
-  module _ (g : Grown) (now' : List ℕ) (r : Interned) (grows : Extends u g.words) (ran : Ran v g (old ++ now) (old ++ now') r) where
+  module _ (g : Grown) (now' : List ℕ) (r : Option Interned) (grows : Extends u g.words) (ran : Ran v g (old ++ now) (old ++ now') r) where
     pub grew_ran : Ran used g (old ++ new) (old ++ now') r
     grew_ran = then (grown u) (old ++ new) (old ++ now) 0 v w.fits used ext w.within g (old ++ now') r grows ran
 
-    pub grew_words : (h v' : ℕ) → r ≡ At h v' → (h ≡ g.handle) × (take v' (old ++ now') ≡ g.words)
+    pub grew_words : (h v' : ℕ) → r ≡ interned h v' → (h ≡ g.handle) × (take v' (old ++ now') ≡ g.words)
     grew_words h v' e =
         let f = fitted used g (old ++ new) (old ++ now') r grew_ran h v' e in
         (f.handle, fit_front g (old ++ new) (old ++ now') h v' f)
 
-    pub grew_more : (h v' : ℕ) → r ≡ At h v' → Adds u g → Grew old new used now' v'
+    pub grew_more : (h v' : ℕ) → r ≡ interned h v' → Adds u g → Grew old new used now' v'
     grew_more h v' e a =
         let f = fitted used g (old ++ new) (old ++ now') r grew_ran h v' e in
         let q = fit_front g (old ++ new) (old ++ now') h v' f in
@@ -97,12 +98,12 @@ module _ {old new : List ℕ} {used : ℕ} {now : List ℕ} {v : ℕ} (w : Grew 
           within = w.within;
         }
 
-    pub grew_stop : r ≡ Full → (g₂ : Grown) → Extends g.words g₂.words → Ran used g₂ (old ++ new) (old ++ now') Full
+    pub grew_stop : r ≡ None → (g₂ : Grown) → Extends g.words g₂.words → Ran used g₂ (old ++ new) (old ++ now') None
     grew_stop e g₂ x = stop used g g₂ (old ++ new) (old ++ now') x (rw e at grew_ran)
 
 -- a first operation gave g₁, and a second takes its answer
-module _ {old new : List ℕ} {used : ℕ} (first : Grew old new used new used) (g₁ : Grown) (now : List ℕ) (m : Interned) (grows : Extends (take used (old ++ new)) g₁.words) (ran : Ran used g₁ (old ++ new) (old ++ now) m) where
-  pub then_made : (h v : ℕ) → m ≡ At h v → Grew old new used now v → (op : List ℕ → ℕ → Grown) → ((w : List ℕ) (k : ℕ) → Extends w (op w k).words) → (now₂ : List ℕ) (o : Interned)
+module _ {old new : List ℕ} {used : ℕ} (first : Grew old new used new used) (g₁ : Grown) (now : List ℕ) (m : Option Interned) (grows : Extends (take used (old ++ new)) g₁.words) (ran : Ran used g₁ (old ++ new) (old ++ now) m) where
+  pub then_made : (h v : ℕ) → m ≡ interned h v → Grew old new used now v → (op : List ℕ → ℕ → Grown) → ((w : List ℕ) (k : ℕ) → Extends w (op w k).words) → (now₂ : List ℕ) (o : Option Interned)
       → Ran v (op (take v (old ++ now)) h) (old ++ now) (old ++ now₂) o → Ran used (op g₁.words g₁.handle) (old ++ new) (old ++ now₂) o
   then_made h v f on op op-grows now₂ o l =
       let s = grew_words first g₁ now m grows ran h v f in

@@ -8,8 +8,7 @@ use native.Mathlib.Omega.{arith}
 use Rattle.words.specs.Words.{words_after, size_of, fills, eqs}
 use Rattle.words.specs.Columns.{every}
 use Rattle.words.specs.Table.{Row, rows, entries, first_of, RowIn, Own}
-use Rattle.words.specs.declared.Found.{Found}
-use Rattle.words.specs.declared.Found.TheVariants.{At}
+use Rattle.std.specs.Prelude.{Option, Some}
 use Rattle.bitset.specs.Bitset.{nowhere, also}
 use Rattle.wellformed.specs.Fresh.{fresh_words}
 use Rattle.wellformed.specs.Entry.{most_of, names_in, types_in, all, deepest, float_ok, zero_filled, values_ok, ok_entry}
@@ -37,6 +36,6 @@ second_bot g =
     let own : Own (entries (used_words two_bots)) = ((grown_exactly two_bots two_bots_words).0 g).1 in
     let bot : Row = record { at = 94; words = 257 ∷ [] } in
     let m : RowIn bot (entries (used_words two_bots)) = Memᴰ.append_right (rows 1 0 fresh_words) (Memᴰ.head refl) in
-    let first : ◌≡◌ {A = Found} (At 5) (At 94) = own bot m in
+    let first : ◌≡◌ {A = Option ℕ} (Some 5) (Some 94) = own bot m in
     let z : ◌≡◌ {A = ℕ} 5 94 = cc in
     absurd (omega arith)

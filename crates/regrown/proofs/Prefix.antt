@@ -14,8 +14,7 @@ use Rattle.words.specs.Columns.{word}
 use Rattle.words.specs.Table.{Row, rows, entries, starts, first_of, find_in, RowIn, Own}
 use Rattle.words.specs.Made.{Grown, make}
 use Rattle.words.specs.Ran.{HasSize}
-use Rattle.words.specs.declared.Found.{Found}
-use Rattle.words.specs.declared.Found.TheVariants.{At, Nothing}
+use Rattle.std.specs.Prelude.{Option, Some, None}
 use Rattle.words.proofs.Walk.{size_pos, next, inside}
 use Rattle.words.proofs.Grow.{or_else, fills_append, rows_append, first_append, found_in}
 use Rattle.words.proofs.Placed.{make_new}
@@ -136,21 +135,21 @@ module _ (ws vs : List ℕ) (ok : well_formed ws ≡ true) (r : Reached ws vs) w
         rw heads at (and_left (ok_entry (heads_at (starts u) ws) e) (ok_rows ws (also at (starts u)) behind) here)
 
     -- it is not among the first entries, where no two of ws are equal
-    e_new : Own (entries (used_words ws)) → find_in u e ≡ Nothing
+    e_new : Own (entries (used_words ws)) → find_in u e ≡ None
     unfolding find_in or_else
     e_new own =
         let row : Row = record { at = at; words = e } in
         let table : entries (used_words ws) ≡ entries u ++ (row ∷ behind) = entries_split ∙ ap (λ (l : List Row). entries u ++ l) next_row in
         let m : RowIn row (entries (used_words ws)) = rw table (Memᴰ.append_right (entries u) (Memᴰ.head refl)) in
-        let found : or_else (first_of (entries u) e) (first_of (row ∷ behind) e) ≡ At at = sym (first_append (entries u) (row ∷ behind) e) ∙ ap (λ (l : List Row). first_of l e) (sym table) ∙ own row m in
+        let found : or_else (first_of (entries u) e) (first_of (row ∷ behind) e) ≡ Some at = sym (first_append (entries u) (row ∷ behind) e) ∙ ap (λ (l : List Row). first_of l e) (sym table) ∙ own row m in
         go (first_of (entries u) e) refl found
       where
-        go : (f : Found) → first_of (entries u) e ≡ f → or_else f (first_of (record { at = at; words = e } ∷ behind) e) ≡ At at → f ≡ Nothing
-        go (At h) q found =
+        go : (f : Option ℕ) → first_of (entries u) e ≡ f → or_else f (first_of (record { at = at; words = e } ∷ behind) e) ≡ Some at → f ≡ None
+        go (Some h) q found =
             let same : h ≡ at = cc in
             let b = in_used u sound.low (record { at = h; words = e }) (found_in (entries u) e h q) in
             absurd (omega (arith, b.1, u_long))
-        go Nothing q found = refl
+        go None q found = refl
 
 -- ---- a maker's call appends its entry
 
@@ -183,7 +182,7 @@ module _ (ws vs : List ℕ) (ok : well_formed ws ≡ true) (r : Reached ws vs) (
   fitting : Fitting u₁ e₁
   fitting = record { sized = e_sized ws vs ok r more; ok = e_ok ws vs ok r more; ends = λ _ _. (e_small 1, e_small 2) }
 
-  new : find_in u₁ e₁ ≡ Nothing
+  new : find_in u₁ e₁ ≡ None
   new = e_new ws vs ok r more own
 
   maker : Maker u₁ e₁

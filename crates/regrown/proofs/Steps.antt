@@ -14,7 +14,7 @@ use Rattle.words.specs.Columns.{word, every}
 use Rattle.words.specs.Table.{rows, entries, starts, first_of, find_in}
 use Rattle.words.specs.Made.{make}
 use Rattle.words.specs.Ran.{HasSize}
-use Rattle.words.specs.declared.Found.TheVariants.{At, Nothing}
+use Rattle.std.specs.Prelude.{Some, None}
 use Rattle.words.proofs.Grow.{or_else, rows_append, first_append}
 use Rattle.words.proofs.Sizes.{name_size}
 use Rattle.wellformed.specs.Fresh.{fresh_words}
@@ -320,17 +320,17 @@ module _ (u e : List ℕ) (sized : HasSize e) (ok : ok_entry (heads_of u) e ≡ 
 
 -- ---- Bot, Top, Ctrl and XCtrl stand among the fresh entries: no call appends one
 
-fresh_found : {u : List ℕ} → Good u → (e : List ℕ) (h : ℕ) → first_of (rows 1 0 fresh_words) e ≡ At h → find_in u e ≡ At h
+fresh_found : {u : List ℕ} → Good u → (e : List ℕ) (h : ℕ) → first_of (rows 1 0 fresh_words) e ≡ Some h → find_in u e ≡ Some h
 unfolding find_in entries or_else fills size_of words_after fresh_words
 fresh_found {u} g e h is =
     let rest = drop 93 (drop 1 u) in
     let split : drop 1 u ≡ fresh_words ++ rest = sym (take-append-drop 93 (drop 1 u)) ∙ ap (λ (l : List ℕ). l ++ rest) g.fresh in
     rw (split, rows_append 1 0 fresh_words rest refl, first_append (rows 1 0 fresh_words) (rows (1 + length fresh_words) 0 rest) e, is)
 
-module _ {u : List ℕ} (g : Good u) (e : List ℕ) (new : find_in u e ≡ Nothing) (sized : HasSize e) (ok : ok_entry (heads_of u) e ≡ true) where
-  no_plain : (k h : ℕ) → kind e ≡ k → 1 ≤ k → most_of k ≡ 0 → words_after k (count e) ≡ 0 → types_in e ≡ [] → first_of (rows 1 0 fresh_words) ((k + 256) ∷ []) ≡ At h → ⊥
+module _ {u : List ℕ} (g : Good u) (e : List ℕ) (new : find_in u e ≡ None) (sized : HasSize e) (ok : ok_entry (heads_of u) e ≡ true) where
+  no_plain : (k h : ℕ) → kind e ≡ k → 1 ≤ k → most_of k ≡ 0 → words_after k (count e) ≡ 0 → types_in e ≡ [] → first_of (rows 1 0 fresh_words) ((k + 256) ∷ []) ≡ Some h → ⊥
   no_plain k h is low none after types there =
-      let old : find_in u e ≡ At h = rw (plain_words u e sized ok k is low none after types) (fresh_found g ((k + 256) ∷ []) h there) in
+      let old : find_in u e ≡ Some h = rw (plain_words u e sized ok k is low none after types) (fresh_found g ((k + 256) ∷ []) h there) in
       let z : ◌≡◌ {A = ℕ} 0 1 = cc in
       absurd (omega arith)
 

@@ -11,7 +11,7 @@ use Rattle.words.specs.Table.{rows, entries, first_of, find_in}
 use Rattle.words.specs.Search.{Searched}
 use Rattle.words.specs.Made.{make}
 use Rattle.words.specs.Ran.{Ran}
-use Rattle.words.specs.declared.Found.{Found}
+use Rattle.std.specs.Prelude.{Option}
 use Rattle.words.specs.declared.Interned.{Interned}
 use Rattle.index.specs.Covers.{Opened}
 use Rattle.names.specs.Name.{name_entry, wrapped}
@@ -36,31 +36,31 @@ module _ (ws : List ℕ) (t : Bool) (is : t ≡ well_formed ws) where
     pub ready : (index : List ℕ) → Opened (take (get_or ws 0 0) ws) index → Ready ws index true
     ready index o = record { is = sym (not-false t y) ∙ is; opened = λ e. o }
 
-pub found : (f g : Found) (r : ℕ) → f ≡ g → r ≡ of_found f → r ≡ of_found g
+pub found : (f g : Option ℕ) (r : ℕ) → f ≡ g → r ≡ of_found f → r ≡ of_found g
 found f g r e is = is ∙ ap of_found e
 
 -- a name that stands in no brackets
-pub left_name : (used : ℕ) (u name ws ws' : List ℕ) (i : Interned) (r : ℕ) → Ran used (make u (name_entry (wrapped false name))) ws ws' i → r ≡ of_interned i
+pub left_name : (used : ℕ) (u name ws ws' : List ℕ) (i : Option Interned) (r : ℕ) → Ran used (make u (name_entry (wrapped false name))) ws ws' i → r ≡ of_interned i
     → Left used (make u (name_entry name)) ws ws' r
 unfolding wrapped
 left_name used u name ws ws' i r ran e = record { answer = i; ran = ran; told = e }
 
 -- what is told of a search from the first entry on is told of all entries
 module _ (u : List ℕ) where
-  pub found_first : (e : List ℕ) (f : Found) (r : ℕ) → f ≡ first_of (rows 1 0 (drop 1 u)) e → r ≡ of_found f → r ≡ of_found (find_in u e)
+  pub found_first : (e : List ℕ) (f : Option ℕ) (r : ℕ) → f ≡ first_of (rows 1 0 (drop 1 u)) e → r ≡ of_found f → r ≡ of_found (find_in u e)
   unfolding find_in entries
   found_first e f r first is = is ∙ ap of_found first
 
-  pub told : (e : List ℕ) (f : Found) (n r count : ℕ) → Searched (rows 1 0 (drop 1 u)) e f n → (r ≡ of_found f) × (count ≡ n) → Told (entries u) e r count
+  pub told : (e : List ℕ) (f : Option ℕ) (n r count : ℕ) → Searched (rows 1 0 (drop 1 u)) e f n → (r ≡ of_found f) × (count ≡ n) → Told (entries u) e r count
   unfolding entries
   told e f n r count s is = record { handle = is.0 ∙ ap of_found s.answer; number = is.1 ∙ s.number }
 
   -- and of a name that stands in no brackets
   module _ (name : List ℕ) where
-    pub found_first_name : (f : Found) (r : ℕ) → f ≡ first_of (rows 1 0 (drop 1 u)) (name_entry (wrapped false name)) → r ≡ of_found f → r ≡ of_found (find_in u (name_entry name))
+    pub found_first_name : (f : Option ℕ) (r : ℕ) → f ≡ first_of (rows 1 0 (drop 1 u)) (name_entry (wrapped false name)) → r ≡ of_found f → r ≡ of_found (find_in u (name_entry name))
     unfolding wrapped
     found_first_name = found_first (name_entry name)
 
-    pub told_name : (f : Found) (n r count : ℕ) → Searched (rows 1 0 (drop 1 u)) (name_entry (wrapped false name)) f n → (r ≡ of_found f) × (count ≡ n) → Told (entries u) (name_entry name) r count
+    pub told_name : (f : Option ℕ) (n r count : ℕ) → Searched (rows 1 0 (drop 1 u)) (name_entry (wrapped false name)) f n → (r ≡ of_found f) × (count ≡ n) → Told (entries u) (name_entry name) r count
     unfolding wrapped
     told_name = told (name_entry name)

@@ -4,21 +4,19 @@ use Rattle.words.specs.Table.{Row, first_of}
 use Rattle.words.specs.Search.{not_passed_over}
 use Rattle.words.specs.Made.{Grown}
 use Rattle.words.specs.Ran.{Ran}
-use Rattle.words.specs.declared.Found.{Found}
-use Rattle.words.specs.declared.Found.TheVariants as Found-variants
+use Rattle.std.specs.Prelude.{Option, Some, None}
 use Rattle.words.specs.declared.Interned.{Interned}
-use Rattle.words.specs.declared.Interned.TheVariants as Interned-variants
 use Rattle.index.specs.Covers.{Opened}
 use Rattle.wellformed.specs.Form.{well_formed}
 
 -- a handle is itself, and nothing, or no room, is 0
-abbrev pub of_found : Found → ℕ
-of_found (Found-variants.At h) = h
-of_found Found-variants.Nothing = 0
+abbrev pub of_found : Option ℕ → ℕ
+of_found (Some h) = h
+of_found None = 0
 
-abbrev pub of_interned : Interned → ℕ
-of_interned (Interned-variants.At h used) = h
-of_interned Interned-variants.Full = 0
+abbrev pub of_interned : Option Interned → ℕ
+of_interned (Some m) = m.handle
+of_interned None = 0
 
 -- r says whether the words are a store; if they are, the index is theirs
 pub record Ready (ws index : List ℕ) (r : Bool) : Type 0 where
@@ -27,7 +25,7 @@ pub record Ready (ws index : List ℕ) (r : Bool) : Type 0 where
 
 -- r is what is told of the operation g on the words ws, and ws' what is left of them
 pub record Left (used : ℕ) (g : Grown) (ws ws' : List ℕ) (r : ℕ) : Type 0 where
-  pub answer : Interned
+  pub answer : Option Interned
   pub ran : Ran used g ws ws' answer
   pub told : r ≡ of_interned answer
 

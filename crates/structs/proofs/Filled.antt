@@ -11,6 +11,7 @@ use lib.ListN.{length, take, drop, get_or, drop_of_length-le}
 use lib.Seq.{drop-cons}
 use Rattle.words.specs.Made.{make}
 use Rattle.words.specs.Ran.{Ran}
+use Rattle.std.specs.Prelude.{Option}
 use Rattle.words.specs.declared.Interned.{Interned}
 use Rattle.wellformed.specs.Entry.{all, is_flag, is_alias_final}
 use Rattle.words.specs.Columns.{every, word}
@@ -71,7 +72,7 @@ module _ (u types finals f x : List ℕ) (a : ℕ) (is : f ≡ fields_with u (a 
       let q : a + 4 ≡ a + 2 + 2 = omega arith in
       rw front (with_values u (a + 2) types finals same (rw q at h) k)
 
-  pub again_made : (name : ℕ) → name ≡ word u (a + 1) → (kept : ℕ) (ws ws' : List ℕ) (r : Interned)
+  pub again_made : (name : ℕ) → name ≡ word u (a + 1) → (kept : ℕ) (ws ws' : List ℕ) (r : Option Interned)
       → Ran kept (make u (struct_entry name (take (4 * length types) f) u)) ws ws' r → Ran kept (remake a types finals u) ws ws' r
   unfolding remake
   again_made name named kept ws ws' r ran = rw (front, named) at ran

@@ -8,6 +8,7 @@ use lib.ListN.{length, take, drop, get_or, set, drop_of_length-le}
 use lib.Seq.{drop-cons, set_split, drop-drop}
 use Rattle.words.specs.Made.{make}
 use Rattle.words.specs.Ran.{Ran}
+use Rattle.std.specs.Prelude.{Option}
 use Rattle.words.specs.declared.Interned.{Interned}
 use Rattle.words.proofs.Written.{written_on, written_all}
 use Rattle.makers.specs.Entries.{tuple_entry}
@@ -40,5 +41,5 @@ module _ (types f x : List ℕ) (is : f ≡ types ++ x) where
   pub widened_few : (most : ℕ) → length types ≤ most → length (take (length types) f) ≤ most
   widened_few most few = rw front few
 
-  pub tuple_made : (kept : ℕ) (u ws ws' : List ℕ) (r : Interned) → Ran kept (make u (tuple_entry (take (length types) f) u)) ws ws' r → Ran kept (make u (tuple_entry types u)) ws ws' r
+  pub tuple_made : (kept : ℕ) (u ws ws' : List ℕ) (r : Option Interned) → Ran kept (make u (tuple_entry (take (length types) f) u)) ws ws' r → Ran kept (make u (tuple_entry types u)) ws ws' r
   tuple_made kept u ws ws' r ran = rw front at ran

@@ -6,8 +6,9 @@ use native.Mathlib.Omega.{arith}
 use lib.ListN.{length, take, get_or, set}
 use Rattle.words.specs.Made.{Grown}
 use Rattle.words.specs.Ran.{Segments, Ran}
+use Rattle.std.specs.Prelude.{Option, None}
+use Rattle.words.specs.Ran.{interned}
 use Rattle.words.specs.declared.Interned.{Interned}
-use Rattle.words.specs.declared.Interned.TheVariants.{At, Full}
 use Rattle.words.proofs.Extend.{Extends}
 use Rattle.words.specs.Columns.{every, word}
 use Rattle.parts.specs.Parts.{Part, All, ReadyOne}
@@ -76,29 +77,29 @@ module _ {walk : Walk} {s : ℕ} {old new : List ℕ} {used a n p₀ : ℕ} {now
     going_ready = turn_ready J.turn J.inside part_x
 
     -- what the part's call left
-    module _ {now' : List ℕ} {r : Interned} (walked : Walked walk old now v x now' r) where
+    module _ {now' : List ℕ} {r : Option Interned} (walked : Walked walk old now v x now' r) where
       told : (k : ℕ) → a ≤ k → Ran v ((parts_of walk s n p₀ w₀).step k i w) (old ++ now) (old ++ now') r
       unfolding parts_of
       told k l = rw is_x at (walked.is k (omega (arith, going_first)))
 
-      pub going_stop : r ≡ Full → (F : Many → Grown) → ((m : Many) → Extends m.words (F m).words) → (k : ℕ) → a ≤ k → Ran used (F (every_part k)) (old ++ new) (old ++ now') Full
+      pub going_stop : r ≡ None → (F : Many → Grown) → ((m : Many) → Extends m.words (F m).words) → (k : ℕ) → a ≤ k → Ran used (F (every_part k)) (old ++ new) (old ++ now') None
       going_stop f F grows k ka = rw (whole k) at (turn_stop J.turn more now' r told f F grows k ka)
 
-      pub going_turn : (h v' : ℕ) → r ≡ At h v' → i < length parts → Going₁ walk s old new used a n p₀ now' (set parts i h) v' (i + 1)
+      pub going_turn : (h v' : ℕ) → r ≡ interned h v' → i < length parts → Going₁ walk s old new used a n p₀ now' (set parts i h) v' (i + 1)
       unfolding parts_of
       going_turn h v' f l =
           let res = (walk_nice walk a).types w x 33 (good_adds J.turn.grew.start J.turn.grew.adds) (turn_part J.turn a (omega arith) part_x) in
           record { turn = turn_on J.turn more now' r told (rw is_x at res.adds) h v' f l; inside = J.inside; first = J.first }
 
       -- its handle is that of an entry of the store
-      pub going_small : (h v' : ℕ) → r ≡ At h v' → h < 1048576
+      pub going_small : (h v' : ℕ) → r ≡ interned h v' → h < 1048576
       unfolding parts_of
       going_small h v' f =
           let res = (walk_nice walk a).types w x 33 (good_adds J.turn.grew.start J.turn.grew.adds) (turn_part J.turn a (omega arith) part_x) in
           turn_small J.turn more now' r told (rw is_x at res.adds) (rw is_x at res.part.earlier) h v' f
 
   -- the last part is done
-  pub going_end : n ≤ i → i ≤ n → (F : Many → Grown) → ((m : Many) → Extends m.words (F m).words) → (now' : List ℕ) (r : Interned) → Ran v (F (record { words = w; handles = take n parts })) (old ++ now) (old ++ now') r → (k : ℕ) → a ≤ k
+  pub going_end : n ≤ i → i ≤ n → (F : Many → Grown) → ((m : Many) → Extends m.words (F m).words) → (now' : List ℕ) (r : Option Interned) → Ran v (F (record { words = w; handles = take n parts })) (old ++ now) (old ++ now') r → (k : ℕ) → a ≤ k
       → Ran used (F (every_part k)) (old ++ new) (old ++ now') r
   going_end lo hi F grows now' r t k ka = rw (whole k) at (turn_end J.turn lo hi F grows now' r t k ka)
 

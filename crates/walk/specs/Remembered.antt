@@ -1,6 +1,7 @@
 -- What a memory of walks holds: answers that are settled. `u` is the used words.
 use Rattle.std.specs.Prelude.{◌≡◌, List, ℕ, ◌<◌}
 use Rattle.words.specs.Made.{there}
+use Rattle.std.specs.Prelude.{Option}
 use Rattle.words.specs.declared.Interned.{Interned}
 use Rattle.later.specs.Later.{Later}
 use Rattle.later.specs.Right.{RightAfter}
@@ -17,5 +18,5 @@ abbrev pub Remembers : Walk → List ℕ → List ℕ → Type 0
 Remembers walk u memo = Lines (Settled walk u) memo
 
 -- what the function of the walk leaves of a memory: where its answer fitted, one of the used words as they are then
-abbrev pub Remembered : Walk → (old new' : List ℕ) → Interned → (memo' : List ℕ) → Type 0
+abbrev pub Remembered : Walk → (old new' : List ℕ) → Option Interned → (memo' : List ℕ) → Type 0
 Remembered walk old new' r memo' = RightAfter (Settled walk) old new' r memo'

@@ -10,8 +10,9 @@ use lib.ListN.{length, take, get_or, length-append, take-append-drop}
 use lib.Seq.{length-take-le}
 use Rattle.words.specs.Made.{make}
 use Rattle.words.specs.Ran.{Segments, Ran}
+use Rattle.std.specs.Prelude.{Option}
+use Rattle.words.specs.Ran.{interned}
 use Rattle.words.specs.declared.Interned.{Interned}
-use Rattle.words.specs.declared.Interned.TheVariants.{At}
 use Rattle.words.proofs.Room.{fit}
 use Rattle.type_float.specs.Float.{size_from, word_of, is_size_word, is_size}
 use Rattle.type_float.proofs.Size.{each_word, word_size, size_ok}
@@ -22,7 +23,7 @@ use Rattle.walk_rules.specs.declared.Walk.{Walk}
 use Rattle.walk_rules.specs.declared.Walk.TheVariants.{Dual, Glb, Lub}
 
 -- an answer that is there already
-pub there-ran : (old new : List ℕ) (used : ℕ) → Segments old new used → (h : ℕ) → Ran used (record { words = take used (old ++ new); handle = h }) (old ++ new) (old ++ new) (At h used)
+pub there-ran : (old new : List ℕ) (used : ℕ) → Segments old new used → (h : ℕ) → Ran used (record { words = take used (old ++ new); handle = h }) (old ++ new) (old ++ new) (interned h used)
 there-ran old new used seg h =
     let ws = old ++ new in
     let room : used ≤ length ws = omega (arith, length-append old new, seg.high) in
@@ -31,28 +32,28 @@ there-ran old new used seg h =
 
 -- ---- Ints and Floats
 
-pub int-dual : (w : Walk) (u : List ℕ) (a kept : ℕ) (ws ws' : List ℕ) (r : Interned) → w ≡ Dual → (x y : ℕ) → x ≡ get_or u (a + 2) 0 → y ≡ get_or u (a + 1) 0
+pub int-dual : (w : Walk) (u : List ℕ) (a kept : ℕ) (ws ws' : List ℕ) (r : Option Interned) → w ≡ Dual → (x y : ℕ) → x ≡ get_or u (a + 2) 0 → y ≡ get_or u (a + 1) 0
     → Ran kept (make u (int_entry x y)) ws ws' r → Ran kept (int_of w a u) ws ws' r
 int-dual w u a kept ws ws' r e x y ex ey t = rw (e, ← ex, ← ey) t
 
 module _ (w : Walk) (old new : List ℕ) (used a : ℕ) (seg : Segments old new used) where
-  pub int-glb : w ≡ Glb → Ran used (int_of w a (take used (old ++ new))) (old ++ new) (old ++ new) (At 25 used)
+  pub int-glb : w ≡ Glb → Ran used (int_of w a (take used (old ++ new))) (old ++ new) (old ++ new) (interned 25 used)
   int-glb e = rw e (there-ran old new used seg 25)
 
-  pub int-lub : w ≡ Lub → Ran used (int_of w a (take used (old ++ new))) (old ++ new) (old ++ new) (At 22 used)
+  pub int-lub : w ≡ Lub → Ran used (int_of w a (take used (old ++ new))) (old ++ new) (old ++ new) (interned 22 used)
   int-lub e = rw e (there-ran old new used seg 22)
 
-  pub float-glb : w ≡ Glb → Ran used (float_of w a (take used (old ++ new))) (old ++ new) (old ++ new) (At 61 used)
+  pub float-glb : w ≡ Glb → Ran used (float_of w a (take used (old ++ new))) (old ++ new) (old ++ new) (interned 61 used)
   float-glb e = rw e (there-ran old new used seg 61)
 
-  pub float-lub : w ≡ Lub → Ran used (float_of w a (take used (old ++ new))) (old ++ new) (old ++ new) (At 49 used)
+  pub float-lub : w ≡ Lub → Ran used (float_of w a (take used (old ++ new))) (old ++ new) (old ++ new) (interned 49 used)
   float-lub e = rw e (there-ran old new used seg 49)
 
 -- a constant
-pub float-stays : (old new : List ℕ) (used a : ℕ) → Segments old new used → (size : ℕ) → size ≡ get_or (take used (old ++ new)) (a + 1) 0 → size ≡ 64 → Ran used (float_of Dual a (take used (old ++ new))) (old ++ new) (old ++ new) (At a used)
+pub float-stays : (old new : List ℕ) (used a : ℕ) → Segments old new used → (size : ℕ) → size ≡ get_or (take used (old ++ new)) (a + 1) 0 → size ≡ 64 → Ran used (float_of Dual a (take used (old ++ new))) (old ++ new) (old ++ new) (interned a used)
 float-stays old new used a seg size is e = rw (← is, eq-eqb size 64 e) (there-ran old new used seg a)
 
-pub float-dual : (w : Walk) (u : List ℕ) (a kept : ℕ) (ws ws' : List ℕ) (r : Interned) → w ≡ Dual → Ran kept (float_of Dual a u) ws ws' r → Ran kept (float_of w a u) ws ws' r
+pub float-dual : (w : Walk) (u : List ℕ) (a kept : ℕ) (ws ws' : List ℕ) (r : Option Interned) → w ≡ Dual → Ran kept (float_of Dual a u) ws ws' r → Ran kept (float_of w a u) ws ws' r
 float-dual w u a kept ws ws' r e t = rw e t
 
 -- a size with the other sign
@@ -69,7 +70,7 @@ module _ (u : List ℕ) (a size : ℕ) (is : size ≡ get_or u (a + 1) 0) (ok : 
   pub other_fits : (z : ℤ) → z ≡ size_from (128 - size) → is_size z ≡ true
   other_fits z e = rw e (size_ok (128 - size) other-known)
 
-  pub other_sign : (size ≡ 64 → ⊥) → (z : ℤ) → z ≡ size_from (128 - size) → (kept : ℕ) (ws ws' : List ℕ) (r : Interned) → Ran kept (make u (float_entry (word_of z) 0)) ws ws' r → Ran kept (float_of Dual a u) ws ws' r
+  pub other_sign : (size ≡ 64 → ⊥) → (z : ℤ) → z ≡ size_from (128 - size) → (kept : ℕ) (ws ws' : List ℕ) (r : Option Interned) → Ran kept (make u (float_entry (word_of z) 0)) ws ws' r → Ran kept (float_of Dual a u) ws ws' r
   other_sign n z e kept ws ws' r t =
       let q : word_of z ≡ 128 - size = ap word_of e ∙ word_size (128 - size) other-known in
       rw (← is, ne_eqb size 64 n) (rw q at t)

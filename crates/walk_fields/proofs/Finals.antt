@@ -10,6 +10,7 @@ use borrow.Author.Tests.{le-leb}
 use lib.ListN.{length, take, drop, set}
 use lib.Seq.{set_split, drop-drop}
 use Rattle.words.specs.Ran.{Ran}
+use Rattle.std.specs.Prelude.{Option}
 use Rattle.words.specs.declared.Interned.{Interned}
 use Rattle.wellformed.specs.Entry.{all, is_flag}
 use Rattle.words.specs.Columns.{every, word}
@@ -90,6 +91,6 @@ module _ (w : Walk) (u types f x : List ℕ) (a : ℕ) (is : f ≡ finals w u (l
   pub finals_fit : all is_flag (take (length types) f) ≡ true
   finals_fit = rw front (finals_flags w (every 3 (length types) (a + 4) u))
 
-  pub fields_walked : (kept : ℕ) (ws ws' : List ℕ) (r : Interned) → Ran kept (remake a types (take (length types) f) u) ws ws' r → Ran kept (walk_fields w a types u) ws ws' r
+  pub fields_walked : (kept : ℕ) (ws ws' : List ℕ) (r : Option Interned) → Ran kept (remake a types (take (length types) f) u) ws ws' r → Ran kept (walk_fields w a types u) ws ws' r
   unfolding walk_fields
   fields_walked kept ws ws' r ran = rw front at ran

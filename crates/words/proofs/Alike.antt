@@ -9,6 +9,8 @@ use borrow.Author.Tests.{eq-eqb, ne_eqb, eqb-true}
 use lib.ListN.{length, drop, get_or, drop_of_length-le}
 use lib.Seq.{drop-cons}
 use lib.Dec.{eqb}
+use Rattle.std.specs.Prelude.{nat_eq}
+use Rattle.std.specs.Cmp.Lexicographic.{pointwise}
 use Rattle.words.specs.Words.{eqs}
 
 pub eqs_refl : (a : List ℕ) → eqs a a ≡ true
@@ -26,6 +28,14 @@ eqs_eq (x ∷ xs) (y ∷ ys) e = both (eqb x y) refl e (eqs_eq xs ys)
     both : (t : Bool) → eqb x y ≡ t → (t && eqs xs ys) ≡ true → (eqs xs ys ≡ true → xs ≡ ys) → (x ∷ xs) ≡ (y ∷ ys)
     both true h f ih = cc (eqb-true x y h, ih f)
     both false h f ih = let z : ◌≡◌ {A = ℕ} 0 1 = cc in absurd (omega arith)
+
+-- what `==` of two slices tells
+pub pointwise_eqs : (a b : List ℕ) → pointwise nat_eq a b ≡ eqs a b
+unfolding eqs
+pointwise_eqs [] [] = refl
+pointwise_eqs [] (y ∷ ys) = refl
+pointwise_eqs (x ∷ xs) [] = refl
+pointwise_eqs (x ∷ xs) (y ∷ ys) = rw (pointwise_eqs xs ys) refl
 
 and-false : (b : Bool) → (b && false) ≡ false
 and-false true = refl

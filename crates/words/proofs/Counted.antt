@@ -12,8 +12,7 @@ use Rattle.words.specs.Words.{size_of, eqs}
 use Rattle.words.specs.Columns.{word}
 use Rattle.words.specs.Table.{Row, rows, first_of, RowIn}
 use Rattle.words.specs.Search.{up_to, headed, not_passed_over, Searched}
-use Rattle.words.specs.declared.Found.{Found}
-use Rattle.words.specs.declared.Found.TheVariants.{At, Nothing}
+use Rattle.std.specs.Prelude.{Option, Some, None}
 use Rattle.words.proofs.Handles.{rows_bound}
 use Rattle.words.proofs.Grow.{found_in}
 
@@ -23,7 +22,7 @@ looked [] e = 0
 looked (r ∷ rs) e = cond (eqb (word r.words 0) (word e 0)) 1 0 + cond (eqs r.words e) 0 (looked rs e)
 
 -- no row counts that stands behind the one found
-none_behind : (h head : ℕ) (rs : List Row) → ((q : Row) → RowIn q rs → h < q.at) → headed (At h) head rs ≡ 0
+none_behind : (h head : ℕ) (rs : List Row) → ((q : Row) → RowIn q rs → h < q.at) → headed (Some h) head rs ≡ 0
 unfolding headed
 none_behind h head [] above = refl
 none_behind h head (r ∷ rs) above =
@@ -34,15 +33,15 @@ module _ (r : Row) (rs : List Row) (e : List ℕ) (above : (q : Row) → RowIn q
   before_found : up_to (first_of rs e) r ≡ true
   before_found = go (first_of rs e) refl
     where
-      go : (f : Found) → first_of rs e ≡ f → up_to f r ≡ true
-      go (At h) q = le-leb r.at h (omega (arith, above (record { at = h; words = e }) (found_in rs e h q)))
-      go Nothing q = refl
+      go : (f : Option ℕ) → first_of rs e ≡ f → up_to f r ≡ true
+      go (Some h) q = le-leb r.at h (omega (arith, above (record { at = h; words = e }) (found_in rs e h q)))
+      go None q = refl
 
   row_counted : not_passed_over rs e ≡ looked rs e → not_passed_over (r ∷ rs) e ≡ looked (r ∷ rs) e
   unfolding not_passed_over headed looked first_of
   row_counted ih = go (eqs r.words e)
     where
-      go : (t : Bool) → headed (cond t (At r.at) (first_of rs e)) (word e 0) (r ∷ rs) ≡ cond (eqb (word r.words 0) (word e 0)) 1 0 + cond t 0 (looked rs e)
+      go : (t : Bool) → headed (cond t (Some r.at) (first_of rs e)) (word e 0) (r ∷ rs) ≡ cond (eqb (word r.words 0) (word e 0)) 1 0 + cond t 0 (looked rs e)
       go true = rw (le-leb r.at r.at (omega arith), none_behind r.at (word e 0) rs above)
       go false = rw (before_found, ih)
 
@@ -68,13 +67,13 @@ looked_few at zero (w ∷ l) e = go (eqb (word (take (size_of w) (w ∷ l)) 0) (
     go false false ih = omega arith
 looked_few at (suc k) (w ∷ l) e = omega (arith, looked_few (suc at) k l e)
 
-pub searched_few : (at k : ℕ) (l : List ℕ) (e : List ℕ) (f : Found) (n : ℕ) → Searched (rows at k l) e f n → n ≤ length l
+pub searched_few : (at k : ℕ) (l : List ℕ) (e : List ℕ) (f : Option ℕ) (n : ℕ) → Searched (rows at k l) e f n → n ≤ length l
 searched_few at k l e f n s = omega (arith, s.number, counted at k l e, looked_few at k l e)
 
 -- in two tables after one another: those of the second count where nothing is found in the first
-unfoldable pub when_none : Found → ℕ → ℕ
-when_none (At h) n = 0
-when_none Nothing n = n
+unfoldable pub when_none : Option ℕ → ℕ → ℕ
+when_none (Some h) n = 0
+when_none None n = n
 
 pub looked_append : (rs ss : List Row) (e : List ℕ) → looked (rs ++ ss) e ≡ looked rs e + when_none (first_of rs e) (looked ss e)
 unfolding looked first_of when_none
@@ -82,6 +81,6 @@ looked_append [] ss e = omega arith
 looked_append (r ∷ rs) ss e = go (eqs r.words e) (looked_append rs ss e)
   where
     go : (t : Bool) → looked (rs ++ ss) e ≡ looked rs e + when_none (first_of rs e) (looked ss e)
-        → cond (eqb (word r.words 0) (word e 0)) 1 0 + cond t 0 (looked (rs ++ ss) e) ≡ (cond (eqb (word r.words 0) (word e 0)) 1 0 + cond t 0 (looked rs e)) + when_none (cond t (At r.at) (first_of rs e)) (looked ss e)
+        → cond (eqb (word r.words 0) (word e 0)) 1 0 + cond t 0 (looked (rs ++ ss) e) ≡ (cond (eqb (word r.words 0) (word e 0)) 1 0 + cond t 0 (looked rs e)) + when_none (cond t (Some r.at) (first_of rs e)) (looked ss e)
     go true ih = omega arith
     go false ih = omega (arith, ih)

@@ -8,7 +8,7 @@ use Rattle.words.specs.Words.{head_of, kind_of, depth_of, count_of, words_after,
 use Rattle.words.specs.Columns.{every, min_on, max_on, name_on, field_names_on, field_types_on, flags_on, alias_in, final_in}
 use Rattle.words.specs.Table.{Row, rows, first_of, is_at}
 use Rattle.words.specs.Search.{headed, not_passed_over}
-use Rattle.words.specs.declared.Found.TheVariants.{At, Nothing}
+use Rattle.std.specs.Prelude.{Some, None}
 
 -- the heads of an Int and a Bot: kind 5 and kind 1, depth 1, n 0; and a head is taken apart again
 pub heads : (head_of Int 1 0 ≡ 261) × (head_of Bot 1 0 ≡ 257) × (kind_of 261 ≡ Int) × (depth_of 261 ≡ 1) × (count_of 261 ≡ 0)
@@ -31,7 +31,7 @@ unfolding rows size_of words_after
 tabled = refl
 
 -- 97 starts an entry and 95 does not; the lowest equal entry; an entry that is not there
-pub looked_up : (is_at table 97 ≡ true) × (is_at table 95 ≡ false) × (first_of table (257 ∷ []) ≡ At 97) × (first_of table (261 ∷ 3 ∷ 5 ∷ []) ≡ Nothing)
+pub looked_up : (is_at table 97 ≡ true) × (is_at table 95 ≡ false) × (first_of table (257 ∷ []) ≡ Some 97) × (first_of table (261 ∷ 3 ∷ 5 ∷ []) ≡ None)
 unfolding is_at first_of eqs
 looked_up = (refl, refl, refl, refl)
 

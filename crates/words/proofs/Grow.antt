@@ -12,8 +12,7 @@ use lib.Seq.{take-append-le, take-length}
 use Rattle.words.specs.Words.{size_of, eqs, fills}
 use Rattle.words.specs.Table.{Row, rows, first_of, RowIn, Own}
 use Rattle.words.specs.Ran.{HasSize}
-use Rattle.words.specs.declared.Found.{Found}
-use Rattle.words.specs.declared.Found.TheVariants.{At, Nothing}
+use Rattle.std.specs.Prelude.{Option, Some, None}
 use Rattle.words.proofs.Walk.{size_pos, long}
 use Rattle.words.proofs.Alike.{eqs_refl, eqs_eq}
 
@@ -57,26 +56,26 @@ one_row at (w ∷ e) s =
     cc (ap (λ (n : ℕ). take n (w ∷ e)) (sym s) ∙ take-length (w ∷ e), (past_all (suc at) (pred (size_of w)) e (omega arith)).1)
 
 -- the search: in two tables after one another
-unfoldable pub or_else : Found → Found → Found
-or_else (At h) f = At h
-or_else Nothing f = f
+unfoldable pub or_else : Option ℕ → Option ℕ → Option ℕ
+or_else (Some h) f = Some h
+or_else None f = f
 
 pub first_append : (rs ss : List Row) (e : List ℕ) → first_of (rs ++ ss) e ≡ or_else (first_of rs e) (first_of ss e)
 unfolding first_of or_else
 first_append [] ss e = refl
 first_append (r ∷ rs) ss e = go (eqs r.words e) (first_append rs ss e)
   where
-    go : (t : Bool) → first_of (rs ++ ss) e ≡ or_else (first_of rs e) (first_of ss e) → cond t (At r.at) (first_of (rs ++ ss) e) ≡ or_else (cond t (At r.at) (first_of rs e)) (first_of ss e)
+    go : (t : Bool) → first_of (rs ++ ss) e ≡ or_else (first_of rs e) (first_of ss e) → cond t (Some r.at) (first_of (rs ++ ss) e) ≡ or_else (cond t (Some r.at) (first_of rs e)) (first_of ss e)
     go true ih = refl
     go false ih = ih
 
 -- what is found has the words looked for
-pub found_in : (rs : List Row) (e : List ℕ) (h : ℕ) → first_of rs e ≡ At h → RowIn (record { at = h; words = e }) rs
+pub found_in : (rs : List Row) (e : List ℕ) (h : ℕ) → first_of rs e ≡ Some h → RowIn (record { at = h; words = e }) rs
 unfolding first_of
 found_in [] e h f = let z : ◌≡◌ {A = ℕ} 0 1 = cc in absurd (omega arith)
 found_in (r ∷ rs) e h f = go (eqs r.words e) refl f (found_in rs e h)
   where
-    go : (t : Bool) → eqs r.words e ≡ t → cond t (At r.at) (first_of rs e) ≡ At h → (first_of rs e ≡ At h → RowIn (record { at = h; words = e }) rs) → RowIn (record { at = h; words = e }) (r ∷ rs)
+    go : (t : Bool) → eqs r.words e ≡ t → cond t (Some r.at) (first_of rs e) ≡ Some h → (first_of rs e ≡ Some h → RowIn (record { at = h; words = e }) rs) → RowIn (record { at = h; words = e }) (r ∷ rs)
     go true q g ih =
         let a : r.at ≡ h = cc in
         let w : r.words ≡ e = eqs_eq r.words e q in
@@ -84,17 +83,17 @@ found_in (r ∷ rs) e h f = go (eqs r.words e) refl f (found_in rs e h)
     go false q g ih = Memᴰ.tail (ih g)
 
 -- no two entries are equal, and none equals the new one: then no two are equal after it
-pub own_snoc : (rs : List Row) (at : ℕ) (e : List ℕ) → Own rs → first_of rs e ≡ Nothing → Own (rs ++ (record { at = at; words = e } ∷ []))
+pub own_snoc : (rs : List Row) (at : ℕ) (e : List ℕ) → Own rs → first_of rs e ≡ None → Own (rs ++ (record { at = at; words = e } ∷ []))
 unfolding or_else first_of
 own_snoc rs at e own none r m = ⊎_elim old new (Memᴰ.append_cases rs m)
   where
     last : List Row
     last = record { at = at; words = e } ∷ []
 
-    old : RowIn r rs → first_of (rs ++ last) r.words ≡ At r.at
+    old : RowIn r rs → first_of (rs ++ last) r.words ≡ Some r.at
     old i = first_append rs last r.words ∙ rw (own r i)
 
-    new : RowIn r last → first_of (rs ++ last) r.words ≡ At r.at
+    new : RowIn r last → first_of (rs ++ last) r.words ≡ Some r.at
     new i =
         let q : r ≡ record { at = at; words = e } = Memᴰ.eq_of_singleton i in
         let w : r.words ≡ e = ap (λ (x : Row). x.words) q in

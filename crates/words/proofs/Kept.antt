@@ -11,8 +11,7 @@ use Rattle.words.specs.Words.{fills}
 use Rattle.words.specs.Table.{Row, entries, find_in, RowIn, Own}
 use Rattle.words.specs.Ran.{HasSize, Segments}
 use Rattle.words.specs.Made.{Grown, make}
-use Rattle.words.specs.declared.Found.{Found}
-use Rattle.words.specs.declared.Found.TheVariants.{At, Nothing}
+use Rattle.std.specs.Prelude.{Option, Some, None}
 use Rattle.words.proofs.Grow.{fills_append, rows_append, one_fills, one_row, found_in, own_snoc}
 use Rattle.words.proofs.Extend.{Extends, ext_same, ext_by, ext_then, ext_length}
 use Rattle.words.proofs.Room.{Fit, fit_front}
@@ -54,9 +53,9 @@ module _ (u e : List ℕ) (low : 1 ≤ length u) (full : fills 0 (drop 1 u) ≡ 
   unfolding find_in
   make_appends = go (find_in u e) refl
     where
-      go : (f : Found) → find_in u e ≡ f → Appends u (make u e)
-      go (At h) q = rw (make_there u e h q) (appends_none u h full)
-      go Nothing q = rw (make_new u e q) record {
+      go : (f : Option ℕ) → find_in u e ≡ f → Appends u (make u e)
+      go (Some h) q = rw (make_there u e h q) (appends_none u h full)
+      go None q = rw (make_new u e q) record {
         ext = ext_by u e;
         full = fills_more;
         extra = record { at = length u; words = e } ∷ [];
@@ -69,9 +68,9 @@ module _ (u e : List ℕ) (low : 1 ≤ length u) (full : fills 0 (drop 1 u) ≡ 
   unfolding find_in
   make_in = go (find_in u e) refl
     where
-      go : (f : Found) → find_in u e ≡ f → RowIn (record { at = (make u e).handle; words = e }) (entries (make u e).words)
-      go (At h) q = rw (make_there u e h q) (found_in (entries u) e h q)
-      go Nothing q = rw (make_new u e q, entries_append) (Memᴰ.append_right (entries u) (Memᴰ.head refl))
+      go : (f : Option ℕ) → find_in u e ≡ f → RowIn (record { at = (make u e).handle; words = e }) (entries (make u e).words)
+      go (Some h) q = rw (make_there u e h q) (found_in (entries u) e h q)
+      go None q = rw (make_new u e q, entries_append) (Memᴰ.append_right (entries u) (Memᴰ.head refl))
 
 -- after an operation that fitted, the segments are a store again, for the next
 pub segments_after : (old new new₁ : List ℕ) (used : ℕ) (g : Grown) (h used₁ : ℕ) → Segments old new used → Appends (take used (old ++ new)) g → length new₁ ≡ length new

@@ -13,7 +13,7 @@ use Rattle.words.specs.Columns.{word}
 use Rattle.words.specs.Table.{rows, first_of}
 use Rattle.words.specs.Search.{Searched}
 use Rattle.words.specs.Ran.{PassedOver}
-use Rattle.words.specs.declared.Found.TheVariants.{At, Nothing}
+use Rattle.std.specs.Prelude.{Some, None}
 use Rattle.words.proofs.Walk.{next, inside, size_pos, hit, missed, none_left}
 use Rattle.words.proofs.Counted.{looked, counted}
 use Rattle.words.proofs.Passing.{passed_first, passed_looked, head_here}
@@ -41,7 +41,7 @@ module _ (ws : List ℕ) (base from to : ℕ) (e : List ℕ) (at count : ℕ) (l
       }
 
   -- all of them were
-  pub looking_last : to ≤ at → Searched (rows (base + from) 0 (slice from to ws)) e Nothing count
+  pub looking_last : to ≤ at → Searched (rows (base + from) 0 (slice from to ws)) e None count
   unfolding rows looked
   looking_last out =
       let h : length (take to ws) ≤ at = omega (arith, length-take to ws) in
@@ -58,7 +58,7 @@ module _ (ws : List ℕ) (base from to : ℕ) (e : List ℕ) (at count : ℕ) (l
         let q : (base + at) + size_of (get_or ws at 0) ≡ base + (at + size_of (get_or ws at 0)) = omega arith in
         rw ((next ws to at high more (base + at) (inside ws to at high more l.filled)).row, same, add-sub_cancel_left, sized, head_here ws at (omega arith), eq-eqb _ _ headed, q)
 
-    pub looking_hit : t ≡ true → Searched (rows (base + from) 0 (slice from to ws)) e (At (base + at)) (count + 1)
+    pub looking_hit : t ≡ true → Searched (rows (base + from) 0 (slice from to ws)) e (Some (base + at)) (count + 1)
     looking_hit y = record {
       answer = hit ws base to e _ at n t high more l.filled l.answer sized same y;
       number = sym (counted (base + from) 0 (slice from to ws) e ∙ l.number ∙ rw (one_more, y));

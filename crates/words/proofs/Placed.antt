@@ -9,26 +9,25 @@ use lib.Seq.{take_all, drop-drop, length-take-le}
 use Rattle.words.specs.Table.{find_in}
 use Rattle.words.specs.Made.{make}
 use Rattle.words.specs.Ran.{Segments, Ran}
-use Rattle.words.specs.declared.Found.{Found}
-use Rattle.words.specs.declared.Found.TheVariants.{At as FoundAt, Nothing}
-use Rattle.words.specs.declared.Interned.TheVariants.{At, Full}
+use Rattle.std.specs.Prelude.{Option, Some, None}
+use Rattle.words.specs.Ran.{interned}
 use Rattle.words.proofs.Extend.{Extends, ext_same, ext_by}
 use Rattle.words.proofs.Room.{fit, over}
 use Rattle.words.proofs.Join.{take_past, drop_past}
 
-pub make_there : (u e : List ℕ) (h : ℕ) → find_in u e ≡ FoundAt h → make u e ≡ record { words = u; handle = h }
+pub make_there : (u e : List ℕ) (h : ℕ) → find_in u e ≡ Some h → make u e ≡ record { words = u; handle = h }
 unfolding make
 make_there u e h f = rw f
 
-pub make_new : (u e : List ℕ) → find_in u e ≡ Nothing → make u e ≡ record { words = u ++ e; handle = length u }
+pub make_new : (u e : List ℕ) → find_in u e ≡ None → make u e ≡ record { words = u ++ e; handle = length u }
 unfolding make
 make_new u e f = rw f
 
-module _ (old new : List ℕ) (used : ℕ) (e : List ℕ) (s : Segments old new used) (f : Found) (is : f ≡ find_in (take used (old ++ new)) e) where
+module _ (old new : List ℕ) (used : ℕ) (e : List ℕ) (s : Segments old new used) (f : Option ℕ) (is : f ≡ find_in (take used (old ++ new)) e) where
   long : length (take used (old ++ new)) ≡ used
   long = length-take-le used (old ++ new) (omega (arith, length-append old new, s.high))
 
-  pub there : (h : ℕ) → f ≡ FoundAt h → Ran used (make (take used (old ++ new)) e) (old ++ new) (old ++ new) (At h used)
+  pub there : (h : ℕ) → f ≡ Some h → Ran used (make (take used (old ++ new)) e) (old ++ new) (old ++ new) (interned h used)
   there h at =
       rw (make_there (take used (old ++ new)) e h (sym is ∙ at))
       (fit _ _ _ _ _ _ record {
@@ -38,13 +37,13 @@ module _ (old new : List ℕ) (used : ℕ) (e : List ℕ) (s : Segments old new 
         words = rw long (sym (take-append-drop used (old ++ new)));
       })
 
-  module _ (gone : f ≡ Nothing) where
+  module _ (gone : f ≡ None) where
     abbrev at : ℕ
     at = used - length old
 
     pub appended : (d : List ℕ) → length e ≤ length new - (used - length old)
         → d ≡ e ++ drop (length e) (take (length new - (used - length old)) (drop (used - length old) new))
-        → Ran used (make (take used (old ++ new)) e) (old ++ new) (old ++ put_mid (used - length old) (length new - (used - length old)) new d) (At used (used + length e))
+        → Ran used (make (take used (old ++ new)) e) (old ++ new) (old ++ put_mid (used - length old) (length new - (used - length old)) new d) (interned used (used + length e))
     appended d room eq =
         let n : length (take used (old ++ new) ++ e) ≡ used + length e = length-append (take used (old ++ new)) e ∙ ap (λ (k : ℕ). k + length e) long in
         let h : length (drop at new) ≤ length new - at = omega (arith, length-drop at new) in
@@ -58,7 +57,7 @@ module _ (old new : List ℕ) (used : ℕ) (e : List ℕ) (s : Segments old new 
           words = rw (n, drop_past old new (used + length e) o, m, take_past old new used s.over, eq, take_all (length new - at) (drop at new) h, drop-drop (length e) at new, drop_of_length-le (drop at new) h, append-nil) (simp append_assoc);
         })
 
-    pub no_room : length new - (used - length old) < length e → Ran used (make (take used (old ++ new)) e) (old ++ new) (old ++ new) Full
+    pub no_room : length new - (used - length old) < length e → Ran used (make (take used (old ++ new)) e) (old ++ new) (old ++ new) None
     no_room out =
         let n : length (take used (old ++ new) ++ e) ≡ used + length e = length-append (take used (old ++ new)) e ∙ ap (λ (k : ℕ). k + length e) long in
         rw (make_new (take used (old ++ new)) e (sym is ∙ gone))
@@ -68,6 +67,6 @@ module _ (old new : List ℕ) (used : ℕ) (e : List ℕ) (s : Segments old new 
 pub make_extends : (u e : List ℕ) → Extends u (make u e).words
 make_extends u e = go (find_in u e) refl
   where
-    go : (f : Found) → find_in u e ≡ f → Extends u (make u e).words
-    go (FoundAt h) q = rw (make_there u e h q) (ext_same u)
-    go Nothing q = rw (make_new u e q) (ext_by u e)
+    go : (f : Option ℕ) → find_in u e ≡ f → Extends u (make u e).words
+    go (Some h) q = rw (make_there u e h q) (ext_same u)
+    go None q = rw (make_new u e q) (ext_by u e)

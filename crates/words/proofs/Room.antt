@@ -10,8 +10,9 @@ use lib.ListN.{length, take, drop, length-append, length-drop}
 use lib.Seq.{take_at, take-take, drop-append-add}
 use Rattle.words.specs.Made.{Grown}
 use Rattle.words.specs.Ran.{Ran, answer_in}
+use Rattle.std.specs.Prelude.{Option, Some, None}
+use Rattle.words.specs.Ran.{interned}
 use Rattle.words.specs.declared.Interned.{Interned}
-use Rattle.words.specs.declared.Interned.TheVariants.{At, Full}
 use Rattle.words.proofs.Extend.{Extends, ext_length, ext_take}
 
 -- what is known where the grown words fit
@@ -21,7 +22,19 @@ pub record Fit (g : Grown) (ws ws' : List ℕ) (h used : ℕ) : Type 0 where
   pub room : length g.words ≤ length ws
   pub words : ws' ≡ g.words ++ drop (length g.words) ws
 
-pub fit : (kept : ℕ) (g : Grown) (ws ws' : List ℕ) (h used : ℕ) → Fit g ws ws' h used → Ran kept g ws ws' (At h used)
+abbrev handle_in : Option Interned → ℕ
+handle_in (Some m) = m.handle
+handle_in None = 0
+
+abbrev used_in : Option Interned → ℕ
+used_in (Some m) = m.used
+used_in None = 0
+
+-- the same entry has the same handle and as many words used
+pub same_interned : {h v k w : ℕ} → interned h v ≡ interned k w → (h ≡ k) × (v ≡ w)
+same_interned e = (ap handle_in e, ap used_in e)
+
+pub fit : (kept : ℕ) (g : Grown) (ws ws' : List ℕ) (h used : ℕ) → Fit g ws ws' h used → Ran kept g ws ws' (interned h used)
 unfolding answer_in
 fit kept g ws ws' h used f = record {
   answer = rw (le-leb _ _ f.room, f.handle, f.end);
@@ -29,7 +42,7 @@ fit kept g ws ws' h used f = record {
   full = λ x. absurd (omega (arith, f.room));
 }
 
-pub over : (kept : ℕ) (g : Grown) (ws ws' : List ℕ) → length ws < length g.words → take kept ws' ≡ take kept ws → Ran kept g ws ws' Full
+pub over : (kept : ℕ) (g : Grown) (ws ws' : List ℕ) → length ws < length g.words → take kept ws' ≡ take kept ws → Ran kept g ws ws' None
 unfolding answer_in
 over kept g ws ws' more same = record {
   answer = rw (lt-leb _ _ more);
@@ -38,32 +51,33 @@ over kept g ws ws' more same = record {
 }
 
 -- and back
-module _ (kept : ℕ) (g : Grown) (ws ws' : List ℕ) (r : Interned) (ran : Ran kept g ws ws' r) where
-  pub fitted : (h used : ℕ) → r ≡ At h used → Fit g ws ws' h used
+module _ (kept : ℕ) (g : Grown) (ws ws' : List ℕ) (r : Option Interned) (ran : Ran kept g ws ws' r) where
+  pub fitted : (h used : ℕ) → r ≡ interned h used → Fit g ws ws' h used
   unfolding answer_in
   fitted h used is = go (leb (length g.words) (length ws)) refl
     where
       go : (t : Bool) → leb (length g.words) (length ws) ≡ t → Fit g ws ws' h used
       go true e =
-          let a : At h used ≡ At g.handle (length g.words) = sym is ∙ ran.answer ∙ rw e in
+          let a : interned h used ≡ interned g.handle (length g.words) = sym is ∙ ran.answer ∙ rw e in
           let room = leb-true (length g.words) (length ws) e in
-          record { handle = cc; end = cc; room = room; words = ran.fits room }
+          let f = same_interned a in
+          record { handle = f.0; end = f.1; room = room; words = ran.fits room }
       go false e =
-          let a : At h used ≡ Full = sym is ∙ ran.answer ∙ rw e in
+          let a : interned h used ≡ None = sym is ∙ ran.answer ∙ rw e in
           let z : ◌≡◌ {A = ℕ} 0 1 = cc in absurd (omega arith)
 
-  pub overflowed : r ≡ Full → length ws < length g.words
+  pub overflowed : r ≡ None → length ws < length g.words
   unfolding answer_in
   overflowed is = go (leb (length g.words) (length ws)) refl
     where
       go : (t : Bool) → leb (length g.words) (length ws) ≡ t → length ws < length g.words
       go true e =
-          let a : Full ≡ At g.handle (length g.words) = sym is ∙ ran.answer ∙ rw e in
+          let a : None ≡ interned g.handle (length g.words) = sym is ∙ ran.answer ∙ rw e in
           let z : ◌≡◌ {A = ℕ} 0 1 = cc in absurd (omega arith)
       go false e = leb-false (length g.words) (length ws) e
 
 -- fewer words kept
-pub fewer : (k kept : ℕ) (g : Grown) (ws ws' : List ℕ) (r : Interned) → k ≤ kept → Ran kept g ws ws' r → Ran k g ws ws' r
+pub fewer : (k kept : ℕ) (g : Grown) (ws ws' : List ℕ) (r : Option Interned) → k ≤ kept → Ran kept g ws ws' r → Ran k g ws ws' r
 fewer k kept g ws ws' r le ran = record {
   answer = ran.answer;
   fits = ran.fits;
@@ -87,7 +101,7 @@ module _ (g : Grown) (ws ws₁ : List ℕ) (h used₁ : ℕ) (one : Fit g ws ws�
       rw one.words (ap (λ (k : ℕ). drop k (g.words ++ drop (length g.words) ws)) (sym q) ∙ drop-append-add g.words (drop (length g.words) ws) m ∙ lib.Seq.drop-drop m (length g.words) ws ∙ ap (λ (k : ℕ). drop k ws) q)
 
   -- At, then At or Full: what the second leaves is what both leave. `used` words stood before the first, and it has kept them.
-  pub then : (used : ℕ) → Extends (take used ws) g.words → used ≤ length ws → (g₂ : Grown) (ws₂ : List ℕ) (r : Interned) → Extends g.words g₂.words → Ran used₁ g₂ ws₁ ws₂ r → Ran used g₂ ws ws₂ r
+  pub then : (used : ℕ) → Extends (take used ws) g.words → used ≤ length ws → (g₂ : Grown) (ws₂ : List ℕ) (r : Option Interned) → Extends g.words g₂.words → Ran used₁ g₂ ws₁ ws₂ r → Ran used g₂ ws ws₂ r
   then used ext low g₂ ws₂ r ext₂ two =
       let le = ext_length g.words g₂.words ext₂ in
       let len = lib.Seq.length-take-le used ws low in
@@ -101,7 +115,7 @@ module _ (g : Grown) (ws ws₁ : List ℕ) (h used₁ : ℕ) (one : Fit g ws ws�
       }
 
 -- Full: there is no second, and both together do not fit either
-pub stop : (used : ℕ) (g g₂ : Grown) (ws ws₁ : List ℕ) → Extends g.words g₂.words → Ran used g ws ws₁ Full → Ran used g₂ ws ws₁ Full
+pub stop : (used : ℕ) (g g₂ : Grown) (ws ws₁ : List ℕ) → Extends g.words g₂.words → Ran used g ws ws₁ None → Ran used g₂ ws ws₁ None
 stop used g g₂ ws ws₁ ext one =
-    let more = overflowed used g ws ws₁ Full one refl in
+    let more = overflowed used g ws ws₁ None one refl in
     over used g₂ ws ws₁ (omega (arith, ext_length g.words g₂.words ext)) (one.full more)

@@ -10,8 +10,7 @@ use Rattle.words.specs.Words.{fills}
 use Rattle.words.specs.Table.{rows, first_of}
 use Rattle.words.specs.Search.{not_passed_over, Searched}
 use Rattle.words.specs.Ran.{Segments, Tail}
-use Rattle.words.specs.declared.Found.{Found}
-use Rattle.words.specs.declared.Found.TheVariants.{At, Nothing}
+use Rattle.std.specs.Prelude.{Option, Some, None}
 use Rattle.words.proofs.Join.{take_past, drop_past}
 use Rattle.words.proofs.Grow.{fills_append, rows_append, or_else, first_append}
 use Rattle.words.proofs.Counted.{looked, counted, searched_few, when_none, looked_append}
@@ -24,7 +23,7 @@ module _ (old new : List ℕ) (used from : ℕ) (s : Segments old new used) (t :
     pub behind_filled : fills 0 (slice (from - length old) (used - length old) new) ≡ true
     behind_filled = rw same at t.full
 
-    pub behind_searched : (e : List ℕ) (f : Found) (n : ℕ) → Searched (rows (length old + (from - length old)) 0 (slice (from - length old) (used - length old) new)) e f n → Searched (rows from 0 (drop from (take used (old ++ new)))) e f n
+    pub behind_searched : (e : List ℕ) (f : Option ℕ) (n : ℕ) → Searched (rows (length old + (from - length old)) 0 (slice (from - length old) (used - length old) new)) e f n → Searched (rows from 0 (drop from (take used (old ++ new)))) e f n
     behind_searched e f n is =
         let q : length old + (from - length old) ≡ from = omega arith in
         rw same (rw q at is)
@@ -45,22 +44,22 @@ module _ (old new : List ℕ) (used from : ℕ) (s : Segments old new used) (t :
         let z : 0 + from ≡ from = omega arith in
         rw (both, rows_append from 0 (drop from old) (take (used - length old) new) (t.cut before), n, take-length old, z)
 
-    module _ (e : List ℕ) (f : Found) (n : ℕ) (is : Searched (rows (0 + from) 0 (slice from (length old) old)) e f n) where
+    module _ (e : List ℕ) (f : Option ℕ) (n : ℕ) (is : Searched (rows (0 + from) 0 (slice from (length old) old)) e f n) where
       looked_first : n ≡ looked (rows (0 + from) 0 (slice from (length old) old)) e
       looked_first = is.number ∙ counted (0 + from) 0 (slice from (length old) old) e
 
-      looked_all : (g : Found) → f ≡ g → not_passed_over (rows from 0 (drop from (take used (old ++ new)))) e ≡ n + when_none g (looked (rows (length old + 0) 0 (slice 0 (used - length old) new)) e)
+      looked_all : (g : Option ℕ) → f ≡ g → not_passed_over (rows from 0 (drop from (take used (old ++ new)))) e ≡ n + when_none g (looked (rows (length old + 0) 0 (slice 0 (used - length old) new)) e)
       looked_all g it =
           counted from 0 (drop from (take used (old ++ new))) e ∙ rw (split, looked_append (rows (0 + from) 0 (slice from (length old) old)) (rows (length old + 0) 0 (slice 0 (used - length old) new)) e, sym looked_first, sym is.answer ∙ it)
 
-      found_all : (g : Found) → f ≡ g → first_of (rows from 0 (drop from (take used (old ++ new)))) e ≡ or_else g (first_of (rows (length old + 0) 0 (slice 0 (used - length old) new)) e)
+      found_all : (g : Option ℕ) → f ≡ g → first_of (rows from 0 (drop from (take used (old ++ new)))) e ≡ or_else g (first_of (rows (length old + 0) 0 (slice 0 (used - length old) new)) e)
       found_all g it = rw (split, first_append) (rw (sym is.answer ∙ it))
 
-      pub in_old : (h : ℕ) → f ≡ At h → Searched (rows from 0 (drop from (take used (old ++ new)))) e f n
+      pub in_old : (h : ℕ) → f ≡ Some h → Searched (rows from 0 (drop from (take used (old ++ new)))) e f n
       unfolding or_else when_none
-      in_old h at = record { answer = at ∙ sym (found_all (At h) at); number = omega (arith, looked_all (At h) at) }
+      in_old h at = record { answer = at ∙ sym (found_all (Some h) at); number = omega (arith, looked_all (Some h) at) }
 
-      module _ (none : f ≡ Nothing) (g : Found) (m : ℕ) (it : Searched (rows (length old + 0) 0 (slice 0 (used - length old) new)) e g m) where
+      module _ (none : f ≡ None) (g : Option ℕ) (m : ℕ) (it : Searched (rows (length old + 0) 0 (slice 0 (used - length old) new)) e g m) where
         pub count_few : n + m ≤ length old + length new
         count_few =
             omega (
@@ -72,11 +71,11 @@ module _ (old new : List ℕ) (used from : ℕ) (s : Segments old new used) (t :
               length-slice 0 (used - length old) new (omega (arith, s.high)),
             )
 
-        pub in_new : (r : Found) (k : ℕ) → r ≡ g → k ≡ n + m → Searched (rows from 0 (drop from (take used (old ++ new)))) e r k
+        pub in_new : (r : Option ℕ) (k : ℕ) → r ≡ g → k ≡ n + m → Searched (rows from 0 (drop from (take used (old ++ new)))) e r k
         unfolding or_else when_none
         in_new r k is-g is_sum = record {
-          answer = is-g ∙ it.answer ∙ sym (found_all Nothing none);
-          number = is_sum ∙ sym (looked_all Nothing none ∙ rw (it.number, counted (length old + 0) 0 (slice 0 (used - length old) new) e));
+          answer = is-g ∙ it.answer ∙ sym (found_all None none);
+          number = is_sum ∙ sym (looked_all None none ∙ rw (it.number, counted (length old + 0) 0 (slice 0 (used - length old) new) e));
         }
 
 -- from 1 on stand all entries

@@ -6,8 +6,7 @@ use Prim.Native.Nat.{ℕ, zero, suc, pred, ◌+◌, ◌-◌, ◌≤◌, ◌<◌}
 use native.Mathlib.Omega.{arith}
 use native.Mathlib.Nat.{add-zero}
 use lib.ListN.{length, take, drop, get_or}
-use Rattle.words.specs.declared.Found.{Found}
-use Rattle.words.specs.declared.Found.TheVariants.{At, Nothing}
+use Rattle.std.specs.Prelude.{Option, Some, None}
 use native.Mathlib.Nat.{add-sub_cancel_left}
 use lib.ListN.{drop_of_length-le, length-take}
 use lib.Seq.{slice, slice-cons, drop-drop, length-slice, take-take}
@@ -90,24 +89,24 @@ module _ (ws : List ℕ) (used at : ℕ) (high : used ≤ length ws) (more : at 
       omega (arith, long (pred (size_of w)) (slice (suc at) used ws) (rw (slice-cons at used ws 0 more high) at full), length-slice (suc at) used ws high)
 
 -- what a turn of `look` knows: the entry at `at` is the one looked for, or is not
-module _ (ws : List ℕ) (base to : ℕ) (e : List ℕ) (all : Found) (at n : ℕ) (t : Bool)
+module _ (ws : List ℕ) (base to : ℕ) (e : List ℕ) (all : Option ℕ) (at n : ℕ) (t : Bool)
     (high : to ≤ length ws) (more : at < to) (full : fills 0 (slice at to ws) ≡ true)
     (left : all ≡ first_of (rows (base + at) 0 (slice at to ws)) e)
     (sized : n ≡ size_of (get_or ws at 0))
     (same : t ≡ eqs (take ((at + n) - at) (drop at ws)) e) where
-  looked : all ≡ cond t (At (base + at)) (first_of (rows (base + (at + n)) 0 (slice (at + n) to ws)) e)
+  looked : all ≡ cond t (Some (base + at)) (first_of (rows (base + (at + n)) 0 (slice (at + n) to ws)) e)
   unfolding first_of
   looked =
       let q : (base + at) + size_of (get_or ws at 0) ≡ base + (at + size_of (get_or ws at 0)) = omega arith in
       left ∙ rw ((next ws to at high more (base + at) (inside ws to at high more full)).row, same, add-sub_cancel_left, sized, q)
 
-  pub hit : t ≡ true → At (base + at) ≡ all
+  pub hit : t ≡ true → Some (base + at) ≡ all
   hit it = sym (looked ∙ rw it)
 
   pub missed : t ≡ false → (fills 0 (slice (at + n) to ws) ≡ true) × (all ≡ first_of (rows (base + (at + n)) 0 (slice (at + n) to ws)) e)
   missed not = let within = inside ws to at high more full in (rw sized (sym (next ws to at high more 0 within).filled ∙ full), looked ∙ rw not)
 
-pub none_left : (ws : List ℕ) (base to : ℕ) (e : List ℕ) (all : Found) (at : ℕ) → all ≡ first_of (rows (base + at) 0 (slice at to ws)) e → to ≤ at → Nothing ≡ all
+pub none_left : (ws : List ℕ) (base to : ℕ) (e : List ℕ) (all : Option ℕ) (at : ℕ) → all ≡ first_of (rows (base + at) 0 (slice at to ws)) e → to ≤ at → None ≡ all
 unfolding first_of rows
 none_left ws base to e all at left out =
     let h : length (take to ws) ≤ at = omega (arith, length-take to ws) in

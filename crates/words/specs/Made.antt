@@ -1,8 +1,7 @@
 -- Making an entry. `u` is the used words, without any limit of room: room comes in with row 12 (call/specs/Call.antt).
 use Rattle.std.specs.Prelude.{List, ◌++◌, ℕ, length}
 use Rattle.words.specs.Table.{find_in}
-use Rattle.words.specs.declared.Found.{Found}
-use Rattle.words.specs.declared.Found.TheVariants.{At, Nothing}
+use Rattle.std.specs.Prelude.{Option, Some, None}
 
 -- what an operation leaves: the used words, grown or not, and the handle of its answer
 pub record Grown : Type 0 where
@@ -14,9 +13,9 @@ abbrev pub there : List ℕ → ℕ → Grown
 there u h = record { words = u; handle = h }
 
 -- an entry that was found at a handle, or was not and is appended
-abbrev place : Found → List ℕ → List ℕ → Grown
-place (At h) u e = there u h
-place Nothing u e = record { words = u ++ e; handle = length u }
+abbrev place : Option ℕ → List ℕ → List ℕ → Grown
+place (Some h) u e = there u h
+place None u e = record { words = u ++ e; handle = length u }
 
 -- "Making an entry hands back the lowest handle of an equal entry, else appends one."
 unfoldable pub make : List ℕ → List ℕ → Grown

@@ -5,8 +5,8 @@ use Rattle.words.specs.Words.{size_of, fills}
 use Rattle.words.specs.Columns.{word}
 use Rattle.words.specs.Table.{Row, rows}
 use Rattle.words.specs.Made.{Grown}
+use Rattle.std.specs.Prelude.{Option, Some, None}
 use Rattle.words.specs.declared.Interned.{Interned}
-use Rattle.words.specs.declared.Interned.TheVariants.{At, Full}
 
 -- an entry has as many words as its head says
 abbrev pub HasSize : List ℕ → Type 0
@@ -38,21 +38,25 @@ pub record PassedOver (ws : List ℕ) (from to head r : ℕ) : Type 0 where
   pub here : r < to → word ws r ≡ head
   pub left : (base : ℕ) → rows (base + r) 0 (slice r to ws) ≡ from_head head (rows (base + from) 0 (slice from to ws))
 
--- the answer where there are n words in all
-abbrev answer : Bool → Grown → Interned
-answer true g = At g.handle (length g.words)
-answer false g = Full
+-- an entry at handle h, with so many words used
+abbrev pub interned : ℕ → ℕ → Option Interned
+interned h used = Some (record { handle = h; used = used })
 
-unfoldable pub answer_in : ℕ → Grown → Interned
+-- the answer where there are n words in all
+abbrev answer : Bool → Grown → Option Interned
+answer true g = interned g.handle (length g.words)
+answer false g = None
+
+unfoldable pub answer_in : ℕ → Grown → Option Interned
 answer_in n g = answer (leb (length g.words) n) g
 
 -- r and ws' are what is left of the operation g on the words ws. Where the grown words fit, they stand at the front, and behind them is
 -- what was there. Where they do not, only the first `kept` words are as they were.
-pub record Ran (kept : ℕ) (g : Grown) (ws ws' : List ℕ) (r : Interned) : Type 0 where
+pub record Ran (kept : ℕ) (g : Grown) (ws ws' : List ℕ) (r : Option Interned) : Type 0 where
   pub answer : r ≡ answer_in (length ws) g
   pub fits : length g.words ≤ length ws → ws' ≡ g.words ++ drop (length g.words) ws
   pub full : length ws < length g.words → take kept ws' ≡ take kept ws
 
 -- the same for two segments: `op` is the operation on the used words, and `new'` what it leaves of the second segment
-abbrev pub Runs : (List ℕ → Grown) → List ℕ → List ℕ → ℕ → List ℕ → Interned → Type 0
+abbrev pub Runs : (List ℕ → Grown) → List ℕ → List ℕ → ℕ → List ℕ → Option Interned → Type 0
 Runs op old new used new' r = Ran used (op (take used (old ++ new))) (old ++ new) (old ++ new') r

@@ -2,8 +2,7 @@
 use Rattle.std.specs.Prelude.{Bool, false, cond, ◌||◌, ◌≡◌, ℕ, zero, suc, pred, take, drop, eqb}
 use mathlib.Core.List.{List, [], ◌∷◌, Memᴰ}
 use Rattle.words.specs.Words.{size_of, eqs}
-use Rattle.words.specs.declared.Found.{Found}
-use Rattle.words.specs.declared.Found.TheVariants.{At, Nothing}
+use Rattle.std.specs.Prelude.{Option, Some, None}
 
 -- "A handle is the position of an entry's first word."
 pub record Row : Type 0 where
@@ -24,12 +23,12 @@ unfoldable pub entries : List ℕ → List Row
 entries u = rows 1 0 (drop 1 u)
 
 -- the handle of the first row with these words
-unfoldable pub first_of : List Row → List ℕ → Found
-first_of [] e = Nothing
-first_of (r ∷ rs) e = cond (eqs r.words e) (At r.at) (first_of rs e)
+unfoldable pub first_of : List Row → List ℕ → Option ℕ
+first_of [] e = None
+first_of (r ∷ rs) e = cond (eqs r.words e) (Some r.at) (first_of rs e)
 
 -- "the lowest handle of an equal entry"
-unfoldable pub find_in : List ℕ → List ℕ → Found
+unfoldable pub find_in : List ℕ → List ℕ → Option ℕ
 find_in u e = first_of (entries u) e
 
 -- h is the handle of a row
@@ -47,4 +46,4 @@ RowIn = Memᴰ
 
 -- no two entries are equal: each is the first with its words
 abbrev pub Own : List Row → Type 0
-Own rs = (r : Row) → RowIn r rs → first_of rs r.words ≡ At r.at
+Own rs = (r : Row) → RowIn r rs → first_of rs r.words ≡ Some r.at

@@ -14,16 +14,10 @@ pub mod fresh;
 pub mod kinds;
 pub mod limits;
 
-#[derive(Clone, Copy)]
-pub enum Found {
-    At(usize),
-    Nothing,
-}
-
-// What a search tells: the lowest equal entry, and how many entries it did not pass over (specs/Search.antt).
+// What a search tells: the handle of the lowest equal entry, if there is one, and how many entries it did not pass over (specs/Search.antt).
 #[derive(Clone, Copy)]
 pub struct Search {
-    pub found: Found,
+    pub found: Option<usize>,
     pub count: usize,
 }
 
@@ -67,20 +61,11 @@ fn size_after(last: u64, n: usize, head: u64) -> usize
 }
 
 // Whether two lists of words are the same.
+#[tactic(auto, using(crate::proofs::Alike::pointwise_eqs))]
 pub fn same(a: &[u64], b: &[u64]) -> bool
     ensures { result ≡ eqs a.now b.now }
 {
-    if a.len() != b.len() {
-        return false;
-    }
-    let mut i = 0;
-    while i < a.len() {
-        if a[i] != b[i] {
-            return false;
-        }
-        i += 1;
-    }
-    true
+    a == b
 }
 
 // The word at a position, 0 past the used words.
@@ -142,13 +127,13 @@ fn look(words: &[u64], base: usize, from: usize, to: usize, entry: &[u64]) -> Se
         at = pass_over(words, at, to, head, n);
         if to <= at {
             return Search {
-                found: Found::Nothing,
-                count: count,
+                found: None,
+                count,
             };
         }
         if same(&words[at..at + n], entry) {
             return Search {
-                found: Found::At(base + at),
+                found: Some(base + at),
                 count: count + 1,
             };
         }
@@ -156,8 +141,8 @@ fn look(words: &[u64], base: usize, from: usize, to: usize, entry: &[u64]) -> Se
         at += n;
     }
     Search {
-        found: Found::Nothing,
-        count: count,
+        found: None,
+        count,
     }
 }
 
@@ -166,9 +151,8 @@ pub fn behind(before: usize, s: Search) -> Search
     requires { before + s.count < 2 ^ 64 }
     ensures { (result.found ≡ s.found) × (result.count ≡ before + s.count) }
 {
-    let f = s.found;
     Search {
-        found: f,
+        found: s.found,
         count: before + s.count,
     }
 }
@@ -184,19 +168,19 @@ pub fn find(old: &[u64], new: &[u64], used: usize, from: usize, entry: &[u64]) -
     let first = look(old, 0, from, old.len(), entry);
     let f = first.found;
     match f {
-        Found::At(_) => first,
-        Found::Nothing => {
+        Some(_) => first,
+        None => {
             let second = look(new, old.len(), 0, used - old.len(), entry);
             behind(first.count, second)
         }
     }
 }
 
-// An entry's handle and the number of words used then, or no room for it.
+// An entry that is there: its handle, and how many words are used then.
 #[derive(Clone, Copy)]
-pub enum Interned {
-    At(usize, usize),
-    Full,
+pub struct Interned {
+    pub handle: usize,
+    pub used: usize,
 }
 
 // Fills the first words of `dst` with an entry.
@@ -204,11 +188,7 @@ pub fn write(dst: &mut [u64], entry: &[u64])
     requires { length entry.now ≤ length dst.old }
     ensures { dst.new ≡ entry.now ++ drop (length entry.now) dst.old }
 {
-    let mut i = 0;
-    while i < entry.len() {
-        dst[i] = entry[i];
-        i += 1;
-    }
+    dst[..entry.len()].copy_from_slice(entry);
 }
 
 // Fills the first words of `dst` with a head and a list.
@@ -224,9 +204,5 @@ pub fn headed(dst: &mut [u64], head: u64, list: &[u64])
 pub fn clear(words: &mut [u64])
     ensures { words.new ≡ replicate (length words.old) 0 }
 {
-    let mut i = 0;
-    while i < words.len() {
-        words[i] = 0;
-        i += 1;
-    }
+    words.fill(0);
 }

@@ -23,11 +23,11 @@ look-first-requires c κs = (search rules, search rules, search old_filled)
 enum_told-1 : tie.Need-enum_told-1
 enum_told-1 c = search rules
 
-enum_told-in-Nothing : tie.Need-enum_told-in-Nothing
-enum_told-in-Nothing c = search rules
+enum_told-in-None : tie.Need-enum_told-in-None
+enum_told-in-None c = search rules
 
-overflow_sub-used-in-Nothing : tie.Need-overflow_sub-used-in-Nothing
-overflow_sub-used-in-Nothing c = search rules
+overflow_sub-used-in-None : tie.Need-overflow_sub-used-in-None
+overflow_sub-used-in-None c = search rules
 
 look-second-requires : tie.Need-look-second-requires
 look-second-requires c κs = (search rules, search rules, search new_filled)
@@ -35,13 +35,13 @@ look-second-requires c κs = (search rules, search rules, search new_filled)
 behind-requires : tie.Need-behind-requires
 behind-requires c κs =
     let s = c.before.before.before.before.before.before.before in
-    omega (arith, count_few _ _ _ _ s.requires.0 s.requires.1 c.if-old-from.false _ _ _ c.look-first.ensures c.in-Nothing.is _ _ c.look-second.ensures)
+    omega (arith, count_few _ _ _ _ s.requires.0 s.requires.1 c.if-old-from.false _ _ _ c.look-first.ensures c.in-None.is _ _ c.look-second.ensures)
 
-returns-in-At : tie.Need-returns-in-At
-returns-in-At c = search in_old
+returns-in-Some : tie.Need-returns-in-Some
+returns-in-Some c = search in_old
 
-returns-in-Nothing : tie.Need-returns-in-Nothing
-returns-in-Nothing c = search in_new
+returns-in-None : tie.Need-returns-in-None
+returns-in-None c = search in_new
 
 pub find_spec : {M : Type 1} → statement M
 find_spec =
@@ -53,9 +53,9 @@ find_spec =
     returns-then-old-from
     look-first-requires
     enum_told-1
-    enum_told-in-Nothing
-    overflow_sub-used-in-Nothing
+    enum_told-in-None
+    overflow_sub-used-in-None
     look-second-requires
     behind-requires
-    returns-in-At
-    returns-in-Nothing)
+    returns-in-Some
+    returns-in-None)

@@ -1,0 +1,11 @@
+use Rattle.index.proofs.Chain.{found_first, found_later, tail_of}
+use Rattle.names.proofs.find_name.Goals as goal
+
+pub returns-in-Some : goal.returns-in-Some
+returns-in-Some c = found_first _ _ c.requires.covers c.requires.segments.full _ _ c.search_name.ensures _ c.in-Some.is
+
+pub find_bytes-requires-clause-segments : goal.find_bytes-requires-clause-segments
+find_bytes-requires-clause-segments c = (c.requires.segments, tail_of _ _ _ _ c.requires.segments c.requires.covers _ c.covered.ensures)
+
+pub returns : goal.returns
+returns c = found_later _ _ c.requires.covers c.requires.segments.full _ _ c.search_name.ensures c.in_default.is _ c.covered.ensures _ c.find_bytes.ensures.answer
