@@ -21,22 +21,25 @@ pub fn array(
     body_alias: u64,
     text: &[u8],
     index: &[u64],
-) -> Interned
+) -> Option<Interned>
     requires segments { Segments old.now new.old used }
     // the text and its two brackets
     requires text_bound { (2 + length text.now ≤ most_counted) × (len_alias ≤ largest_alias) × (body_alias ≤ largest_alias) }
     requires covers { Covers (take used (old.now ++ new.old)) index.now }
     ensures { Runs (make_ary len len_alias body body_alias text.now) old.now new.old used new.new result }
 {
-    let Interned::At(name, u1) = names::intern_name(old, new, used, text, true, index) else {
-        return Interned::Full;
-    };
-    let Interned::At(l, u2) = names::intern_name(old, new, u1, b"#", false, index) else {
-        return Interned::Full;
-    };
-    let Interned::At(b, u3) = names::intern_name(old, new, u2, b"[]", false, index) else {
-        return Interned::Full;
-    };
-    let fields = [l as u64, len, len_alias, 1, b as u64, body, body_alias, 0];
-    makers::structure(old, new, u3, name as u64, &fields, index)
+    let name = names::intern_name(old, new, used, text, true, index)?;
+    let l = names::intern_name(old, new, name.used, b"#", false, index)?;
+    let b = names::intern_name(old, new, l.used, b"[]", false, index)?;
+    let fields = [
+        l.handle as u64,
+        len,
+        len_alias,
+        1,
+        b.handle as u64,
+        body,
+        body_alias,
+        0,
+    ];
+    makers::structure(old, new, b.used, name.handle as u64, &fields, index)
 }

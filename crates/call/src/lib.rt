@@ -57,16 +57,16 @@ pub fn begin(words: &[u64], bits: &mut [u64]) -> usize
 // ---- the end
 
 // Writes word 0, once; or zeroes the words past `used`, and answers 12.
-pub fn finish(words: &mut [u64], used: usize, r: Interned) -> Made
+pub fn finish(words: &mut [u64], used: usize, r: Option<Interned>) -> Made
     requires { (0 < length words.old) × (used ≤ length words.old) }
     ensures { left (made result) words.new ≡ finish_in used r words.old }
 {
     match r {
-        Interned::At(h, end) => {
-            words[0] = end as u64;
-            Made::Handle(h as u64)
+        Some(m) => {
+            words[0] = m.used as u64;
+            Made::Handle(m.handle as u64)
         }
-        Interned::Full => {
+        None => {
             words::clear(&mut words[used..]);
             Made::Refused(12)
         }

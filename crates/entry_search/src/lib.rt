@@ -6,7 +6,6 @@ ghost use Rattle.std.specs.Prelude.{◌≡◌};
 ghost use Rattle.entry_search.specs.EntrySearch.{entry_search};
 ghost use Rattle.entry_search.specs.CodedSearch.{CodedSearch};
 
-use words::Found;
 
 #[derive(Clone, Copy)]
 pub enum EntrySearch {
@@ -28,8 +27,8 @@ pub fn find_entry(words: &[u64], entry: &[u64]) -> EntrySearch
     let s = words::find(&none, words, used, 1, entry);
     let f = s.found;
     match f {
-        Found::At(h) => EntrySearch::Found(h as u64, s.count as u64),
-        Found::Nothing => EntrySearch::Absent(s.count as u64),
+        Some(h) => EntrySearch::Found(h as u64, s.count as u64),
+        None => EntrySearch::Absent(s.count as u64),
     }
 }
 

@@ -18,6 +18,7 @@ use Rattle.walk.proofs.Recall.{settled_stays}
 use Rattle.later.specs.Right.{RightAfter}
 use Rattle.meet_types.specs.Remembered.{Remembers as RemembersMeets, Settled as SettledMeet}
 use Rattle.meet_types.proofs.Recall.{settled_stays as meets-stay}
+use Rattle.words.proofs.Room.{same_interned}
 use Rattle.join.specs.Memory.{Remembers, Remembered}
 
 -- k is half the length of the memory m
@@ -92,7 +93,7 @@ remembers_later x r = record { duals = lines_later (settled_stays Dual) x r.dual
 
 -- nothing was appended
 pub remembered_same : {old new memory : List ℕ} {used h : ℕ} → Remembers (take used (old ++ new)) memory → Remembered old new (interned h used) memory
-remembered_same {used = used} m = record { is = λ k v e. let q : used ≡ v = cc in rw (← q) m }
+remembered_same {used = used} m = record { is = λ k v e. rw (← (same_interned e).1) m }
 
 -- nothing is promised where the store was full
 pub remembered_full : {old new' memory : List ℕ} → Remembered old new' None memory

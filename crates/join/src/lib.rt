@@ -20,7 +20,7 @@ fn dual_of_meet(
     b: usize,
     memory: &mut [u64],
     index: &[u64],
-) -> Interned
+) -> Option<Interned>
     requires ready { Ready old.now new.old used Bot last_kind a b }
     requires remembers { Remembers (take used (old.now ++ new.old)) memory.old }
     requires covers { Covers (take used (old.now ++ new.old)) index.now }
@@ -28,11 +28,16 @@ fn dual_of_meet(
     ensures remembered { Remembered old.now new.new result memory.new }
 {
     let k = memory.len() / 2; // the first half is the duals', the second the meets'
-    let m = meet_types::meet_type(old, new, used, a, b, &mut memory[k..2 * k], index);
-    match m {
-        Interned::At(h, v) => walk::walk_type(Walk::Dual, old, new, v, h, &mut memory[..k], index),
-        Interned::Full => Interned::Full,
-    }
+    let m = meet_types::meet_type(old, new, used, a, b, &mut memory[k..2 * k], index)?;
+    walk::walk_type(
+        Walk::Dual,
+        old,
+        new,
+        m.used,
+        m.handle,
+        &mut memory[..k],
+        index,
+    )
 }
 
 fn join_with(
@@ -43,7 +48,7 @@ fn join_with(
     b: usize,
     memory: &mut [u64],
     index: &[u64],
-) -> Interned
+) -> Option<Interned>
     requires ready { Ready old.now new.old used Bot last_kind a b }
     requires remembers { Remembers (take used (old.now ++ new.old)) memory.old }
     requires covers { Covers (take used (old.now ++ new.old)) index.now }
@@ -51,11 +56,8 @@ fn join_with(
     ensures remembered { Remembered old.now new.new result memory.new }
 {
     let k = memory.len() / 2;
-    let m = walk::walk_type(Walk::Dual, old, new, used, b, &mut memory[..k], index);
-    match m {
-        Interned::At(h, v) => dual_of_meet(old, new, v, a, h, memory, index),
-        Interned::Full => Interned::Full,
-    }
+    let d = walk::walk_type(Walk::Dual, old, new, used, b, &mut memory[..k], index)?;
+    dual_of_meet(old, new, d.used, a, d.handle, memory, index)
 }
 
 pub fn join(
@@ -66,7 +68,7 @@ pub fn join(
     b: usize,
     memory: &mut [u64],
     index: &[u64],
-) -> Interned
+) -> Option<Interned>
     requires ready { Ready old.now new.old used Bot last_kind a b }
     requires remembers { Remembers (take used (old.now ++ new.old)) memory.old }
     requires covers { Covers (take used (old.now ++ new.old)) index.now }
@@ -74,12 +76,9 @@ pub fn join(
     ensures remembered { Remembered old.now new.new result memory.new }
 {
     if a == b {
-        return Interned::At(a, used);
+        return Some(Interned { handle: a, used });
     }
     let k = memory.len() / 2;
-    let m = walk::walk_type(Walk::Dual, old, new, used, a, &mut memory[..k], index);
-    match m {
-        Interned::At(h, v) => join_with(old, new, v, h, b, memory, index),
-        Interned::Full => Interned::Full,
-    }
+    let d = walk::walk_type(Walk::Dual, old, new, used, a, &mut memory[..k], index)?;
+    join_with(old, new, d.used, d.handle, b, memory, index)
 }

@@ -11,7 +11,7 @@ use Rattle.std.specs.Prelude.{Option, None}
 use Rattle.words.specs.Ran.{interned}
 use Rattle.words.specs.declared.Interned.{Interned}
 use Rattle.words.proofs.Extend.{Extends}
-use Rattle.words.proofs.Room.{fitted, fit_front}
+use Rattle.words.proofs.Room.{fitted, fit_front, same_interned}
 use Rattle.parts.specs.Parts.{Good, Part, ReadyOne}
 use Rattle.parts.proofs.Good.{part_below}
 use Rattle.parts.proofs.Grew.{grew_none, grew_there}
@@ -54,7 +54,7 @@ right_full = record { is = λ h v e. let z : ◌≡◌ {A = ℕ} 0 1 = cc in abs
 
 -- nothing was appended
 pub right_same : (P : List ℕ → ℕ → ℕ → Type 0) {old new memo : List ℕ} {used h : ℕ} → Lines (P (take used (old ++ new))) memo → RightAfter P old new (interned h used) memo
-right_same P {used = used} m = record { is = λ k v e. let q : used ≡ v = cc in rw (← q) m }
+right_same P {used = used} m = record { is = λ k v e. rw (← (same_interned e).1) m }
 
 -- the answer is noted, where it is right for its key
 pub right_learned : (P : List ℕ → ℕ → ℕ → Type 0) {old new' memo memo' : List ℕ} {r : Option Interned} {key : ℕ} → RightAfter P old new' r memo → Learned memo key r memo'

@@ -19,7 +19,6 @@ ghost use Rattle.make_ro.specs.Remembered.{Settled};
 ghost use Rattle.lent_memory.specs.Memory.{Right, RightThen};
 ghost use Rattle.words.specs.Kinds.{Bot, last_kind};
 
-use memo::Recalled;
 use own_memory::Operation;
 use walk_rules::Walk;
 use words::Interned;
@@ -42,7 +41,7 @@ pub fn meet(
     b: usize,
     memory: &mut [u64],
     index: &[u64],
-) -> Interned
+) -> Option<Interned>
     requires ready { Ready old.now new.old used Bot last_kind a b }
     requires right { Right (take used (old.now ++ new.old)) memory.old }
     requires covers { Covers (take used (old.now ++ new.old)) index.now }
@@ -66,7 +65,7 @@ pub fn walk(
     a: usize,
     memory: &mut [u64],
     index: &[u64],
-) -> Interned
+) -> Option<Interned>
     requires ready_one { ReadyOne old.now new.old used a }
     requires right { Right (take used (old.now ++ new.old)) memory.old }
     requires covers { Covers (take used (old.now ++ new.old)) index.now }
@@ -92,7 +91,7 @@ pub fn join(
     b: usize,
     memory: &mut [u64],
     index: &[u64],
-) -> Interned
+) -> Option<Interned>
     requires ready { Ready old.now new.old used Bot last_kind a b }
     requires right { Right (take used (old.now ++ new.old)) memory.old }
     requires covers { Covers (take used (old.now ++ new.old)) index.now }
@@ -114,7 +113,7 @@ fn make_ro_small(
     a: usize,
     memo: &mut [u64],
     index: &[u64],
-) -> Interned
+) -> Option<Interned>
     requires ready_one { ReadyOne old.now new.old used a }
     requires lines { Lines (Settled (take used (old.now ++ new.old))) memo.old }
     requires covers { Covers (take used (old.now ++ new.old)) index.now }
@@ -134,7 +133,7 @@ fn make_ro_large(
     a: usize,
     memory: &mut [u64],
     index: &[u64],
-) -> Interned
+) -> Option<Interned>
     requires ready_one { ReadyOne old.now new.old used a }
     requires right { Right (take used (old.now ++ new.old)) memory.old }
     requires covers { Covers (take used (old.now ++ new.old)) index.now }
@@ -163,7 +162,7 @@ pub fn make_ro(
     scratch: &mut [u64],
     memory: &mut [u64],
     index: &[u64],
-) -> Interned
+) -> Option<Interned>
     requires ready_one { ReadyOne old.now new.old used a }
     requires right { Right (take used (old.now ++ new.old)) memory.old }
     requires covers { Covers (take used (old.now ++ new.old)) index.now }
@@ -174,9 +173,11 @@ pub fn make_ro(
     if n == 0 {
         return own_memory::make_ro(old, new, used, a, scratch, index);
     }
-    let line = memo::recall(&memory[ROS * n..FINALS * n], a as u64);
-    if let Recalled::Is(h) = line {
-        return Interned::At(h as usize, used);
+    if let Some(h) = memo::recall(&memory[ROS * n..FINALS * n], a as u64) {
+        return Some(Interned {
+            handle: h as usize,
+            used,
+        });
     }
     if small::is_small(old, new, used, a) {
         return make_ro_small(old, new, used, a, &mut memory[ROS * n..FINALS * n], index);

@@ -26,6 +26,7 @@ use Rattle.make_ro.specs.ReadOnly.{make_ro_within}
 use Rattle.make_ro.specs.MadeRo.{MadeRo}
 use Rattle.make_ro.specs.Remembered.{Settled, Remembers, Remembered}
 use Rattle.make_ro.proofs.Grows.{struct_grows}
+use Rattle.words.proofs.Room.{same_interned}
 use Rattle.make_ro.proofs.Settled.{make_ro_settled}
 
 -- what is settled stays so
@@ -45,7 +46,7 @@ remembered_full = record { is = λ h v e. let z : ◌≡◌ {A = ℕ} 0 1 = cc i
 
 -- nothing was appended
 pub remembered_same : {old new memo known : List ℕ} {used h : ℕ} → Remembers (take used (old ++ new)) memo known → Remembered old new (interned h used) memo known
-remembered_same {used = used} m = record { is = λ k v e. let q : used ≡ v = cc in rw (← q) m }
+remembered_same {used = used} m = record { is = λ k v e. rw (← (same_interned e).1) m }
 
 -- an entry was made
 module _ {old now memo known : List ℕ} {v : ℕ} (s : Segments old now v) (m : Remembers (take v (old ++ now)) memo known) {now₂ : List ℕ} {o : Option Interned} where

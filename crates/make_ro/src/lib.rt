@@ -16,7 +16,6 @@ ghost use Rattle.make_ro.specs.Remembered.{Remembers, Remembered};
 ghost use Rattle.wellformed.specs.Form.{longest_allowed};
 ghost use Rattle.words.specs.Kinds.{Struct};
 
-use memo::Recalled;
 use words::{Interned, columns, kinds, limits};
 
 // Makes the struct at a again with these types, every field final.
@@ -27,7 +26,7 @@ fn made_final(
     a: usize,
     types: &[u32],
     index: &[u64],
-) -> Interned
+) -> Option<Interned>
     requires segments { Segments old.now new.old used }
     requires types_len_bound { (length types.now ≤ most_counted) × (a ≤ longest_allowed) × (all is_alias_final (first_flags_on (take used (old.now ++ new.old)) (length types.now) a) ≡ true) }
     requires covers { Covers (take used (old.now ++ new.old)) index.now }
@@ -60,7 +59,7 @@ pub fn make_ro(
     memo: &mut [u64],
     known: &mut [u64],
     index: &[u64],
-) -> Interned
+) -> Option<Interned>
     requires ready_one { ReadyOne old.now new.old used a }
     requires remembers { Remembers (take used (old.now ++ new.old)) memo.old known.old }
     requires covers { Covers (take used (old.now ++ new.old)) index.now }
@@ -69,32 +68,34 @@ pub fn make_ro(
 {
     let kind = words::word(old, new, used, a) % kinds::DEPTH;
     let key = ro_key(kind, a);
-    let line = memo::recall(memo, key);
-    if let Recalled::Is(h) = line {
-        return Interned::At(h as usize, used);
+    if let Some(h) = memo::recall(memo, key) {
+        return Some(Interned {
+            handle: h as usize,
+            used,
+        });
     }
     if kind == kinds::MEM_PTR {
         let to = words::word(old, new, used, a + columns::TARGET) as usize;
         let nil = words::word(old, new, used, a + columns::NIL);
-        let m = make_ro(old, new, used, to, memo, known, index);
-        match m {
-            Interned::At(h, v) => {
-                if h == to {
-                    return memo::noted(memo, key, Interned::At(a, v));
-                }
-                let r = makers::pointer(old, new, v, h as u64, nil, index);
-                return memo::noted(memo, key, r);
-            }
-            Interned::Full => {
-                return Interned::Full;
-            }
+        let m = make_ro(old, new, used, to, memo, known, index)?;
+        if m.handle == to {
+            return memo::noted(
+                memo,
+                key,
+                Some(Interned {
+                    handle: a,
+                    used: m.used,
+                }),
+            );
         }
+        let r = makers::pointer(old, new, m.used, m.handle as u64, nil, index);
+        return memo::noted(memo, key, r);
     }
     if kind != kinds::STRUCT {
-        return Interned::At(a, used);
+        return Some(Interned { handle: a, used });
     }
     if finals::is_final(old, new, used, a, known) {
-        return Interned::At(a, used);
+        return Some(Interned { handle: a, used });
     }
     let r = make_struct_ro(old, new, used, a, memo, known, index);
     memo::noted(memo, key, r)
@@ -110,7 +111,7 @@ fn make_struct_ro(
     memo: &mut [u64],
     known: &mut [u64],
     index: &[u64],
-) -> Interned
+) -> Option<Interned>
     requires ready_one { ReadyOne old.now new.old used a }
     requires remembers { Remembers (take used (old.now ++ new.old)) memo.old known.old }
     requires a_value { (kind_on (take used (old.now ++ new.old)) a ≡ Struct) × (is_final_of (take used (old.now ++ new.old)) a ≡ false) }
@@ -121,22 +122,13 @@ fn make_struct_ro(
     let n = (words::word(old, new, used, a) / kinds::COUNT) as usize;
     let mut types = [0u32; limits::MOST_COUNTED];
     let mut v = used;
-    let mut i: usize = 0;
-    while i < n {
+    for i in 0..n {
         let p = a + columns::FIELD_TYPES + columns::FIELD * i;
         let t = words::word(old, new, used, p) as usize;
         let value = words::word(old, new, used, p + columns::FLAGS_BEHIND_TYPE);
-        let m = make_field_ro(old, new, v, value, t, memo, known, index);
-        match m {
-            Interned::At(h, w) => {
-                types[i] = h as u32;
-                v = w;
-            }
-            Interned::Full => {
-                return Interned::Full;
-            }
-        }
-        i += 1;
+        let m = make_field_ro(old, new, v, value, t, memo, known, index)?;
+        types[i] = m.handle as u32;
+        v = m.used;
     }
     made_final(old, new, v, a, &types[..n], index)
 }
@@ -152,7 +144,7 @@ fn make_field_ro(
     memo: &mut [u64],
     known: &mut [u64],
     index: &[u64],
-) -> Interned
+) -> Option<Interned>
     requires ready_one { ReadyOne old.now new.old used t }
     requires remembers { Remembers (take used (old.now ++ new.old)) memo.old known.old }
     requires covers { Covers (take used (old.now ++ new.old)) index.now }
@@ -160,7 +152,7 @@ fn make_field_ro(
     ensures remembered { Remembered old.now new.new result memo.new known.new }
 {
     if value % 2 == 1 {
-        return Interned::At(t, used);
+        return Some(Interned { handle: t, used });
     }
     make_ro(old, new, used, t, memo, known, index)
 }

@@ -30,7 +30,14 @@ const SHORT_STRUCT: usize = columns::FIELDS + columns::FIELD * FEW_FIELDS;
 
 const LONGEST_STRUCT: usize = columns::FIELDS + columns::FIELD * limits::MOST_COUNTED;
 
-pub fn int(old: &[u64], new: &mut [u64], used: usize, min: u64, max: u64, index: &[u64]) -> Interned
+pub fn int(
+    old: &[u64],
+    new: &mut [u64],
+    used: usize,
+    min: u64,
+    max: u64,
+    index: &[u64],
+) -> Option<Interned>
     requires segments { Segments old.now new.old used }
     requires covers { Covers (take used (old.now ++ new.old)) index.now }
     ensures { Runs (λ u. make u (int_entry min max)) old.now new.old used new.new result }
@@ -46,7 +53,7 @@ pub fn float(
     f: Float,
     bits: u64,
     index: &[u64],
-) -> Interned
+) -> Option<Interned>
     requires segments { Segments old.now new.old used }
     requires sz_value { (is_size f.sz ≡ true) × (f.con ≡ of_bits binary64 bits) }
     requires covers { Covers (take used (old.now ++ new.old)) index.now }
@@ -65,7 +72,7 @@ fn tuple_in(
     types: &[u64],
     e: &mut [u64],
     index: &[u64],
-) -> Interned
+) -> Option<Interned>
     requires segments { Segments old.now new.old used }
     requires types_len_bound { (length types.now ≤ most_counted) × (1 + length types.now ≤ length e.old) }
     requires covers { Covers (take used (old.now ++ new.old)) index.now }
@@ -82,7 +89,13 @@ fn tuple_in(
 }
 
 // Few elements are given few words for their entry, since all of them are cleared at each call.
-pub fn tuple(old: &[u64], new: &mut [u64], used: usize, types: &[u64], index: &[u64]) -> Interned
+pub fn tuple(
+    old: &[u64],
+    new: &mut [u64],
+    used: usize,
+    types: &[u64],
+    index: &[u64],
+) -> Option<Interned>
     requires segments { Segments old.now new.old used }
     requires types_len_bound { length types.now ≤ most_counted }
     requires covers { Covers (take used (old.now ++ new.old)) index.now }
@@ -96,7 +109,7 @@ pub fn tuple(old: &[u64], new: &mut [u64], used: usize, types: &[u64], index: &[
     tuple_in(old, new, used, types, &mut many, index)
 }
 
-pub fn fref(old: &[u64], new: &mut [u64], used: usize, name: u64, index: &[u64]) -> Interned
+pub fn fref(old: &[u64], new: &mut [u64], used: usize, name: u64, index: &[u64]) -> Option<Interned>
     requires segments { Segments old.now new.old used }
     requires covers { Covers (take used (old.now ++ new.old)) index.now }
     ensures { Runs (λ u. make u (fref_entry name)) old.now new.old used new.new result }
@@ -111,7 +124,7 @@ pub fn pointer(
     to: u64,
     nil: u64,
     index: &[u64],
-) -> Interned
+) -> Option<Interned>
     requires segments { Segments old.now new.old used }
     requires covers { Covers (take used (old.now ++ new.old)) index.now }
     ensures { Runs (λ u. make u (pointer_entry to nil u)) old.now new.old used new.new result }
@@ -133,7 +146,7 @@ pub fn memory(
     alias: u64,
     t: u64,
     index: &[u64],
-) -> Interned
+) -> Option<Interned>
     requires segments { Segments old.now new.old used }
     requires covers { Covers (take used (old.now ++ new.old)) index.now }
     ensures { Runs (λ u. make u (memory_entry alias t u)) old.now new.old used new.new result }
@@ -203,7 +216,7 @@ fn structure_in(
     fields: &[u64],
     e: &mut [u64],
     index: &[u64],
-) -> Interned
+) -> Option<Interned>
     requires segments { Segments old.now new.old used }
     requires fields_bound { (field_count fields.now ≤ most_counted) × (struct_size (field_count fields.now) ≤ length e.old) × ValuesFit fields.now }
     requires covers { Covers (take used (old.now ++ new.old)) index.now }
@@ -234,7 +247,7 @@ pub fn structure(
     name: u64,
     fields: &[u64],
     index: &[u64],
-) -> Interned
+) -> Option<Interned>
     requires segments { Segments old.now new.old used }
     requires fields_bound { (field_count fields.now ≤ most_counted) × ValuesFit fields.now }
     requires covers { Covers (take used (old.now ++ new.old)) index.now }

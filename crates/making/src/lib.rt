@@ -95,7 +95,14 @@ pub fn rows_of(
 
 // ---- operations
 
-fn float(old: &[u64], new: &mut [u64], used: usize, sz: u64, bits: u64, index: &[u64]) -> Interned
+fn float(
+    old: &[u64],
+    new: &mut [u64],
+    used: usize,
+    sz: u64,
+    bits: u64,
+    index: &[u64],
+) -> Option<Interned>
     requires segments { Segments old.now new.old used }
     requires bits_value { float_ok (stored_size sz) bits ≡ true }
     requires covers { Covers (take used (old.now ++ new.old)) index.now }
@@ -117,7 +124,7 @@ pub fn operate(
     scratch: &mut [u64],
     memory: &mut [u64],
     index: &[u64],
-) -> Interned
+) -> Option<Interned>
     requires cleared { Cleared (rows_of making list.now text.now) old.now new.old used }
     requires right { Right (take used (old.now ++ new.old)) memory.old }
     requires covers { Covers (take used (old.now ++ new.old)) index.now }

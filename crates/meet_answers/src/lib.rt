@@ -23,7 +23,7 @@ pub fn meet_int(
     a: usize,
     b: usize,
     index: &[u64],
-) -> Interned
+) -> Option<Interned>
     requires segments { Segments old.now new.old used }
     requires a_lt_longest_allowed { (a < longest_allowed) × (b < longest_allowed) }
     requires covers { Covers (take used (old.now ++ new.old)) index.now }

@@ -37,7 +37,7 @@ fn meet_fields_in(
     types: &[u32],
     finals: &mut [u8],
     index: &[u64],
-) -> Interned
+) -> Option<Interned>
     requires segments { Segments old.now new.old used }
     requires types_len_bound { (length types.now ≤ most_counted) × (length types.now ≤ length finals.old) × (a < longest_allowed) × (b < longest_allowed) }
     requires a_value { all is_alias_final (first_flags_on (take used (old.now ++ new.old)) (length types.now) a) ≡ true }
@@ -66,7 +66,7 @@ pub fn meet_fields(
     b: usize,
     types: &[u32],
     index: &[u64],
-) -> Interned
+) -> Option<Interned>
     requires segments { Segments old.now new.old used }
     requires types_len_bound { (length types.now ≤ most_counted) × (a < longest_allowed) × (b < longest_allowed) × (all is_alias_final (first_flags_on (take used (old.now ++ new.old)) (length types.now) a) ≡ true) }
     requires covers { Covers (take used (old.now ++ new.old)) index.now }

@@ -11,7 +11,7 @@ use Rattle.std.specs.Prelude.{Option, None}
 use Rattle.words.specs.Ran.{interned}
 use Rattle.words.specs.declared.Interned.{Interned}
 use Rattle.words.proofs.Extend.{Extends}
-use Rattle.words.proofs.Room.{fit}
+use Rattle.words.proofs.Room.{fit, same_interned}
 use Rattle.index.specs.Covers.{Covers}
 use Rattle.index.proofs.Keep.{covers_more}
 use Rattle.parts.specs.Parts.{Good, Part, All, Ready}
@@ -123,4 +123,4 @@ then_full = record { is = λ h v e. let z : ◌≡◌ {A = ℕ} 0 1 = cc in absu
 
 -- right for the words that are used at the end
 pub then_now : {old now memory : List ℕ} {t v : ℕ} → Right (take v (old ++ now)) memory → RightThen old now (interned t v) memory
-then_now {v = v} r = record { is = λ h w e. let q : v ≡ w = cc in rw (← q) r }
+then_now {v = v} r = record { is = λ h w e. rw (← (same_interned e).1) r }

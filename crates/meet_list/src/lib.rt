@@ -34,28 +34,19 @@ pub fn meet_list(
     types: &[u64],
     memory: &mut [u64],
     index: &[u64],
-) -> Interned
+) -> Option<Interned>
     requires cleared { Cleared (meet_list_rows types.now) old.now new.old used }
     requires right { Right (take used (old.now ++ new.old)) memory.old }
     requires covers { Covers (take used (old.now ++ new.old)) index.now }
     ensures runs { Runs (meet_list_of types.now) old.now new.old used new.new result }
     ensures right_then { RightThen old.now new.new result memory.new }
 {
-    let mut t = fresh::TOP;
-    let mut v = used;
-    let mut i: usize = 0;
-    while i < types.len() {
-        let m = lent_memory::meet(old, new, v, t, types[i] as usize, memory, index);
-        match m {
-            Interned::At(h, w) => {
-                t = h;
-                v = w;
-            }
-            Interned::Full => {
-                return Interned::Full;
-            }
-        }
-        i += 1;
+    let mut met = Interned {
+        handle: fresh::TOP,
+        used,
+    };
+    for h in types {
+        met = lent_memory::meet(old, new, met.used, met.handle, *h as usize, memory, index)?;
     }
-    Interned::At(t, v)
+    Some(met)
 }

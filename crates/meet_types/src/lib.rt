@@ -12,7 +12,6 @@ ghost use Rattle.wellformed.specs.Form.{longest_allowed};
 ghost use Rattle.words.specs.Kinds.{Bot, Struct, Fref, last_kind};
 
 use meet_rules::{Rule, StructRule};
-use memo::Recalled;
 use words::{Interned, columns, fresh, kinds, limits};
 
 // The key under which a pair is remembered.
@@ -44,7 +43,7 @@ pub fn meet_type(
     b: usize,
     memo: &mut [u64],
     index: &[u64],
-) -> Interned
+) -> Option<Interned>
     requires ready { Ready old.now new.old used Bot last_kind a b }
     requires remembers { Remembers (take used (old.now ++ new.old)) memo.old }
     requires covers { Covers (take used (old.now ++ new.old)) index.now }
@@ -53,16 +52,24 @@ pub fn meet_type(
 {
     let rule = meet_rules::type_rule(old, new, used, a, b);
     let key = meet_key(rule, a, b);
-    let line = memo::recall(memo, key);
-    if let Recalled::Is(h) = line {
-        return Interned::At(h as usize, used);
+    if let Some(h) = memo::recall(memo, key) {
+        return Some(Interned {
+            handle: h as usize,
+            used,
+        });
     }
     match rule {
-        Rule::First => Interned::At(a, used),
-        Rule::Second => Interned::At(b, used),
-        Rule::Bottom => Interned::At(fresh::BOT, used),
+        Rule::First => Some(Interned { handle: a, used }),
+        Rule::Second => Some(Interned { handle: b, used }),
+        Rule::Bottom => Some(Interned {
+            handle: fresh::BOT,
+            used,
+        }),
         Rule::Ints => meet_answers::meet_int(old, new, used, a, b, index),
-        Rule::Floats => Interned::At(meet_answers::meet_float(old, new, used, a, b), used),
+        Rule::Floats => Some(Interned {
+            handle: meet_answers::meet_float(old, new, used, a, b),
+            used,
+        }),
         Rule::Structs => meet_struct(old, new, used, a, b, memo, index),
         Rule::Pointers => {
             let x = words::word(old, new, used, a + columns::TARGET) as usize;
@@ -71,14 +78,9 @@ pub fn meet_type(
                 words::word(old, new, used, a + columns::NIL),
                 words::word(old, new, used, b + columns::NIL),
             );
-            let m = meet_struct(old, new, used, x, y, memo, index);
-            match m {
-                Interned::At(h, v) => {
-                    let pointer = makers::pointer(old, new, v, h as u64, nil, index);
-                    memo::noted(memo, key, pointer)
-                }
-                Interned::Full => Interned::Full,
-            }
+            let m = meet_struct(old, new, used, x, y, memo, index)?;
+            let pointer = makers::pointer(old, new, m.used, m.handle as u64, nil, index);
+            memo::noted(memo, key, pointer)
         }
         Rule::Memories => {
             let alias = meet_rules::shared_alias(
@@ -87,34 +89,20 @@ pub fn meet_type(
             );
             let x = words::word(old, new, used, a + columns::INNER) as usize;
             let y = words::word(old, new, used, b + columns::INNER) as usize;
-            let m = meet_type(old, new, used, x, y, memo, index);
-            match m {
-                Interned::At(h, v) => {
-                    let memory = makers::memory(old, new, v, alias, h as u64, index);
-                    memo::noted(memo, key, memory)
-                }
-                Interned::Full => Interned::Full,
-            }
+            let m = meet_type(old, new, used, x, y, memo, index)?;
+            let memory = makers::memory(old, new, m.used, alias, m.handle as u64, index);
+            memo::noted(memo, key, memory)
         }
         Rule::Tuples => {
             let n = (words::word(old, new, used, a) / kinds::COUNT) as usize;
             let mut parts = [0u32; limits::MOST_COUNTED];
             let mut v = used;
-            let mut i: usize = 0;
-            while i < n {
+            for i in 0..n {
                 let x = words::word(old, new, used, a + columns::ELEMENTS + i) as usize;
                 let y = words::word(old, new, used, b + columns::ELEMENTS + i) as usize;
-                let m = meet_type(old, new, v, x, y, memo, index);
-                match m {
-                    Interned::At(h, w) => {
-                        parts[i] = h as u32;
-                        v = w;
-                    }
-                    Interned::Full => {
-                        return Interned::Full;
-                    }
-                }
-                i += 1;
+                let m = meet_type(old, new, v, x, y, memo, index)?;
+                parts[i] = m.handle as u32;
+                v = m.used;
             }
             let tuple = structs::tuple_of(old, new, v, &parts[..n], index);
             memo::noted(memo, key, tuple)
@@ -131,7 +119,7 @@ fn meet_struct(
     b: usize,
     memo: &mut [u64],
     index: &[u64],
-) -> Interned
+) -> Option<Interned>
     requires ready { Ready old.now new.old used Struct Fref a b }
     requires remembers { Remembers (take used (old.now ++ new.old)) memo.old }
     requires covers { Covers (take used (old.now ++ new.old)) index.now }
@@ -140,20 +128,24 @@ fn meet_struct(
 {
     let rule = struct_rules::struct_rule(old, new, used, a, b);
     match rule {
-        StructRule::Former => Interned::At(a, used),
-        StructRule::Latter => Interned::At(b, used),
-        StructRule::Lowest => Interned::At(fresh::STRUCT_BOT, used),
+        StructRule::Former => Some(Interned { handle: a, used }),
+        StructRule::Latter => Some(Interned { handle: b, used }),
+        StructRule::Lowest => Some(Interned {
+            handle: fresh::STRUCT_BOT,
+            used,
+        }),
         StructRule::Fields => {
             let key = pair_key(a, b);
-            let line = memo::recall(memo, key);
-            if let Recalled::Is(h) = line {
-                return Interned::At(h as usize, used);
+            if let Some(h) = memo::recall(memo, key) {
+                return Some(Interned {
+                    handle: h as usize,
+                    used,
+                });
             }
             let n = (words::word(old, new, used, a) / kinds::COUNT) as usize;
             let mut types = [0u32; limits::MOST_COUNTED];
             let mut v = used;
-            let mut i: usize = 0;
-            while i < n {
+            for i in 0..n {
                 let x = words::word(
                     old,
                     new,
@@ -166,17 +158,9 @@ fn meet_struct(
                     used,
                     b + columns::FIELD_TYPES + columns::FIELD * i,
                 ) as usize;
-                let m = meet_type(old, new, v, x, y, memo, index);
-                match m {
-                    Interned::At(h, w) => {
-                        types[i] = h as u32;
-                        v = w;
-                    }
-                    Interned::Full => {
-                        return Interned::Full;
-                    }
-                }
-                i += 1;
+                let m = meet_type(old, new, v, x, y, memo, index)?;
+                types[i] = m.handle as u32;
+                v = m.used;
             }
             let fields = meet_fields::meet_fields(old, new, v, a, b, &types[..n], index);
             memo::noted(memo, key, fields)

@@ -12,6 +12,7 @@ use lib.Seq.{get_or-set_same, get_or-set_other}
 use Rattle.std.specs.Prelude.{Option, Some, None}
 use Rattle.words.specs.Ran.{interned}
 use Rattle.words.specs.declared.Interned.{Interned}
+use Rattle.words.proofs.Room.{same_interned}
 use Rattle.memo.specs.Memo.{Line, Lines, Tells, Noted, Learned}
 
 -- ---- the functions
@@ -40,7 +41,7 @@ noted_line memo key answer j room some fits = record { line = λ i. go i (eqb i 
     go i false q = inl (get_or-set_other memo j i (key * 1048576 + answer) 0 (eqb-false i j q))
 
 pub learned_at : (memo : List ℕ) (key h v : ℕ) (memo' : List ℕ) (r : Option Interned) → r ≡ interned h v → Noted memo key h memo' → Learned memo key r memo'
-learned_at memo key h v memo' r e n = record { at = λ k w f. let q : h ≡ k = cc in rw q at n; full = λ f. let z : ◌≡◌ {A = ℕ} 0 1 = cc in absurd (omega arith) }
+learned_at memo key h v memo' r e n = record { at = λ k w f. rw (same_interned (sym e ∙ f)).0 at n; full = λ f. let z : ◌≡◌ {A = ℕ} 0 1 = cc in absurd (omega arith) }
 
 pub learned_none : (memo : List ℕ) (key : ℕ) (r : Option Interned) → r ≡ None → Learned memo key r memo
 learned_none memo key r e = record { at = λ h v f. let z : ◌≡◌ {A = ℕ} 0 1 = cc in absurd (omega arith); full = λ f. refl }

@@ -17,12 +17,6 @@ const KEYS: u64 = 17592186044416;
 // How many lines are looked at for a key.
 const LOOKED_AT: usize = 64;
 
-#[derive(Clone, Copy)]
-pub enum Recalled {
-    Is(u64),
-    Nothing,
-}
-
 // The line that a key asks for. Keys below 2 to the 20 ask for different lines where there are as many. Pairs come in rows and columns, whose lines would
 // lie in heaps if they went by their numbers: they are spread by a hash.
 fn home(lines: usize, key: u64) -> usize
@@ -60,30 +54,30 @@ fn after(lines: usize, i: usize) -> usize
 }
 
 // The answer to a key, if one of its lines has it.
-pub fn recall(memo: &[u64], key: u64) -> Recalled
+pub fn recall(memo: &[u64], key: u64) -> Option<u64>
     ensures { Tells memo.now key result }
 {
     let lines = memo.len();
     if lines == 0 {
-        return Recalled::Nothing;
+        return None;
     }
     if key == 0 {
-        return Recalled::Nothing;
+        return None;
     }
     let mut i = home(lines, key);
     let mut n = probes(lines);
     while 0 < n {
         let line = memo[i];
         if line == 0 {
-            return Recalled::Nothing;
+            return None;
         }
         if line / ANSWERS == key {
-            return Recalled::Is(line % ANSWERS);
+            return Some(line % ANSWERS);
         }
         i = after(lines, i);
         n -= 1;
     }
-    Recalled::Nothing
+    None
 }
 
 // A line for a key: one that has it, or the first empty one, else the one that it asks for.
@@ -126,15 +120,12 @@ pub fn note(memo: &mut [u64], key: u64, answer: u64)
 }
 
 // The same for the handle that an operation answers, on the answer's way through.
-pub fn noted(memo: &mut [u64], key: u64, r: Interned) -> Interned
+pub fn noted(memo: &mut [u64], key: u64, r: Option<Interned>) -> Option<Interned>
     ensures value { result ≡ r }
     ensures learned { Learned memo.old key r memo.new }
 {
-    match r {
-        Interned::At(h, v) => {
-            note(memo, key, h as u64);
-            Interned::At(h, v)
-        }
-        Interned::Full => Interned::Full,
+    if let Some(m) = r {
+        note(memo, key, m.handle as u64);
     }
+    r
 }

@@ -20,20 +20,20 @@ pub fn part_of(op: Walk) -> usize
 }
 
 // Whether an answer is b. One that did not fit is not: what would have to be appended is no old handle.
-pub fn is_second(m: Interned, b: u64) -> bool
+pub fn is_second(m: Option<Interned>, b: u64) -> bool
     ensures { result ≡ second m b }
 {
     match m {
-        Interned::At(h, _) => h as u64 == b,
-        Interned::Full => false,
+        Some(m) => m.handle as u64 == b,
+        None => false,
     }
 }
 
 // Where the answer did not fit, the store is put back as it was, and lines that were noted on the way may speak of entries that are gone: all are forgotten.
-pub fn forget(r: Interned, memory: &mut [u64])
+pub fn forget(r: Option<Interned>, memory: &mut [u64])
     ensures { Forgot r memory.old memory.new }
 {
-    if let Interned::Full = r {
+    if r.is_none() {
         words::clear(memory);
     }
 }

@@ -22,13 +22,13 @@ fn non_zero_int(
     min: u64,
     max: u64,
     index: &[u64],
-) -> Interned
+) -> Option<Interned>
     requires segments { Segments old.now new.old used }
     requires covers { Covers (take used (old.now ++ new.old)) index.now }
     ensures { Runs (non_zero_int a min max) old.now new.old used new.new result }
 {
     if type_integer::is_less(max, min) {
-        return Interned::At(a, used);
+        return Some(Interned { handle: a, used });
     }
     if min == 0 {
         return makers::int(old, new, used, 1, type_integer::larger_of(max, 1), index);
@@ -36,7 +36,7 @@ fn non_zero_int(
     if max == 0 {
         return makers::int(old, new, used, min, MINUS_ONE, index);
     }
-    Interned::At(a, used)
+    Some(Interned { handle: a, used })
 }
 
 pub fn non_zero(
@@ -46,7 +46,7 @@ pub fn non_zero(
     a: usize,
     memory: &mut [u64],
     index: &[u64],
-) -> Interned
+) -> Option<Interned>
     requires ready_one { ReadyOne old.now new.old used a }
     requires right { Right (take used (old.now ++ new.old)) memory.old }
     requires covers { Covers (take used (old.now ++ new.old)) index.now }
@@ -60,7 +60,10 @@ pub fn non_zero(
         return non_zero_int(old, new, used, a, min, max, index);
     }
     if k == kinds::MEM_PTR {
-        return Interned::At(fresh::PTR_VOID, used);
+        return Some(Interned {
+            handle: fresh::PTR_VOID,
+            used,
+        });
     }
     lent_memory::walk(Walk::Glb, old, new, used, a, memory, index)
 }

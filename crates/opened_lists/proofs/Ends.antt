@@ -35,6 +35,7 @@ use Rattle.store_index.proofs.Store.{used_is, used_some, used_low}
 use Rattle.opened.specs.OpenStore.{OpenStore}
 use Rattle.opened.proofs.Index.{all_in, covers_later}
 use Rattle.opened.proofs.Store.{after_well, after_stale}
+use Rattle.words.proofs.Room.{same_interned}
 use Rattle.opened_lists.specs.Then.{OpenedThen}
 
 -- ---- a call on an opened store that no row turns back
@@ -142,4 +143,4 @@ pub opened_full : {ws' chains : List ℕ} → OpenedThen ws' None chains
 opened_full = record { is = λ h v e. let z : ◌≡◌ {A = ℕ} 0 1 = cc in absurd (omega arith) }
 
 pub opened_now : {ws chains : List ℕ} {t v : ℕ} → Opened (take v ws) chains → OpenedThen ws (interned t v) chains
-opened_now {v = v} x = record { is = λ h w e. let q : v ≡ w = cc in rw (← q) x }
+opened_now {v = v} x = record { is = λ h w e. rw (← (same_interned e).1) x }

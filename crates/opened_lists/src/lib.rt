@@ -23,7 +23,7 @@ fn merge(
     types: &[u64],
     chains: &mut [u64],
     memory: &mut [u64],
-) -> Interned
+) -> Option<Interned>
     requires cleared { Cleared (meet_list_rows types.now) [] words.old used }
     requires opened { Opened (take used words.old) chains.old }
     requires right { Right (take used words.old) memory.old }
@@ -32,24 +32,23 @@ fn merge(
     ensures right_then { RightThen [] words.new result memory.new }
 {
     let none = [0u64; 0];
-    let mut t = fresh::TOP;
-    let mut v = used;
-    let mut i: usize = 0;
-    while i < types.len() {
-        let m = lent_memory::meet(&none, words, v, t, types[i] as usize, memory, chains);
-        match m {
-            Interned::At(h, w) => {
-                index::extend(words, w, chains);
-                t = h;
-                v = w;
-            }
-            Interned::Full => {
-                return Interned::Full;
-            }
-        }
-        i += 1;
+    let mut met = Interned {
+        handle: fresh::TOP,
+        used,
+    };
+    for h in types {
+        met = lent_memory::meet(
+            &none,
+            words,
+            met.used,
+            met.handle,
+            *h as usize,
+            memory,
+            chains,
+        )?;
+        index::extend(words, met.used, chains);
     }
-    Interned::At(t, v)
+    Some(met)
 }
 
 pub fn meet_list(words: &mut [u64], index: &mut [u64], memory: &mut [u64], types: &[u64]) -> Made

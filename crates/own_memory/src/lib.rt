@@ -41,7 +41,7 @@ fn operate(
     memo: &mut [u64],
     known: &mut [u64],
     index: &[u64],
-) -> Interned
+) -> Option<Interned>
     requires asked { Asked op old.now new.old used a }
     requires by_index { (i : ℕ) → get_or memo.old i 0 ≡ 0 }
     requires knows { Knows (take used (old.now ++ new.old)) known.old }
@@ -67,7 +67,7 @@ fn up_to_512(
     lines: usize,
     known: &mut [u64],
     index: &[u64],
-) -> Interned
+) -> Option<Interned>
     requires asked { Asked op old.now new.old used a }
     requires knows { Knows (take used (old.now ++ new.old)) known.old }
     requires covers { Covers (take used (old.now ++ new.old)) index.now }
@@ -96,7 +96,7 @@ fn up_to_2048(
     lines: usize,
     known: &mut [u64],
     index: &[u64],
-) -> Interned
+) -> Option<Interned>
     requires asked { Asked op old.now new.old used a }
     requires knows { Knows (take used (old.now ++ new.old)) known.old }
     requires covers { Covers (take used (old.now ++ new.old)) index.now }
@@ -120,7 +120,7 @@ fn with_4096(
     a: usize,
     known: &mut [u64],
     index: &[u64],
-) -> Interned
+) -> Option<Interned>
     requires asked { Asked op old.now new.old used a }
     requires knows { Knows (take used (old.now ++ new.old)) known.old }
     requires covers { Covers (take used (old.now ++ new.old)) index.now }
@@ -140,7 +140,7 @@ fn with_8192(
     a: usize,
     known: &mut [u64],
     index: &[u64],
-) -> Interned
+) -> Option<Interned>
     requires asked { Asked op old.now new.old used a }
     requires knows { Knows (take used (old.now ++ new.old)) known.old }
     requires covers { Covers (take used (old.now ++ new.old)) index.now }
@@ -161,7 +161,7 @@ fn sized(
     lines: usize,
     known: &mut [u64],
     index: &[u64],
-) -> Interned
+) -> Option<Interned>
     requires asked { Asked op old.now new.old used a }
     requires knows { Knows (take used (old.now ++ new.old)) known.old }
     requires covers { Covers (take used (old.now ++ new.old)) index.now }
@@ -204,7 +204,7 @@ pub fn run(
     a: usize,
     known: &mut [u64],
     index: &[u64],
-) -> Interned
+) -> Option<Interned>
     requires asked { Asked op old.now new.old used a }
     requires knows { Knows (take used (old.now ++ new.old)) known.old }
     requires covers { Covers (take used (old.now ++ new.old)) index.now }
@@ -221,7 +221,14 @@ pub fn run(
 }
 
 // A meet that nothing is appended for: the used words are lent to be read, and there is no word behind them.
-pub fn ask(old: &[u64], new: &mut [u64], used: usize, a: usize, b: usize, index: &[u64]) -> Interned
+pub fn ask(
+    old: &[u64],
+    new: &mut [u64],
+    used: usize,
+    a: usize,
+    b: usize,
+    index: &[u64],
+) -> Option<Interned>
     requires ready { Ready old.now new.old used Bot last_kind a b }
     requires covers { Covers (take used (old.now ++ new.old)) index.now }
     ensures { Done (Meet b) old.now new.old used a new.new result }
@@ -272,7 +279,7 @@ pub fn join(
     a: usize,
     b: usize,
     index: &[u64],
-) -> Interned
+) -> Option<Interned>
     requires ready { Ready old.now new.old used Bot last_kind a b }
     requires covers { Covers (take used (old.now ++ new.old)) index.now }
     ensures { Runs (λ u. join_of u a b) old.now new.old used new.new result }
@@ -317,7 +324,7 @@ pub fn make_ro(
     a: usize,
     bits: &mut [u64],
     index: &[u64],
-) -> Interned
+) -> Option<Interned>
     requires ready_one { ReadyOne old.now new.old used a }
     requires covers { Covers (take used (old.now ++ new.old)) index.now }
     ensures { Done MakeRo old.now new.old used a new.new result }

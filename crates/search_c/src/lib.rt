@@ -12,25 +12,25 @@ ghost use Rattle.index.specs.Covers.{Covers, Opened};
 ghost use Rattle.names.specs.Name.{name_entry, wrapped, longest_text};
 ghost use Rattle.search_c.specs.Handle.{of_found, of_interned, Ready, Left, Told};
 
-use words::{Found, Interned, Search, columns, kinds};
+use words::{Interned, Search, columns, kinds};
 
 // A handle, 0 for nothing.
-fn of_found(f: Found) -> u64
+fn of_found(f: Option<usize>) -> u64
     ensures { result ≡ of_found f }
 {
     match f {
-        Found::At(h) => h as u64,
-        Found::Nothing => 0,
+        Some(h) => h as u64,
+        None => 0,
     }
 }
 
 // A handle, 0 where the entry did not fit.
-fn of_interned(i: Interned) -> u64
+fn of_interned(i: Option<Interned>) -> u64
     ensures { result ≡ of_interned i }
 {
     match i {
-        Interned::At(h, _) => h as u64,
-        Interned::Full => 0,
+        Some(m) => m.handle as u64,
+        None => 0,
     }
 }
 
@@ -154,11 +154,11 @@ fn look_before(words: &[u64], from: usize, to: usize, entry: &[u64]) -> Found
     while at < to {
         let n = size_before(words[at]);
         if words::same(&words[at..at + n], entry) {
-            return Found::At(at);
+            return Some(at);
         }
         at += n;
     }
-    Found::Nothing
+    None
 }
 
 // The same for a name.
@@ -171,11 +171,11 @@ fn look_name_before(words: &[u64], from: usize, to: usize, text: &[u8], wrap: bo
     while at < to {
         let n = size_before(words[at]);
         if names::same_name(&words[at..at + n], text, wrap) {
-            return Found::At(at);
+            return Some(at);
         }
         at += n;
     }
-    Found::Nothing
+    None
 }
 
 // The lowest handle of an entry, 0 for nothing.

@@ -46,7 +46,7 @@ fn tuple_in(
     types: &[u32],
     handles: &mut [u64],
     index: &[u64],
-) -> Interned
+) -> Option<Interned>
     requires segments { Segments old.now new.old used }
     requires types_len_bound { (length types.now ≤ most_counted) × (length types.now ≤ length handles.old) }
     requires covers { Covers (take used (old.now ++ new.old)) index.now }
@@ -58,7 +58,13 @@ fn tuple_in(
 }
 
 // Makes a tuple of these types.
-pub fn tuple_of(old: &[u64], new: &mut [u64], used: usize, types: &[u32], index: &[u64]) -> Interned
+pub fn tuple_of(
+    old: &[u64],
+    new: &mut [u64],
+    used: usize,
+    types: &[u32],
+    index: &[u64],
+) -> Option<Interned>
     requires segments { Segments old.now new.old used }
     requires types_len_bound { length types.now ≤ most_counted }
     requires covers { Covers (take used (old.now ++ new.old)) index.now }
@@ -125,7 +131,7 @@ fn made_again_in(
     finals: &[u8],
     fields: &mut [u64],
     index: &[u64],
-) -> Interned
+) -> Option<Interned>
     requires segments { Segments old.now new.old used }
     requires types_len_bound { (length types.now ≤ most_counted) × (length types.now ≡ length finals.now) × (lent_size * length types.now ≤ length fields.old) × (a ≤ longest_allowed) }
     requires a_value { (all is_alias_final (first_flags_on (take used (old.now ++ new.old)) (length types.now) a) ≡ true) × (all is_flag finals.now ≡ true) }
@@ -154,7 +160,7 @@ pub fn made_again(
     types: &[u32],
     finals: &[u8],
     index: &[u64],
-) -> Interned
+) -> Option<Interned>
     requires segments { Segments old.now new.old used }
     requires types_len_bound { (length types.now ≤ most_counted) × (length types.now ≡ length finals.now) × (a ≤ longest_allowed) }
     requires a_value { (all is_alias_final (first_flags_on (take used (old.now ++ new.old)) (length types.now) a) ≡ true) × (all is_flag finals.now ≡ true) }

@@ -12,7 +12,6 @@ ghost use Rattle.walk_rules.specs.declared.Form.TheVariants.{AStruct};
 ghost use Rattle.walk.specs.Walked.{Walked};
 ghost use Rattle.walk.specs.Remembered.{Remembers, Remembered};
 
-use memo::Recalled;
 use walk_rules::{Form, Walk};
 use words::{Interned, columns, kinds, limits};
 
@@ -40,7 +39,7 @@ pub fn walk_type(
     a: usize,
     memo: &mut [u64],
     index: &[u64],
-) -> Interned
+) -> Option<Interned>
     requires ready_one { ReadyOne old.now new.old used a }
     requires remembers { Remembers op (take used (old.now ++ new.old)) memo.old }
     requires covers { Covers (take used (old.now ++ new.old)) index.now }
@@ -49,12 +48,14 @@ pub fn walk_type(
 {
     let form = walk_answers::form_of(op, old, new, used, a);
     let key = walk_key(form, a);
-    let line = memo::recall(memo, key);
-    if let Recalled::Is(h) = line {
-        return Interned::At(h as usize, used);
+    if let Some(h) = memo::recall(memo, key) {
+        return Some(Interned {
+            handle: h as usize,
+            used,
+        });
     }
     match form {
-        Form::Is(h) => Interned::At(h, used),
+        Form::Is(h) => Some(Interned { handle: h, used }),
         Form::AnInt => walk_answers::int_of(op, old, new, used, a, index),
         Form::AFloat => walk_answers::float_of(op, old, new, used, a, index),
         Form::AStruct => {
@@ -64,45 +65,26 @@ pub fn walk_type(
         Form::APointer => {
             let x = words::word(old, new, used, a + columns::TARGET) as usize;
             let nil = walk_rules::nil_of(op, words::word(old, new, used, a + columns::NIL));
-            let m = walk_type(op, old, new, used, x, memo, index);
-            match m {
-                Interned::At(h, v) => {
-                    let r = makers::pointer(old, new, v, h as u64, nil, index);
-                    memo::noted(memo, key, r)
-                }
-                Interned::Full => Interned::Full,
-            }
+            let m = walk_type(op, old, new, used, x, memo, index)?;
+            let r = makers::pointer(old, new, m.used, m.handle as u64, nil, index);
+            memo::noted(memo, key, r)
         }
         Form::AMemory => {
             let alias = words::word(old, new, used, a + columns::ALIAS);
             let x = words::word(old, new, used, a + columns::INNER) as usize;
-            let m = walk_type(op, old, new, used, x, memo, index);
-            match m {
-                Interned::At(h, v) => {
-                    let r = makers::memory(old, new, v, alias, h as u64, index);
-                    memo::noted(memo, key, r)
-                }
-                Interned::Full => Interned::Full,
-            }
+            let m = walk_type(op, old, new, used, x, memo, index)?;
+            let r = makers::memory(old, new, m.used, alias, m.handle as u64, index);
+            memo::noted(memo, key, r)
         }
         Form::ATuple => {
             let n = (words::word(old, new, used, a) / kinds::COUNT) as usize;
             let mut parts = [0u32; limits::MOST_COUNTED];
             let mut v = used;
-            let mut i: usize = 0;
-            while i < n {
+            for i in 0..n {
                 let x = words::word(old, new, used, a + columns::ELEMENTS + i) as usize;
-                let m = walk_type(op, old, new, v, x, memo, index);
-                match m {
-                    Interned::At(h, w) => {
-                        parts[i] = h as u32;
-                        v = w;
-                    }
-                    Interned::Full => {
-                        return Interned::Full;
-                    }
-                }
-                i += 1;
+                let m = walk_type(op, old, new, v, x, memo, index)?;
+                parts[i] = m.handle as u32;
+                v = m.used;
             }
             let r = structs::tuple_of(old, new, v, &parts[..n], index);
             memo::noted(memo, key, r)
@@ -119,7 +101,7 @@ fn walk_struct(
     a: usize,
     memo: &mut [u64],
     index: &[u64],
-) -> Interned
+) -> Option<Interned>
     requires ready_one { ReadyOne old.now new.old used a }
     requires a_value { form_for op a (kind_on (take used (old.now ++ new.old)) a) ≡ AStruct }
     requires remembers { Remembers op (take used (old.now ++ new.old)) memo.old }
@@ -130,25 +112,16 @@ fn walk_struct(
     let n = (words::word(old, new, used, a) / kinds::COUNT) as usize;
     let mut types = [0u32; limits::MOST_COUNTED];
     let mut v = used;
-    let mut i: usize = 0;
-    while i < n {
+    for i in 0..n {
         let x = words::word(
             old,
             new,
             used,
             a + columns::FIELD_TYPES + columns::FIELD * i,
         ) as usize;
-        let m = walk_type(op, old, new, v, x, memo, index);
-        match m {
-            Interned::At(h, w) => {
-                types[i] = h as u32;
-                v = w;
-            }
-            Interned::Full => {
-                return Interned::Full;
-            }
-        }
-        i += 1;
+        let m = walk_type(op, old, new, v, x, memo, index)?;
+        types[i] = m.handle as u32;
+        v = m.used;
     }
     walk_fields::fields_of(op, old, new, v, a, &types[..n], index)
 }

@@ -30,7 +30,7 @@ pub fn int_of(
     used: usize,
     a: usize,
     index: &[u64],
-) -> Interned
+) -> Option<Interned>
     requires segments { Segments old.now new.old used }
     requires a_lt_longest_allowed { a < longest_allowed }
     requires covers { Covers (take used (old.now ++ new.old)) index.now }
@@ -42,12 +42,24 @@ pub fn int_of(
             let max = words::word(old, new, used, a + columns::MIN);
             makers::int(old, new, used, min, max, index)
         }
-        Walk::Glb => Interned::At(fresh::INT_BOT, used),
-        Walk::Lub => Interned::At(fresh::INT_TOP, used),
+        Walk::Glb => Some(Interned {
+            handle: fresh::INT_BOT,
+            used,
+        }),
+        Walk::Lub => Some(Interned {
+            handle: fresh::INT_TOP,
+            used,
+        }),
     }
 }
 
-fn dual_float(old: &[u64], new: &mut [u64], used: usize, a: usize, index: &[u64]) -> Interned
+fn dual_float(
+    old: &[u64],
+    new: &mut [u64],
+    used: usize,
+    a: usize,
+    index: &[u64],
+) -> Option<Interned>
     requires segments { Segments old.now new.old used }
     requires a_lt_longest_allowed { (a < longest_allowed) × (is_size_word (size_on (take used (old.now ++ new.old)) a) ≡ true) }
     requires covers { Covers (take used (old.now ++ new.old)) index.now }
@@ -55,7 +67,7 @@ fn dual_float(old: &[u64], new: &mut [u64], used: usize, a: usize, index: &[u64]
 {
     let size = words::word(old, new, used, a + columns::SIZE);
     if size == wellformed::SIZE_ZERO {
-        return Interned::At(a, used);
+        return Some(Interned { handle: a, used });
     }
     let f = type_float::float_of(wellformed::LARGEST_SIZE - size, 0);
     makers::float(old, new, used, f, 0, index)
@@ -68,7 +80,7 @@ pub fn float_of(
     used: usize,
     a: usize,
     index: &[u64],
-) -> Interned
+) -> Option<Interned>
     requires segments { Segments old.now new.old used }
     requires a_lt_longest_allowed { (a < longest_allowed) × (is_size_word (size_on (take used (old.now ++ new.old)) a) ≡ true) }
     requires covers { Covers (take used (old.now ++ new.old)) index.now }
@@ -76,7 +88,13 @@ pub fn float_of(
 {
     match walk {
         Walk::Dual => dual_float(old, new, used, a, index),
-        Walk::Glb => Interned::At(fresh::FLOAT_BOT, used),
-        Walk::Lub => Interned::At(fresh::FLOAT_TOP, used),
+        Walk::Glb => Some(Interned {
+            handle: fresh::FLOAT_BOT,
+            used,
+        }),
+        Walk::Lub => Some(Interned {
+            handle: fresh::FLOAT_TOP,
+            used,
+        }),
     }
 }

@@ -39,7 +39,7 @@ fn fields_in(
     types: &[u32],
     finals: &mut [u8],
     index: &[u64],
-) -> Interned
+) -> Option<Interned>
     requires segments { Segments old.now new.old used }
     requires types_len_bound { (length types.now ≤ most_counted) × (length types.now ≤ length finals.old) × (a < longest_allowed) }
     requires a_value { all is_alias_final (first_flags_on (take used (old.now ++ new.old)) (length types.now) a) ≡ true }
@@ -60,7 +60,7 @@ pub fn fields_of(
     a: usize,
     types: &[u32],
     index: &[u64],
-) -> Interned
+) -> Option<Interned>
     requires segments { Segments old.now new.old used }
     requires types_len_bound { (length types.now ≤ most_counted) × (a < longest_allowed) × (all is_alias_final (first_flags_on (take used (old.now ++ new.old)) (length types.now) a) ≡ true) }
     requires covers { Covers (take used (old.now ++ new.old)) index.now }

@@ -27,11 +27,11 @@ enum_known-f c = search rules
 enum_told-1 : tie.Need-enum_told-1
 enum_told-1 c = search rules
 
-returns-in-At : tie.Need-returns-in-At
-returns-in-At c = search found_there
+returns-in-Some : tie.Need-returns-in-Some
+returns-in-Some c = search found_there
 
-returns-in-Nothing : tie.Need-returns-in-Nothing
-returns-in-Nothing c = search found_nowhere
+returns-in-None : tie.Need-returns-in-None
+returns-in-None c = search found_nowhere
 
 pub find_entry_spec : {M : Type 1} → statement M
 find_entry_spec =
@@ -44,5 +44,5 @@ find_entry_spec =
     find-s-requires
     enum_known-f
     enum_told-1
-    returns-in-At
-    returns-in-Nothing)
+    returns-in-Some
+    returns-in-None)

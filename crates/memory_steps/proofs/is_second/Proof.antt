@@ -10,11 +10,11 @@ enum_known-m c = search rules
 enum_told-1 : tie.Need-enum_told-1
 enum_told-1 c = search rules
 
-returns-in-At : tie.Need-returns-in-At
-returns-in-At c = second_at _ _ _ _ c.in-At.is
+returns-in-Some : tie.Need-returns-in-Some
+returns-in-Some c = second_at _ _ _ _ c.in-Some.is
 
-returns-in-Full : tie.Need-returns-in-Full
-returns-in-Full c = second_full _ _ c.in-Full.is
+returns-in-None : tie.Need-returns-in-None
+returns-in-None c = second_full _ _ c.in-None.is
 
 pub is_second_spec : {M : Type 1} → statement M
-is_second_spec = tie.close (tie.spec enum_known-m enum_told-1 returns-in-At returns-in-Full)
+is_second_spec = tie.close (tie.spec enum_known-m enum_told-1 returns-in-Some returns-in-None)
