@@ -1,6 +1,7 @@
 -- Each way through `entry` gives what `ok_entry` says. Assumes nothing.
 use mathlib.Core.Path.{◌≡◌, refl, sym, ap, ◌∙◌}
 use mathlib.Core.Bool.{Bool, true, false, cond, ◌&&◌, ◌||◌}
+use Rattle.std.proofs.Common.{Option, Some, None}
 use mathlib.Core.List.{List, [], ◌∷◌}
 use Prim.Native.Nat.{ℕ, zero, suc, ◌+◌, ◌-◌, ◌≤◌, ◌<◌, ◌%◌, ◌/◌, max}
 use native.Mathlib.Omega.{arith}
@@ -13,8 +14,6 @@ use Rattle.words.specs.Words.{kind_of, depth_of}
 use Rattle.wellformed.specs.Entry.{kind, depth, count, takes, depth_for, kind_at, is_name, is_type, is_struct, is_alias_final, all, deepest, most_of, names_in, types_in, float_ok, zero_filled, values_ok, ok_entry}
 use Rattle.words.specs.Columns.{every}
 use Rattle.wellformed.specs.Scan.{head_depth, part_depth, parts_depth, fields_depth, one_over}
-use Rattle.wellformed.specs.declared.Depth.{Depth}
-use Rattle.wellformed.specs.declared.Depth.TheVariants.{Of, Bad}
 use Rattle.wellformed.proofs.Bools.{and-false, and-true}
 
 -- a tuple's elements are all the words behind its head
@@ -43,7 +42,7 @@ above_part : (heads : ℕ → ℕ) (p : ℕ → Bool) (h d : ℕ) → one_over d
 unfolding one_over head_depth deepest
 above_part heads p h d = let m : max (depth_of (heads h)) 0 ≡ depth_of (heads h) = omega arith in rw m (go (p (kind_of (heads h))))
   where
-    go : (t : Bool) → one_over d (cond t (Of (depth_of (heads h))) Bad) ≡ ((t && true) && eqb d (1 + depth_of (heads h)))
+    go : (t : Bool) → one_over d (cond t (Some (depth_of (heads h))) None) ≡ ((t && true) && eqb d (1 + depth_of (heads h)))
     go true = refl
     go false = refl
 
@@ -51,11 +50,11 @@ above_deep : (heads : ℕ → ℕ) (d : ℕ) (hs : List ℕ) → one_over d (par
 unfolding one_over parts_depth
 above_deep heads d hs = let m : max 0 (deepest heads hs) ≡ deepest heads hs = omega arith in rw m (go (all (kind_at heads is_type) hs))
   where
-    go : (t : Bool) → one_over d (cond t (Of (deepest heads hs)) Bad) ≡ (t && eqb d (1 + deepest heads hs))
+    go : (t : Bool) → one_over d (cond t (Some (deepest heads hs)) None) ≡ (t && eqb d (1 + deepest heads hs))
     go true = refl
     go false = refl
 
-above_cond : (d : ℕ) (t : Bool) (g : Depth) → one_over d (cond t g Bad) ≡ (t && one_over d g)
+above_cond : (d : ℕ) (t : Bool) (g : Option ℕ) → one_over d (cond t g None) ≡ (t && one_over d g)
 unfolding one_over
 above_cond d true g = refl
 above_cond d false g = refl
@@ -132,7 +131,7 @@ module _ (heads : ℕ → ℕ) (e : List ℕ) where
       unfolding ok_entry most_of names_in types_in all values_ok
       a_name r k d p = rw (k, le-leb _ _ few, d) p
 
-      pub a_tuple : length e ≡ 1 + get_or e 0 0 / 65536 → get_or e 0 0 % 256 ≡ 7 → (g : Depth) → g ≡ parts_depth heads 0 (take (length e - 1) (drop 1 e)) → (r : Bool) → r ≡ one_over (get_or e 0 0 / 256 % 256) g → r ≡ ok_entry heads e
+      pub a_tuple : length e ≡ 1 + get_or e 0 0 / 65536 → get_or e 0 0 % 256 ≡ 7 → (g : Option ℕ) → g ≡ parts_depth heads 0 (take (length e - 1) (drop 1 e)) → (r : Bool) → r ≡ one_over (get_or e 0 0 / 256 % 256) g → r ≡ ok_entry heads e
       unfolding ok_entry most_of names_in types_in all values_ok
       a_tuple len k g is r a =
           let n = get_or e 0 0 / 65536 in
@@ -144,7 +143,7 @@ module _ (heads : ℕ → ℕ) (e : List ℕ) where
       unfolding ok_entry most_of names_in all
       struct_unnamed k g is ne = rw (k, le-leb _ _ few, ← is, ne_eqb _ _ ne)
 
-      pub a_struct : get_or e 0 0 % 256 ≡ 8 → (g : ℕ) → g ≡ heads (get_or e 1 0) → g % 256 ≡ 0 → (f : Depth) → f ≡ fields_depth heads 0 (get_or e 0 0 / 65536) 2 e → (r : Bool) → r ≡ one_over (get_or e 0 0 / 256 % 256) f → r ≡ ok_entry heads e
+      pub a_struct : get_or e 0 0 % 256 ≡ 8 → (g : ℕ) → g ≡ heads (get_or e 1 0) → g % 256 ≡ 0 → (f : Option ℕ) → f ≡ fields_depth heads 0 (get_or e 0 0 / 65536) 2 e → (r : Bool) → r ≡ one_over (get_or e 0 0 / 256 % 256) f → r ≡ ok_entry heads e
       unfolding most_of names_in types_in all values_ok
       a_struct k g ig y f is r a =
           let names : all (kind_at heads is_name) (names_in e) ≡ all (kind_at heads is_name) (every 3 (get_or e 0 0 / 65536) 2 e) = rw (k, ← ig, eq-eqb _ _ y) in
@@ -189,7 +188,7 @@ module _ (heads : ℕ → ℕ) (e : List ℕ) where
           unfolding values_ok
           bad_nil k v = no_value _ _ _ _ _ _ _ (rw (k, lt-leb _ _ v)) ∙ sym (clauses heads e)
 
-          pub a_pointer : get_or e 0 0 % 256 ≡ 10 → get_or e 2 0 ≤ 1 → (g : Depth) → g ≡ part_depth heads is_struct (get_or e 1 0) → (r : Bool) → r ≡ one_over (get_or e 0 0 / 256 % 256) g → r ≡ ok_entry heads e
+          pub a_pointer : get_or e 0 0 % 256 ≡ 10 → get_or e 2 0 ≤ 1 → (g : Option ℕ) → g ≡ part_depth heads is_struct (get_or e 1 0) → (r : Bool) → r ≡ one_over (get_or e 0 0 / 256 % 256) g → r ≡ ok_entry heads e
           unfolding ok_entry most_of names_in types_in all values_ok
           a_pointer k v g is r a =
               rw (k, n0, le-leb _ _ low, le-leb _ _ v) (trues _ r (a ∙ ap (one_over (get_or e 0 0 / 256 % 256)) is ∙ above_part heads is_struct (get_or e 1 0) (get_or e 0 0 / 256 % 256)))
@@ -198,7 +197,7 @@ module _ (heads : ℕ → ℕ) (e : List ℕ) where
           unfolding values_ok
           bad_alias k v = no_value _ _ _ _ _ _ _ (rw (k, lt-leb _ _ v)) ∙ sym (clauses heads e)
 
-          pub a_memory : get_or e 0 0 % 256 ≡ 11 → get_or e 1 0 ≤ 4294967295 → (g : Depth) → g ≡ part_depth heads is_type (get_or e 2 0) → (r : Bool) → r ≡ one_over (get_or e 0 0 / 256 % 256) g → r ≡ ok_entry heads e
+          pub a_memory : get_or e 0 0 % 256 ≡ 11 → get_or e 1 0 ≤ 4294967295 → (g : Option ℕ) → g ≡ part_depth heads is_type (get_or e 2 0) → (r : Bool) → r ≡ one_over (get_or e 0 0 / 256 % 256) g → r ≡ ok_entry heads e
           unfolding ok_entry most_of names_in types_in all values_ok
           a_memory k v g is r a =
               rw (k, n0, le-leb _ _ low, le-leb _ _ v) (trues _ r (a ∙ ap (one_over (get_or e 0 0 / 256 % 256)) is ∙ above_part heads is_type (get_or e 2 0) (get_or e 0 0 / 256 % 256)))
