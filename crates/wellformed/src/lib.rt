@@ -1,22 +1,29 @@
 // Row 1 of the refusals: whether a list of words is well formed.
 #![tactic(auto)]
 
-ghost use Rattle.std.specs.Prelude.{◌≡◌, ◌+◌, ◌-◌, ◌*◌, ◌<◌, ◌≤◌, max, min, length, drop, get_or};
+ghost use Rattle.std.specs.Prelude.{◌≡◌, ◌≢◌, ◌+◌, ◌-◌, ◌*◌, ◌<◌, ◌≤◌, max, min, length, drop, get_or};
 ghost use Rattle.source.specs.Source.{unpacked, stored};
+ghost use Rattle.words.specs.Kinds.{Name, Tuple, Struct};
 ghost use Rattle.words.specs.Words.{size_of, field_size};
 ghost use Rattle.bitset.specs.Bitset.{word_bits, bit_at};
-ghost use Rattle.wellformed.specs.Entry.{zero_filled, float_ok, kind_in, is_type, ok_entry};
+ghost use Rattle.wellformed.specs.Entry.{zero_filled, float_ok, kind_in, kind_at, is_name, is_type, deepest_allowed, ok_entry};
 ghost use Rattle.wellformed.specs.Form.{all_zero, heads_at, longest_allowed, well_formed, behind_fresh};
 ghost use Rattle.wellformed.specs.Scan.{head_depth, part_depth, field_depth, parts_depth, fields_depth, one_over, Marks, Passed, Window, Going, Scanned, Verified, largest_entry};
-ghost use Rattle.words.specs.Columns.{struct_size, first_field};
+ghost use Rattle.words.specs.Columns.{struct_size, first_field, kind_on, depth_on, count_on};
 
 use words::{columns, kinds, limits};
 
 // Whether all words are 0.
+#[tactic(auto, using(crate::proofs::Zero::not_zero, crate::proofs::Zero::a_zero, crate::proofs::Zero::no_more))]
 pub fn zeros(a: &[u64]) -> bool
     ensures { result ≡ all_zero a.now }
 {
-    a.iter().all(|w| *w == 0)
+    for w in a {
+        if *w != 0 {
+            return false;
+        }
+    }
+    true
 }
 
 // Whether what follows a name's bytes in the last word is 0.
@@ -48,6 +55,8 @@ pub fn larger(a: u64, b: u64) -> u64
 {
     a.max(b)
 }
+
+// An entry is checked against the words of its store, in two sources, and the bits that mark where the earlier entries start. They are three arguments, and not one struct: with a struct, lent or copied, row 1 took up to a sixth longer, since the compiler knew no more how long a list may be where a handle is looked up.
 
 // The head of the earlier entry at h, which stands in `words`, or a head of no kind. A plain store's words are all there.
 #[tactic(auto, using(crate::proofs::Parts::bit_room, crate::proofs::Parts::unmarked, crate::proofs::Parts::near_head))]
@@ -110,7 +119,7 @@ fn near_type(words: &[u64], tail: &[u8], bits: &[u64], h: u64) -> Option<u64>
 }
 
 // The depth of the deepest of the types whose handles are `parts`, and of one that is `deepest` deep.
-#[tactic(auto, using(crate::proofs::Parts::no_part, crate::proofs::Parts::bad_part, crate::proofs::Parts::good_part))]
+#[tactic(auto, using(crate::proofs::Parts::no_part, crate::proofs::Parts::bad_part))]
 fn far_elements(
     words: &[u64],
     tail: &[u8],
@@ -129,7 +138,7 @@ fn far_elements(
 }
 
 // The depth of the deepest of the types whose handles are `parts`. At the first that is not in `words` the loop is left for another, so that for a plain store it has nothing to do with bytes: with both in one loop row 1 took up to a quarter longer.
-#[tactic(auto, using(crate::proofs::Parts::no_part, crate::proofs::Parts::bad_part, crate::proofs::Parts::good_part))]
+#[tactic(auto, using(crate::proofs::Parts::no_part, crate::proofs::Parts::bad_part))]
 fn elements(words: &[u64], tail: &[u8], bits: &[u64], parts: &[u64]) -> Option<u64>
     requires { Marks (stored words.now tail.now) bits.now }
     ensures { result ≡ parts_depth (heads_at (bit_at bits.now) (stored words.now tail.now)) 0 parts.now }
@@ -156,7 +165,7 @@ fn field(name: u64, flags: u64, type_head: u64) -> Option<u64>
 }
 
 // The depth of the deepest type of a struct's n fields from index `from` on, and of one that is `deepest` deep.
-#[tactic(auto, using(crate::proofs::Parts::no_field, crate::proofs::Parts::bad_field, crate::proofs::Parts::good_field))]
+#[tactic(auto, using(crate::proofs::Parts::no_field, crate::proofs::Parts::bad_field))]
 fn far_fields(
     words: &[u64],
     tail: &[u8],
@@ -182,7 +191,7 @@ fn far_fields(
 }
 
 // The depth of the deepest type of a struct's n fields. The loop is left at the first handle that is not in `words`, as above.
-#[tactic(auto, using(crate::proofs::Parts::no_field, crate::proofs::Parts::bad_field, crate::proofs::Parts::good_field))]
+#[tactic(auto, using(crate::proofs::Parts::no_field, crate::proofs::Parts::bad_field))]
 fn fields(words: &[u64], tail: &[u8], bits: &[u64], e: &[u64], n: usize) -> Option<u64>
     requires marks { Marks (stored words.now tail.now) bits.now }
     requires e_len { length e.now ≡ struct_size n }
@@ -214,6 +223,57 @@ fn over(depth: u64, d: Option<u64>) -> bool
     depth > 0 && depth - 1 == x
 }
 
+// Whether the earlier entry at h is a name.
+fn is_name(words: &[u64], tail: &[u8], bits: &[u64], h: u64) -> bool
+    requires { Marks (stored words.now tail.now) bits.now }
+    ensures { result ≡ kind_at (heads_at (bit_at bits.now) (stored words.now tail.now)) is_name h }
+{
+    head_at(words, tail, bits, h) % kinds::DEPTH == kinds::NAME
+}
+
+// Whether an entry whose n is 0, of a kind that does not count, is one that a maker could have made, as below.
+#[tactic(auto, using(crate::proofs::ByKind::other_kind))]
+fn uncounted(words: &[u64], tail: &[u8], bits: &[u64], e: &[u64]) -> bool
+    requires marks { Marks (stored words.now tail.now) bits.now }
+    requires e_len { length e.now ≡ size_of (get_or e.now 0 0) }
+    requires none { count_on e.now 0 ≡ 0 }
+    requires shallow { depth_on e.now 0 ≤ deepest_allowed }
+    requires no_name { kind_on e.now 0 ≢ Name }
+    requires no_tuple { kind_on e.now 0 ≢ Tuple }
+    requires no_struct { kind_on e.now 0 ≢ Struct }
+    ensures { result ≡ ok_entry (heads_at (bit_at bits.now) (stored words.now tail.now)) e.now }
+{
+    let head = e[0];
+    let depth = head / kinds::DEPTH % kinds::DEPTH;
+    match head % kinds::DEPTH {
+        kinds::BOT..=kinds::INT => depth == 1,
+        kinds::FLOAT => float_ok(e[columns::SIZE], e[columns::BITS]) && depth == 1,
+        kinds::FREF => is_name(words, tail, bits, e[columns::NAME]) && depth == 1,
+        kinds::MEM_PTR => {
+            e[columns::NIL] <= limits::LARGEST_FLAG
+                && over(
+                    depth,
+                    part(
+                        words,
+                        tail,
+                        bits,
+                        e[columns::TARGET],
+                        kinds::STRUCT,
+                        kinds::FREF,
+                    ),
+                )
+        }
+        kinds::MEM => {
+            e[columns::ALIAS] <= limits::LARGEST_ALIAS
+                && over(
+                    depth,
+                    part(words, tail, bits, e[columns::INNER], kinds::BOT, kinds::MEM),
+                )
+        }
+        _ => false,
+    }
+}
+
 // Whether an entry is one that a maker could have made, with its parts among the marked handles.
 pub fn entry(words: &[u64], tail: &[u8], bits: &[u64], e: &[u64]) -> bool
     requires marks { Marks (stored words.now tail.now) bits.now }
@@ -221,74 +281,20 @@ pub fn entry(words: &[u64], tail: &[u8], bits: &[u64], e: &[u64]) -> bool
     ensures { result ≡ ok_entry (heads_at (bit_at bits.now) (stored words.now tail.now)) e.now }
 {
     let head = e[0];
-    let kind = head % kinds::DEPTH;
     let depth = head / kinds::DEPTH % kinds::DEPTH;
     let n = (head / kinds::COUNT) as usize;
-    if n > limits::MOST_COUNTED {
+    if n > limits::MOST_COUNTED || depth > limits::DEEPEST {
         return false;
     }
-    if depth > limits::DEEPEST {
-        return false;
-    }
-    if kind == kinds::NAME {
-        if depth != 0 {
-            return false;
+    match head % kinds::DEPTH {
+        kinds::NAME => depth == 0 && padding(e),
+        kinds::TUPLE => over(depth, elements(words, tail, bits, &e[columns::ELEMENTS..])),
+        kinds::STRUCT => {
+            is_name(words, tail, bits, e[columns::NAME])
+                && over(depth, fields(words, tail, bits, e, n))
         }
-        return padding(e);
+        _ => n == 0 && uncounted(words, tail, bits, e),
     }
-    if kind == kinds::TUPLE {
-        return over(depth, elements(words, tail, bits, &e[columns::ELEMENTS..]));
-    }
-    if kind == kinds::STRUCT {
-        if head_at(words, tail, bits, e[columns::NAME]) % kinds::DEPTH != kinds::NAME {
-            return false;
-        }
-        return over(depth, fields(words, tail, bits, e, n));
-    }
-    if n != 0 {
-        return false;
-    }
-    if kind <= kinds::INT {
-        return depth == 1;
-    }
-    if kind == kinds::FLOAT {
-        if float_ok(e[columns::SIZE], e[columns::BITS]) {
-            return depth == 1;
-        }
-        return false;
-    }
-    if kind == kinds::FREF {
-        if head_at(words, tail, bits, e[columns::NAME]) % kinds::DEPTH != kinds::NAME {
-            return false;
-        }
-        return depth == 1;
-    }
-    if kind == kinds::MEM_PTR {
-        if e[columns::NIL] > limits::LARGEST_FLAG {
-            return false;
-        }
-        return over(
-            depth,
-            part(
-                words,
-                tail,
-                bits,
-                e[columns::TARGET],
-                kinds::STRUCT,
-                kinds::FREF,
-            ),
-        );
-    }
-    if kind == kinds::MEM {
-        if e[columns::ALIAS] > limits::LARGEST_ALIAS {
-            return false;
-        }
-        return over(
-            depth,
-            part(words, tail, bits, e[columns::INNER], kinds::BOT, kinds::MEM),
-        );
-    }
-    false
 }
 
 // Checks the entries in a window of the used words, the first at index `from` of it, and marks them. It stops at the window's end, or before an entry that runs past it, and says at which index of the window; None if an entry is not right.
@@ -307,6 +313,7 @@ fn run(
     requires from_in_bounds { (from ≤ length window.now) × (Passed (stored words.now tail.now) used bits.old (base + from)) }
     ensures { Going (stored words.now tail.now) used bits.new base (length window.now) result }
 {
+    // By its index: the step is the size of the entry there, so that no iterator fits.
     let mut i = from;
     while i < window.len() {
         let n = words::size(window[i]);
@@ -328,8 +335,7 @@ fn entries(words: &[u64], used: usize, bits: &mut [u64]) -> bool
     ensures { Scanned words.now used bits.new result }
 {
     bitset::clear(bits);
-    let none = [0u8; 0];
-    run(words, &none, used, bits, &words[..used], 0, 1) == Some(used)
+    run(words, &[], used, bits, &words[..used], 0, 1) == Some(used)
 }
 
 // The same for words in two sources, in windows that are copied to `room`, which has room for the largest entry.
@@ -339,6 +345,7 @@ fn entries_in(words: &[u64], tail: &[u8], used: usize, bits: &mut [u64], room: &
     ensures { Scanned (stored words.now tail.now) used bits.new result }
 {
     bitset::clear(bits);
+    // By its position: the step is how far the entries of the window went.
     let mut at = 1;
     while at < used {
         let m = room.len().min(used - at);
