@@ -15,7 +15,7 @@ use Rattle.words.specs.Words.{kind_of, depth_of}
 use Rattle.wellformed.specs.Entry.{kind, depth, count, takes, depth_for, kind_at, is_name, is_type, is_struct, is_alias_final, all, deepest, most_of, names_in, types_in, float_ok, zero_filled, values_ok, ok_entry}
 use Rattle.words.specs.Columns.{every}
 use Rattle.wellformed.specs.Scan.{head_depth, part_depth, parts_depth, fields_depth, one_over}
-use Rattle.wellformed.proofs.Bools.{and-false, and-true}
+use Rattle.std.proofs.Math.Bool.{and-false, and-true}
 
 -- a tuple's elements are all the words behind its head
 pub every_one : (n p : ℕ) (e : List ℕ) → length e ≡ p + n → every 1 n p e ≡ drop p e

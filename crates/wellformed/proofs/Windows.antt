@@ -154,9 +154,6 @@ module _ (ws : List ℕ) (used at m : ℕ) (high : used ≤ length ws) (more : a
   copy : take m d ≡ take m (drop at ws)
   copy = rw is (take-append-le m (take m (drop at ws)) (drop m d₀) (omega (arith, cut)) ∙ take-take m m (drop at ws) (omega arith))
 
-  pub copy_window : Window ws used at (take m d)
-  copy_window = record { part = rw (copy, cut); inside = rw copy (omega (arith, cut)) }
-
   pub copy_length : length (take m d) ≡ m
   copy_length = ap (λ (l : List ℕ). length l) copy ∙ cut
 
@@ -184,6 +181,3 @@ module _ (ws : List ℕ) (used at m : ℕ) (high : used ≤ length ws) (more : a
       let k : i < length (take m d) = omega (arith, copy_length) in
       let o : length (take m d) < i + size_of (get_or ws at 0) = rw a at (q.2 k) in
       bad ws used bits' (too_long room bits' p enough least (omega (arith, copy_length)))
-
-pub from_zero : (ws bits : List ℕ) (used at : ℕ) → Passed ws used bits at → Passed ws used bits (at + 0)
-from_zero ws bits used at p = let e : at + 0 ≡ at = omega arith in rw e p
