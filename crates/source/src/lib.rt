@@ -23,7 +23,7 @@ fn four(text: &[u8], at: usize) -> u64
     low + 65536 * high
 }
 
-// The same for eight bytes. They are written out and not counted, so that a processor reads them as one word: with std's from_le_bytes on a copied array it does not, and row 1 on bytes took a fifth to a half longer.
+// The same for eight bytes. They are written out and not counted, so that a processor reads them as one word: with std's from_le_bytes on a copied array it does not, and row 1 on bytes took up to a half longer.
 #[tactic(auto, using(crate::proofs::Number::eight_bytes))]
 pub fn eight(text: &[u8], at: usize) -> u64
     requires { at + 8 ≤ length text.now }

@@ -231,7 +231,7 @@ fn is_name(words: &[u64], tail: &[u8], bits: &[u64], h: u64) -> bool
     head_at(words, tail, bits, h) % kinds::DEPTH == kinds::NAME
 }
 
-// Whether an entry whose n is 0, of a kind that does not count, is one that a maker could have made, as below.
+// The same as `entry`, of an entry whose n is 0 and whose kind does not count.
 #[tactic(auto, using(crate::proofs::ByKind::other_kind))]
 fn uncounted(words: &[u64], tail: &[u8], bits: &[u64], e: &[u64]) -> bool
     requires marks { Marks (stored words.now tail.now) bits.now }
@@ -250,24 +250,19 @@ fn uncounted(words: &[u64], tail: &[u8], bits: &[u64], e: &[u64]) -> bool
         kinds::FLOAT => float_ok(e[columns::SIZE], e[columns::BITS]) && depth == 1,
         kinds::FREF => is_name(words, tail, bits, e[columns::NAME]) && depth == 1,
         kinds::MEM_PTR => {
+            let target = e[columns::TARGET];
             e[columns::NIL] <= limits::LARGEST_FLAG
                 && over(
                     depth,
-                    part(
-                        words,
-                        tail,
-                        bits,
-                        e[columns::TARGET],
-                        kinds::STRUCT,
-                        kinds::FREF,
-                    ),
+                    part(words, tail, bits, target, kinds::STRUCT, kinds::FREF),
                 )
         }
         kinds::MEM => {
+            let inner = e[columns::INNER];
             e[columns::ALIAS] <= limits::LARGEST_ALIAS
                 && over(
                     depth,
-                    part(words, tail, bits, e[columns::INNER], kinds::BOT, kinds::MEM),
+                    part(words, tail, bits, inner, kinds::BOT, kinds::MEM),
                 )
         }
         _ => false,
@@ -339,6 +334,7 @@ fn entries(words: &[u64], used: usize, bits: &mut [u64]) -> bool
 }
 
 // The same for words in two sources, in windows that are copied to `room`, which has room for the largest entry.
+#[tactic(auto, using(crate::proofs::Passed::all_good))]
 fn entries_in(words: &[u64], tail: &[u8], used: usize, bits: &mut [u64], room: &mut [u64]) -> bool
     requires le_used { (1 ≤ used) × (used ≤ length (stored words.now tail.now)) × (length (stored words.now tail.now) ≤ word_bits * length bits.old) }
     requires largest_entry_in_bounds { largest_entry ≤ length room.old }

@@ -1,7 +1,7 @@
 -- A window that is copied: what a run in it says.
 use Rattle.std.proofs.Common.{arith, length}
 use Rattle.source.proofs.Both.{length_stored}
-use Rattle.wellformed.proofs.Passed.{begin, bad, all_good}
+use Rattle.wellformed.proofs.Passed.{begin, bad}
 use Rattle.wellformed.proofs.Windows.{run_bad, run_at, copied_long}
 use Rattle.wellformed.proofs.entries_in.Goals as goal
 
@@ -22,6 +22,3 @@ overflow_add-at c =
 
 pub loop-at-preserved : goal.loop-at-preserved
 loop-at-preserved c = (run_at _ _ _ _ _ _ c.run.ensures _ c.in-Some.is).0
-
-pub returns : goal.returns
-returns c = search all_good

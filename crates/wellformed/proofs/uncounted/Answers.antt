@@ -16,14 +16,14 @@ bounds-e-1-in-9 c = search fref_name
 pub bounds-e-2-in-10 : goal.bounds-e-2-in-10
 bounds-e-2-in-10 c = search pointer_2
 
-pub bounds-e-1-then-e-le-LARGEST_FLAG : goal.bounds-e-1-then-e-le-LARGEST_FLAG
-bounds-e-1-then-e-le-LARGEST_FLAG c = search pointer_1
+pub bounds-e-1-in-10 : goal.bounds-e-1-in-10
+bounds-e-1-in-10 c = search pointer_1
 
 pub bounds-e-1-in-11 : goal.bounds-e-1-in-11
 bounds-e-1-in-11 c = search memory_1
 
-pub bounds-e-2-then-e-le-LARGEST_ALIAS : goal.bounds-e-2-then-e-le-LARGEST_ALIAS
-bounds-e-2-then-e-le-LARGEST_ALIAS c = search memory_2
+pub bounds-e-2-in-11 : goal.bounds-e-2-in-11
+bounds-e-2-in-11 c = search memory_2
 
 pub returns-then-float_ok : goal.returns-then-float_ok
 returns-then-float_ok c = search (rules, a_float)
