@@ -7,6 +7,7 @@ ghost use Rattle.bitset.specs.Bitset.{word_bits, bit_at, also, nowhere};
 // A word has 64 bits.
 pub const WORD_BITS: usize = 64;
 
+#[tactic(auto, unfolding(crate::specs::Bitset::bit_at))]
 pub fn marked(bits: &[u64], h: usize) -> bool
     requires { h / word_bits < length bits.now }
     ensures { result ≡ bit_at bits.now h }
@@ -17,6 +18,7 @@ pub fn marked(bits: &[u64], h: usize) -> bool
 }
 
 // Whether a number of any size is in the set.
+#[tactic(auto, using(crate::proofs::Bit::past_bits))]
 pub fn contains(bits: &[u64], h: u64) -> bool
     ensures { result ≡ bit_at bits.now h }
 {
@@ -27,21 +29,19 @@ pub fn contains(bits: &[u64], h: u64) -> bool
     marked(bits, at)
 }
 
+#[tactic(auto, using(crate::proofs::Bit::marks))]
 pub fn mark(bits: &mut [u64], h: usize)
     requires { h / word_bits < length bits.old }
     ensures { bit_at bits.new ≡ also h (bit_at bits.old) }
 {
     let i = h / WORD_BITS;
     let k = h % WORD_BITS;
-    bits[i] = bits[i] | (1 << k);
+    bits[i] |= 1 << k;
 }
 
+#[tactic(auto, using(crate::proofs::Bit::filled))]
 pub fn clear(bits: &mut [u64])
     ensures { bit_at bits.new ≡ nowhere }
 {
-    let mut k = 0;
-    while k < bits.len() {
-        bits[k] = 0;
-        k += 1;
-    }
+    bits.fill(0);
 }

@@ -11,7 +11,8 @@ use Rattle.words.specs.Table.{Row, is_at, RowIn}
 use Rattle.bitset.specs.Bitset.{nowhere, also}
 use Rattle.wellformed.specs.Entry.{no_head, ok_entry}
 use Rattle.wellformed.specs.Form.{heads_at, ok_rows}
-use Rattle.wellformed.proofs.Bools.{or_turn, or_false, and_assoc}
+use Rattle.std.proofs.Math.Bool.{or-false, and_assoc}
+use Rattle.wellformed.proofs.Bools.{or_turn}
 
 module _ (ws vs : List ℕ) where
   -- the two agree at h
@@ -57,4 +58,4 @@ rows_behind ws (r ∷ rs) ss start =
 
 pub starts_only : (rs : List Row) → and_starts rs nowhere ≡ is_at rs
 unfolding nowhere
-starts_only rs = fun_ext (λ h. or_false (is_at rs h))
+starts_only rs = fun_ext (λ h. or-false (is_at rs h))

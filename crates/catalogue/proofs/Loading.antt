@@ -150,3 +150,9 @@ module _ (f ws : List ℕ) (s k : ℕ) (t : Bool) (r : Read f ws s k t) where
           loaded h ws' e =
               let z : load_rows f ws ≡ 0 = rw (le-leb 94 _ r.long, le-leb _ 1048576 r.short, trail, ← lent_words, sym ig ∙ not-false g w, ← r.start, le-ltb 255 s brief, words_size, le-ltb _ _ h) in
               rw (z, e, lent_words, r.start)
+
+pub read : (f ws : List ℕ) (s k : ℕ) (t : Bool) → 94 ≤ length ws → length ws ≤ 1048576 → 16 ≤ length f → s ≡ start_in f → k ≡ count_in f → t ≡ eqb (s + 8 * k) (length f - 16) → Read f ws s k t
+read f ws s k t a b c d e g = record { long = a; short = b; some = c; start = d; count = e; fits = g }
+
+-- what `load` uses
+pub ruleset loading = (list_short, list_long, no_trailer, read, wrong_trailer, inside, shorter, tail_bytes, words_size, no_store, long_label, no_room)

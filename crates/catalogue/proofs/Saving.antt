@@ -55,3 +55,6 @@ module _ (ws label out : List ℕ) where
         saved h r out' w =
             let z : rows ≡ 0 = rw (sym it ∙ not-false t y, le-ltb 255 (length label) brief, size, le-ltb _ _ h) in
             (rw (z, w.0), w.1 ∙ rw (z, w.0))
+
+-- what `save` uses
+pub ruleset saving = (not_well, well, long_label, no_room)

@@ -15,6 +15,7 @@ use words::limits;
 // ---- the writer
 
 // Saves a store under a label, in an output of bytes.
+#[tactic(auto, using(crate::proofs::Saving::saving))]
 pub fn save(words: &[u64], label: &[u8], file: &mut [u8]) -> Answer
     ensures words_value { left (told result) words.now ≡ save_call label.now (length file.old) words.now }
     ensures file_after { file.new ≡ save_output label.now words.now file.old }
@@ -36,6 +37,7 @@ pub fn save(words: &[u64], label: &[u8], file: &mut [u8]) -> Answer
 // ---- the loader
 
 // Whether a position and a number of words fit a file with so many bytes before its trailer. The sum could run over 64 bits: it is not formed.
+#[tactic(auto, using(crate::proofs::Loading::too_many, crate::proofs::Loading::the_rest))]
 fn trailer_fits(start: u64, count: u64, body: u64) -> bool
     ensures { result ≡ eqb (start + 8 * count) body }
 {
@@ -46,6 +48,7 @@ fn trailer_fits(start: u64, count: u64, body: u64) -> bool
 }
 
 // Whether the words in `tail` form a store behind the fresh ones, with no two equal entries.
+#[tactic(auto, using(wellformed::proofs::Tail::tail_length, crate::proofs::Formed::few))]
 fn stores(tail: &[u8], bits: &mut [u64]) -> bool
     requires { (min (length (behind_fresh (unpacked tail.now))) longest_allowed ≤ word_bits * length bits.old) × (length bits.old ≤ most_bits) }
     ensures { result ≡ forms_store (unpacked tail.now) }
@@ -59,40 +62,39 @@ fn stores(tail: &[u8], bits: &mut [u64]) -> bool
     distinct::distinct(&first, tail, used, bits)
 }
 
-// How many words of bits the two tests are lent, for files of up to so many bytes of words: for a store of up to 4,096 words sixteen bits a word, so that the second test is quick.
+// How many words of bits the two tests are lent: for a store of up to 4,096 words sixteen bits a word, so that the second test is quick.
 const SMALL_BITS: usize = 1024;
 
 const SMALL_TAIL: usize = 8 * 4002;
 
 const LARGE_BITS: usize = 16384;
 
-const LARGE_TAIL: usize = 8 * limits::LONGEST;
-
+// The same with so many words of bits, which stand in this frame. It is put into no other function, so that a small file needs little stack.
+#[tactic(auto, using(wellformed::proofs::Tail::tail_length))]
 #[inline(never)]
-fn stores_large(tail: &[u8]) -> bool
+fn stores_with<const BITS: usize>(tail: &[u8]) -> bool
+    requires enough { min (length (behind_fresh (unpacked tail.now))) longest_allowed ≤ word_bits * BITS }
+    requires few { BITS ≤ most_bits }
     ensures { result ≡ forms_store (unpacked tail.now) }
 {
-    let mut bits = [0u64; LARGE_BITS];
+    let mut bits = [0u64; BITS];
     stores(tail, &mut bits)
 }
 
-// The same with bits for n bytes: the length of `tail`, or where that is more than twice as long as that of any store, half of it, and so on. The large array stands in the frame of a function of its own, which is put into no other, so that a small file needs little
-// stack.
-fn stores_for(n: usize, tail: &[u8]) -> bool
-    requires { min (length tail.now) (8 * longest_allowed) ≤ n }
+// The same.
+#[tactic(auto, using(wellformed::proofs::Tail::tail_length))]
+fn stores_for(tail: &[u8]) -> bool
     ensures { result ≡ forms_store (unpacked tail.now) }
 {
-    if n <= SMALL_TAIL {
-        let mut bits = [0u64; SMALL_BITS];
-        return stores(tail, &mut bits);
+    if tail.len() <= SMALL_TAIL {
+        stores_with::<SMALL_BITS>(tail)
+    } else {
+        stores_with::<LARGE_BITS>(tail)
     }
-    if n / 2 <= LARGE_TAIL {
-        return stores_large(tail);
-    }
-    stores_for(n / 2, tail)
 }
 
 // Fills a list with the store whose words behind the fresh ones are in `tail`, and zeroes its rest.
+#[tactic(auto, using(wellformed::proofs::Tail::tail_length))]
 fn fill(words: &mut [u64], tail: &[u8])
     requires { (length (behind_fresh (unpacked tail.now)) ≤ length words.old) × (length words.old ≤ longest_allowed) }
     ensures { words.new ≡ loaded_store (unpacked tail.now) (length words.old) }
@@ -105,6 +107,7 @@ fn fill(words: &mut [u64], tail: &[u8])
 }
 
 // Loads a file into a lent list. All is checked before the first word is written.
+#[tactic(auto, using(crate::proofs::Loading::loading))]
 pub fn load(words: &mut [u64], file: &[u8]) -> Answer
     ensures { left (told result) words.new ≡ load_call file.now words.old }
 {
@@ -125,7 +128,7 @@ pub fn load(words: &mut [u64], file: &[u8]) -> Answer
         return Answer::Refused(14);
     }
     let from = start as usize;
-    if !stores_for(end - from, &file[from..end]) {
+    if !stores_for(&file[from..end]) {
         return Answer::Refused(15);
     }
     if start > catalogue_file::LONGEST_LABEL as u64 {

@@ -23,17 +23,12 @@ pub fn file_length(n: usize, used: usize) -> usize
 }
 
 // Writes the eight bytes of a word, lowest first, at a position.
+#[tactic(auto, using(crate::proofs::Written::word_put))]
 fn put_word(out: &mut [u8], at: usize, w: u64)
     requires { at + 8 ≤ length out.old }
     ensures { out.new ≡ take at out.old ++ (bytes_of 8 w ++ drop (at + 8) out.old) }
 {
-    let mut x = w;
-    let mut j = 0;
-    while j < 8 {
-        out[at + j] = (x % 256) as u8;
-        x = x / 256;
-        j += 1;
-    }
+    out[at..at + 8].copy_from_slice(&w.to_le_bytes());
 }
 
 // Writes the label's bytes at the front.
@@ -41,11 +36,7 @@ fn put_label(out: &mut [u8], label: &[u8])
     requires { length label.now ≤ length out.old }
     ensures { out.new ≡ label.now ++ drop (length label.now) out.old }
 {
-    let mut i = 0;
-    while i < label.len() {
-        out[i] = label[i];
-        i += 1;
-    }
+    out[..label.len()].copy_from_slice(label);
 }
 
 // Writes the file of a store's used words, and tells its length.
@@ -56,10 +47,8 @@ pub fn write_file(words: &[u64], used: usize, label: &[u8], out: &mut [u8]) -> u
 {
     put_label(out, label);
     let n = label.len();
-    let mut i = limits::FRESH_LENGTH;
-    while i < used {
-        put_word(out, n + 8 * (i - limits::FRESH_LENGTH), words[i]);
-        i += 1;
+    for (k, w) in words[limits::FRESH_LENGTH..used].iter().enumerate() {
+        put_word(out, n + 8 * k, *w);
     }
     let end = n + 8 * (used - limits::FRESH_LENGTH);
     put_word(out, end, n as u64);

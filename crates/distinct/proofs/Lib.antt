@@ -3,3 +3,4 @@ pub mod Steps
 pub mod Hashes
 pub mod Places
 pub mod Apart
+pub mod Stores

@@ -1,11 +1,11 @@
 -- For the functions alone: a hash of an entry, what is noted of it in a set of bits, and what a pass over the entries gives.
-use Rattle.std.specs.Prelude.{◌≡◌, ℕ, ◌+◌, ◌*◌, ◌/◌, ◌%◌, ◌^◌, ◌<◌, ◌≤◌, Bool, true, false, ◌&&◌, List, [], ◌∷◌, length, take, ◌≢◌}
+use Rattle.std.specs.Prelude.{◌≡◌, ℕ, ◌+◌, ◌*◌, ◌/◌, ◌%◌, ◌^◌, ◌<◌, ◌≤◌, Bool, true, false, ◌&&◌, List, [], ◌∷◌, length, take, ◌≢◌, Result, Ok, Err}
 use Rattle.words.specs.Words.{eqs}
 use Rattle.words.specs.Table.{Row, RowIn, entries}
 use Rattle.bitset.specs.Bitset.{word_bits, bit_at, also}
 use Rattle.distinct.specs.Distinct.{own}
-use Rattle.distinct.specs.declared.Sweep.{Sweep}
-use Rattle.distinct.specs.declared.Sweep.TheVariants.{Fine, Equal}
+use Rattle.distinct.specs.declared.Stop.{Stop}
+use Rattle.distinct.specs.declared.Stop.TheVariants.{Equal}
 
 -- ---- a hash of an entry's words, in 64 bits. Nothing but speed depends on it
 
@@ -81,16 +81,21 @@ abbrev pub Noted : List ℕ → ℕ → ℕ → ℕ → ℕ → List ℕ → Typ
 Noted ws used low high at bits = (q : Row) → RowIn q (entries (take used ws)) → q.at < at → low ≤ share q.words → share q.words < high → set_in (bit_at bits) (word_bits * length bits) (hash_of q.words) ≡ true
 
 -- what a step of a pass gives for the entry e at `at`
-pub record Stepped (ws : List ℕ) (used low high at : ℕ) (e bits bits' : List ℕ) (r : Sweep) : Type 0 where
-  pub equal : r ≡ Equal → Copy ws used at at e
-  pub like_none : (k : ℕ) → r ≡ Fine k → low ≤ share e → share e < high → First ws used at e
-  pub note : (k : ℕ) → r ≡ Fine k → low ≤ share e → share e < high → set_in (bit_at bits') (word_bits * length bits) (hash_of e) ≡ true
+pub record Stepped (ws : List ℕ) (used low high at : ℕ) (e bits bits' : List ℕ) (r : Result ℕ Stop) : Type 0 where
+  pub equal : r ≡ Err Equal → Copy ws used at at e
+  pub like_none : (k : ℕ) → r ≡ Ok k → low ≤ share e → share e < high → First ws used at e
+  pub note : (k : ℕ) → r ≡ Ok k → low ≤ share e → share e < high → set_in (bit_at bits') (word_bits * length bits) (hash_of e) ≡ true
   pub kept_notes : (g : ℕ) → set_in (bit_at bits) (word_bits * length bits) g ≡ true → set_in (bit_at bits') (word_bits * length bits) g ≡ true
 
 -- each entry of a range of shares is like none before it
 abbrev pub Clean : List ℕ → ℕ → ℕ → ℕ → ℕ → Type 0
 Clean ws used low high at = (r : Row) → RowIn r (entries (take used ws)) → r.at < at → low ≤ share r.words → share r.words < high → First ws used r.at r.words
 
-pub record Swept (ws : List ℕ) (used low high : ℕ) (r : Sweep) : Type 0 where
-  pub clean : (k : ℕ) → r ≡ Fine k → Clean ws used low high used
-  pub not_own : r ≡ Equal → own (entries (take used ws)) ≡ false
+pub record Swept (ws : List ℕ) (used low high : ℕ) (r : Result ℕ Stop) : Type 0 where
+  pub clean : (k : ℕ) → r ≡ Ok k → Clean ws used low high used
+  pub not_own : r ≡ Err Equal → own (entries (take used ws)) ≡ false
+
+-- what all passes tell: no two entries are equal, or two are, or neither
+pub record Passed (rs : List Row) (r : Result (Unit {0}) Stop) : Type 0 where
+  pub no_two : r ≡ Ok tt → own rs ≡ true
+  pub not_own : r ≡ Err Equal → own rs ≡ false

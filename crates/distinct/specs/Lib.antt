@@ -1,3 +1,4 @@
 pub mod Distinct
 pub mod Filter
 pub mod Blocks
+pub mod Entries

@@ -141,12 +141,12 @@ pub few_fields : (list : List ℕ) → length list ≤ 256 → length (front lis
 few_fields list h = omega (arith, front_length list)
 
 pub ended : (list sums places : List ℕ) → 0 < length list → EightAtMost (front list) → Sums (front list) sums → places ≡ offsets_from (front list) [] (front list)
-    → set (places ++ drop (length list - 1) list) (length list - 1) (round_up (get_or sums 3 0 + get_or sums 2 0 + get_or sums 1 0 + get_or sums 0 0)) ≡ offsets (front list)
+    → (r : ℕ) → r ≡ round_up (get_or sums 3 0 + get_or sums 2 0 + get_or sums 1 0 + get_or sums 0 0) → set (places ++ drop (length list - 1) list) (length list - 1) r ≡ offsets (front list)
 unfolding offsets
-ended list sums places some small is e =
+ended list sums places some small is e r up =
     let n = length list - 1 in
     let m : n < length list = omega arith in
     let o : length list ≤ suc n = omega arith in
     let q : length places ≡ n = ap length e ∙ length_offsets (front list) [] (front list) ∙ front_length list in
-    rw (end_is (front list) sums small is, drop-cons list n 0 m, drop_of_length-le list {i = suc n} o)
+    rw (up, end_is (front list) sums small is, drop-cons list n 0 m, drop_of_length-le list {i = suc n} o)
     (set_at places _ [] (round_up (bytes (front list))) n q ∙ ap (λ (p : List ℕ). p ++ (round_up (bytes (front list)) ∷ [])) e)

@@ -6,53 +6,54 @@ ghost use Rattle.layout.specs.Layout.{widest, most_fields, EightAtMost, offsets_
 ghost use Rattle.layout.specs.Passes.{most_bytes, Added, Sums, Starts};
 
 // Adds the bytes of a field of log k to word k.
-fn add(sums: &mut [u64], k: usize)
-    requires { (length sums.old ≡ 4) × (k ≤ widest) × (get_or sums.old k 0 ≤ most_bytes) }
+#[tactic(auto, using(crate::proofs::Pass::eight, crate::proofs::Pass::added))]
+fn add(sums: &mut [u64; 4], k: usize)
+    requires { (k ≤ widest) × (get_or sums.old k 0 ≤ most_bytes) }
     ensures { Added k sums.old sums.new }
 {
-    sums[k] = sums[k] + (1 << k);
+    sums[k] += 1 << k;
 }
 
 // Adds up the bytes of the fields of each log.
-fn add_up(logs: &[u64], sums: &mut [u64])
-    requires { (length logs.now ≤ most_fields) × EightAtMost logs.now × (sums.old ≡ replicate 4 0) }
-    ensures { Sums logs.now sums.new }
+#[tactic(auto, using(crate::proofs::Pass::all_summed))]
+fn add_up(logs: &[u64]) -> [u64; 4]
+    requires { (length logs.now ≤ most_fields) × EightAtMost logs.now }
+    ensures sums { Sums logs.now result }
+    ensures few { get_or result 3 0 + get_or result 2 0 + get_or result 1 0 + get_or result 0 0 ≤ most_bytes }
 {
-    let mut i = 0;
-    while i < logs.len() {
-        add(sums, logs[i] as usize);
-        i += 1;
+    let mut sums = [0; 4];
+    for log in logs {
+        add(&mut sums, *log as usize);
     }
+    sums
 }
 
 // Replaces the log of each field by its offset. `next` has the offset of the next field of each log.
-fn place(list: &mut [u64], next: &mut [u64])
-    requires { (length list.old ≤ most_fields) × EightAtMost list.old × (length next.old ≡ 4) × Starts list.old next.old }
+fn place(list: &mut [u64], mut next: [u64; 4])
+    requires { (length list.old ≤ most_fields) × EightAtMost list.old × Starts list.old next }
     ensures { list.new ≡ offsets_from list.old [] list.old }
 {
-    let mut i = 0;
-    while i < list.len() {
-        let log = list[i] as usize;
-        list[i] = next[log];
-        add(next, log);
-        i += 1;
+    for x in list.iter_mut() {
+        let log = *x as usize;
+        *x = next[log];
+        add(&mut next, log);
     }
 }
 
 // All words but the last are the logs of the fields, in field order; they become the fields' offsets, and the last word the end.
+#[tactic(auto, using(crate::proofs::Pass::front_length, crate::proofs::Pass::few_fields))]
 pub fn lay_out(list: &mut [u64])
     requires { (0 < length list.old) × (length list.old ≤ most_fields + 1) × EightAtMost (take (length list.old - 1) list.old) }
     ensures { list.new ≡ offsets (take (length list.old - 1) list.old) }
 {
     let n = list.len() - 1;
-    let mut sums = [0u64; 4];
-    add_up(&list[..n], &mut sums);
+    let sums = add_up(&list[..n]);
     // 8-byte fields start at 0, then those of 4, 2 and 1
     let four = sums[3];
     let two = four + sums[2];
     let one = two + sums[1];
     let end = one + sums[0];
-    let mut next = [one, two, four, 0];
-    place(&mut list[..n], &mut next);
-    list[n] = (end + 7) / 8 * 8;
+    let next = [one, two, four, 0];
+    place(&mut list[..n], next);
+    list[n] = end.next_multiple_of(8);
 }

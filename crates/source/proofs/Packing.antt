@@ -1,11 +1,11 @@
 -- The words that bytes hold. Assumes nothing.
-use mathlib.Core.Path.{◌≡◌, refl, sym, ap, ◌∙◌}
-use mathlib.Core.List.{List, [], ◌∷◌}
+use mathlib.Core.Path.{◌≡◌, refl, ap, ◌∙◌}
+use mathlib.Core.List.{List}
 use Prim.Native.Nat.{ℕ, zero, suc, ◌+◌, ◌*◌, ◌<◌}
 use native.Mathlib.Omega.{arith}
-use native.Mathlib.Nat.{zero-add, suc-add}
 use lib.ListN.{length, take, drop, get_or}
-use lib.Seq.{drop-drop, take-take, take_all}
+use lib.Seq.{drop-drop, take-take}
+use Rattle.std.proofs.lemmas.List.{drop-take}
 use Rattle.source.specs.Packed.{of_bytes, packed}
 
 pub length_packed : (k : ℕ) (bs : List ℕ) → length (packed k bs) ≡ k
@@ -22,11 +22,6 @@ packed_word (suc k) (suc i) bs h =
     let n : 8 + 8 * i ≡ 8 * suc i = omega arith in
     packed_word k i (drop 8 bs) (omega arith) ∙ ap (λ (l : List ℕ). of_bytes (take 8 l)) (drop-drop (8 * i) 8 bs ∙ ap (λ (m : ℕ). drop m bs) n)
 
-drop_take : (m n : ℕ) (l : List ℕ) → drop m (take (m + n) l) ≡ take n (drop m l)
-drop_take zero n l = ap (λ (k : ℕ). take k l) (zero-add n)
-drop_take (suc m) n [] = ap (drop (suc m)) (take_all (suc m + n) [] (omega arith)) ∙ sym (take_all n [] (omega arith))
-drop_take (suc m) n (x ∷ l) = ap (λ (k : ℕ). drop (suc m) (take k (x ∷ l))) (suc-add m n) ∙ drop_take m n l
-
 -- k words are those of the first 8 × k bytes
 pub packed_first : (k : ℕ) (bs : List ℕ) → packed k (take (8 * k) bs) ≡ packed k bs
 unfolding packed
@@ -34,5 +29,5 @@ packed_first zero bs = refl
 packed_first (suc k) bs =
     let n : 8 * suc k ≡ 8 + 8 * k = omega arith in
     let h : take 8 (take (8 * suc k) bs) ≡ take 8 bs = take-take 8 (8 * suc k) bs (omega arith) in
-    let d : drop 8 (take (8 * suc k) bs) ≡ take (8 * k) (drop 8 bs) = ap (λ (m : ℕ). drop 8 (take m bs)) n ∙ drop_take 8 (8 * k) bs in
+    let d : drop 8 (take (8 * suc k) bs) ≡ take (8 * k) (drop 8 bs) = ap (λ (m : ℕ). drop 8 (take m bs)) n ∙ drop-take 8 (8 * k) bs in
     rw (h, d, packed_first k (drop 8 bs))

@@ -9,10 +9,11 @@ ghost use Rattle.source.specs.Source.{stored};
 pub fn wide(b: u8) -> u64
     ensures { (result ≡ b) × (result < 256) }
 {
-    b as u64
+    u64::from(b)
 }
 
 // Four bytes of a text that has them, from a position on, as a number.
+#[tactic(auto, using(crate::proofs::Number::four_bytes))]
 fn four(text: &[u8], at: usize) -> u64
     requires { at + 4 ≤ length text.now }
     ensures { (result ≡ of_bytes (take 4 (drop at text.now))) × (result < 4294967296) }
@@ -22,7 +23,8 @@ fn four(text: &[u8], at: usize) -> u64
     low + 65536 * high
 }
 
-// The same for eight bytes. They are written out and not counted, so that a processor reads them as one word.
+// The same for eight bytes. They are written out and not counted, so that a processor reads them as one word: with std's from_le_bytes on a copied array it does not, and row 1 on bytes took up to a half longer.
+#[tactic(auto, using(crate::proofs::Number::eight_bytes))]
 pub fn eight(text: &[u8], at: usize) -> u64
     requires { at + 8 ≤ length text.now }
     ensures { result ≡ of_bytes (take 8 (drop at text.now)) }
@@ -31,6 +33,7 @@ pub fn eight(text: &[u8], at: usize) -> u64
 }
 
 // The word at a position.
+#[tactic(auto, using(crate::proofs::Both::in_words, crate::proofs::Both::byte_room, crate::proofs::Both::in_bytes))]
 pub fn word_at(words: &[u64], tail: &[u8], p: usize) -> u64
     requires { p < length (stored words.now tail.now) }
     ensures { result ≡ get_or (stored words.now tail.now) p 0 }
@@ -42,14 +45,13 @@ pub fn word_at(words: &[u64], tail: &[u8], p: usize) -> u64
 }
 
 // Copies n words from a position on to the front of `e`.
+#[tactic(auto, using(crate::proofs::Both::length_stored, crate::proofs::Both::gather_more, words::proofs::Copy::front_none))]
 pub fn gather(words: &[u64], tail: &[u8], at: usize, n: usize, e: &mut [u64])
     requires n_in_bounds { at + n ≤ length (stored words.now tail.now) }
     requires n_in_bounds_2 { n ≤ length e.old }
     ensures { e.new ≡ take n (drop at (stored words.now tail.now)) ++ drop n e.old }
 {
-    let mut i = 0;
-    while i < n {
+    for i in 0..n {
         e[i] = word_at(words, tail, at + i);
-        i += 1;
     }
 }

@@ -76,3 +76,6 @@ module _ (ws : List ℕ) (used : ℕ) (bits : List ℕ) (at : ℕ) (high : used 
           behind = sym (next ws used at high more at mark_inside).filled ∙ m.behind;
           marks = fun_ext (λ h. ap (λ (s : ℕ → Bool). s h) is ∙ rw (q, x, one_more (entries u) (record { at = length u; words = e }) h, long) (ap (λ (s : ℕ → Bool). eqb at h || s h) m.marks));
         }
+
+-- what `mark_from` uses
+pub ruleset marking = (mark_all, mark_inside, size_pos)

@@ -16,7 +16,7 @@ use Rattle.call.specs.Steps.{used_of}
 use Rattle.call.proofs.Keep.{well_sound}
 use Rattle.store_index.specs.StoreIndex.{marks_size, chains_of}
 use Rattle.store_index.specs.Steps.{Stale, Unmarked}
-use Rattle.store_index.proofs.Index.{tail_all, two_chains}
+use Rattle.store_index.proofs.Index.{tail_all, two_chains, marks_long, none_new, two_index, three_index}
 
 -- ---- what is known of a well-formed store
 
@@ -77,3 +77,8 @@ module _ (ws : List ℕ) (ok : well_formed ws ≡ true) where
   new_ready index from x k is =
       let t : length (take k index) ≡ k = length-take-le k index (omega (arith, is, x.room)) in
       ((x.high, (tests ws ok).within, omega (arith, t, is, (tests ws ok).within)), (x.cut, x.low, used_fills, rw is x.marks))
+
+-- what `extend` and `mark_new` use
+pub ruleset extending = (first_word, few_words, marks_long, none_new, three_index)
+
+pub ruleset marking = (first_word, few_words, marks_long, new_ready, two_index)

@@ -18,11 +18,13 @@ pub fn marks_size(n: usize) -> usize
 }
 
 // Marks the entries from `from` on.
+#[tactic(auto, using(crate::proofs::Marks::marking))]
 fn mark_from(words: &[u64], from: usize, used: usize, bits: &mut [u64])
     requires from_le_used { (from ≤ used) × (used ≤ length words.now) × (used < word_bits * length bits.old) }
     requires words_value { (fills 0 (drop 1 (take from words.now)) ≡ true) × (1 ≤ from) × (fills 0 (drop 1 (take used words.now)) ≡ true) × (bit_at bits.old ≡ starts (take from words.now)) }
     ensures { bit_at bits.new ≡ starts (take used words.now) }
 {
+    // From entry to entry, by the size of each: no iterator fits.
     let mut at = from;
     while at < used {
         bitset::mark(bits, at);
@@ -31,6 +33,7 @@ fn mark_from(words: &[u64], from: usize, used: usize, bits: &mut [u64])
 }
 
 // Takes the entries that are not in the index yet into it, if there are any.
+#[tactic(auto, using(crate::proofs::Store::extending))]
 pub fn extend(words: &[u64], index: &mut [u64])
     requires words_value { well_formed words.now ≡ true }
     requires stale { Stale words.now index.old }
@@ -47,6 +50,7 @@ pub fn extend(words: &[u64], index: &mut [u64])
 }
 
 // Marks the entries from `from` on, which are in the chains already.
+#[tactic(auto, using(crate::proofs::Store::marking))]
 pub fn mark_new(words: &[u64], from: usize, index: &mut [u64])
     requires words_value { well_formed words.now ≡ true }
     requires unmarked { Unmarked words.now from index.old }

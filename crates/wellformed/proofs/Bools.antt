@@ -15,22 +15,6 @@ and_right false b h = let z : ◌≡◌ {A = ℕ} 0 1 = cc in absurd (omega arit
 pub and_both : (a b : Bool) → a ≡ true → b ≡ true → (a && b) ≡ true
 and_both a b p q = rw (p, q)
 
-pub and-false : (a : Bool) → (a && false) ≡ false
-and-false true = refl
-and-false false = refl
-
-pub and-true : (a : Bool) → (a && true) ≡ a
-and-true true = refl
-and-true false = refl
-
-pub and_assoc : (a b c : Bool) → ((a && b) && c) ≡ (a && (b && c))
-and_assoc true b c = refl
-and_assoc false b c = refl
-
-pub or_false : (b : Bool) → (b || false) ≡ b
-or_false true = refl
-or_false false = refl
-
 pub or_turn : (a b c : Bool) → (b || (a || c)) ≡ ((a || b) || c)
 or_turn true true c = refl
 or_turn true false c = refl

@@ -1,11 +1,13 @@
 -- Each way through `entry` gives what `ok_entry` says. Assumes nothing.
 use mathlib.Core.Path.{◌≡◌, refl, sym, ap, ◌∙◌}
 use mathlib.Core.Bool.{Bool, true, false, cond, ◌&&◌, ◌||◌}
+use mathlib.Core.Logic.{◌⊎◌, ⊎_elim}
+use Rattle.std.proofs.Common.{Option, Some, None}
 use mathlib.Core.List.{List, [], ◌∷◌}
 use Prim.Native.Nat.{ℕ, zero, suc, ◌+◌, ◌-◌, ◌≤◌, ◌<◌, ◌%◌, ◌/◌, max}
 use native.Mathlib.Omega.{arith}
 use native.Mathlib.Numerals.{add-one}
-use borrow.Author.Tests.{eq-eqb, ne_eqb, le-leb, lt-leb}
+use borrow.Author.Tests.{ne_eqb, le-leb, lt-leb}
 use lib.Dec.{eqb, leb}
 use lib.ListN.{length, take, drop, get_or, length-drop, drop_of_length-le}
 use lib.Seq.{take_all, drop-cons}
@@ -13,9 +15,7 @@ use Rattle.words.specs.Words.{kind_of, depth_of}
 use Rattle.wellformed.specs.Entry.{kind, depth, count, takes, depth_for, kind_at, is_name, is_type, is_struct, is_alias_final, all, deepest, most_of, names_in, types_in, float_ok, zero_filled, values_ok, ok_entry}
 use Rattle.words.specs.Columns.{every}
 use Rattle.wellformed.specs.Scan.{head_depth, part_depth, parts_depth, fields_depth, one_over}
-use Rattle.wellformed.specs.declared.Depth.{Depth}
-use Rattle.wellformed.specs.declared.Depth.TheVariants.{Of, Bad}
-use Rattle.wellformed.proofs.Bools.{and-false, and-true}
+use Rattle.std.proofs.Math.Bool.{and-false, and-true}
 
 -- a tuple's elements are all the words behind its head
 pub every_one : (n p : ℕ) (e : List ℕ) → length e ≡ p + n → every 1 n p e ≡ drop p e
@@ -43,7 +43,7 @@ above_part : (heads : ℕ → ℕ) (p : ℕ → Bool) (h d : ℕ) → one_over d
 unfolding one_over head_depth deepest
 above_part heads p h d = let m : max (depth_of (heads h)) 0 ≡ depth_of (heads h) = omega arith in rw m (go (p (kind_of (heads h))))
   where
-    go : (t : Bool) → one_over d (cond t (Of (depth_of (heads h))) Bad) ≡ ((t && true) && eqb d (1 + depth_of (heads h)))
+    go : (t : Bool) → one_over d (cond t (Some (depth_of (heads h))) None) ≡ ((t && true) && eqb d (1 + depth_of (heads h)))
     go true = refl
     go false = refl
 
@@ -51,11 +51,11 @@ above_deep : (heads : ℕ → ℕ) (d : ℕ) (hs : List ℕ) → one_over d (par
 unfolding one_over parts_depth
 above_deep heads d hs = let m : max 0 (deepest heads hs) ≡ deepest heads hs = omega arith in rw m (go (all (kind_at heads is_type) hs))
   where
-    go : (t : Bool) → one_over d (cond t (Of (deepest heads hs)) Bad) ≡ (t && eqb d (1 + deepest heads hs))
+    go : (t : Bool) → one_over d (cond t (Some (deepest heads hs)) None) ≡ (t && eqb d (1 + deepest heads hs))
     go true = refl
     go false = refl
 
-above_cond : (d : ℕ) (t : Bool) (g : Depth) → one_over d (cond t g Bad) ≡ (t && one_over d g)
+above_cond : (d : ℕ) (t : Bool) (g : Option ℕ) → one_over d (cond t g None) ≡ (t && one_over d g)
 unfolding one_over
 above_cond d true g = refl
 above_cond d false g = refl
@@ -103,17 +103,6 @@ fields_right k n c t d l v c' r ek en ec el e = rw (ek, en, ec, el) (go c' v t e
     go true false false e = e
     go false v t e = e
 
-past : (k : ℕ) → 5 < k → (k ≡ 6 → ⊥) → (k ≡ 7 → ⊥) → (k ≡ 8 → ⊥) → (k ≡ 9 → ⊥) → (k ≡ 10 → ⊥) → (k ≡ 11 → ⊥) → 11 < k
-past k l a b c d e f =
-    let six : 6 < k = beyond 5 k l a in
-    let seven : 7 < k = beyond 6 k six b in
-    let eight : 8 < k = beyond 7 k seven c in
-    let nine : 9 < k = beyond 8 k eight d in
-    beyond 10 k (beyond 9 k nine e) f
-  where
-    beyond : (m k : ℕ) → m < k → (k ≡ suc m → ⊥) → suc m < k
-    beyond m k h n = omega arith
-
 module _ (heads : ℕ → ℕ) (e : List ℕ) where
   pub many : 255 < get_or e 0 0 / 65536 → false ≡ ok_entry heads e
   unfolding ok_entry
@@ -132,7 +121,7 @@ module _ (heads : ℕ → ℕ) (e : List ℕ) where
       unfolding ok_entry most_of names_in types_in all values_ok
       a_name r k d p = rw (k, le-leb _ _ few, d) p
 
-      pub a_tuple : length e ≡ 1 + get_or e 0 0 / 65536 → get_or e 0 0 % 256 ≡ 7 → (g : Depth) → g ≡ parts_depth heads 0 (take (length e - 1) (drop 1 e)) → (r : Bool) → r ≡ one_over (get_or e 0 0 / 256 % 256) g → r ≡ ok_entry heads e
+      pub a_tuple : length e ≡ 1 + get_or e 0 0 / 65536 → get_or e 0 0 % 256 ≡ 7 → (g : Option ℕ) → g ≡ parts_depth heads 0 (take (length e - 1) (drop 1 e)) → (r : Bool) → r ≡ one_over (get_or e 0 0 / 256 % 256) g → r ≡ ok_entry heads e
       unfolding ok_entry most_of names_in types_in all values_ok
       a_tuple len k g is r a =
           let n = get_or e 0 0 / 65536 in
@@ -140,14 +129,14 @@ module _ (heads : ℕ → ℕ) (e : List ℕ) where
           a ∙ ap (one_over (get_or e 0 0 / 256 % 256)) (is ∙ ap (parts_depth heads 0) (rest e ∙ sym (every_one n 1 e len))) ∙ above_deep heads (get_or e 0 0 / 256 % 256) (every 1 n 1 e) in
           rw (k, le-leb _ _ few, le-leb _ _ low) (trues _ r q)
 
-      pub struct_unnamed : get_or e 0 0 % 256 ≡ 8 → (g : ℕ) → g ≡ heads (get_or e 1 0) → (g % 256 ≡ 0 → ⊥) → false ≡ ok_entry heads e
+      pub struct_unnamed : get_or e 0 0 % 256 ≡ 8 → (t : Bool) → t ≡ kind_at heads is_name (get_or e 1 0) → t ≡ false → false ≡ ok_entry heads e
       unfolding ok_entry most_of names_in all
-      struct_unnamed k g is ne = rw (k, le-leb _ _ few, ← is, ne_eqb _ _ ne)
+      struct_unnamed k t is n = let f : kind_at heads is_name (get_or e 1 0) ≡ false = sym is ∙ n in rw (k, le-leb _ _ few, f)
 
-      pub a_struct : get_or e 0 0 % 256 ≡ 8 → (g : ℕ) → g ≡ heads (get_or e 1 0) → g % 256 ≡ 0 → (f : Depth) → f ≡ fields_depth heads 0 (get_or e 0 0 / 65536) 2 e → (r : Bool) → r ≡ one_over (get_or e 0 0 / 256 % 256) f → r ≡ ok_entry heads e
+      pub a_struct : get_or e 0 0 % 256 ≡ 8 → (t : Bool) → t ≡ kind_at heads is_name (get_or e 1 0) → t ≡ true → (f : Option ℕ) → f ≡ fields_depth heads 0 (get_or e 0 0 / 65536) 2 e → (r : Bool) → r ≡ one_over (get_or e 0 0 / 256 % 256) f → r ≡ ok_entry heads e
       unfolding most_of names_in types_in all values_ok
-      a_struct k g ig y f is r a =
-          let names : all (kind_at heads is_name) (names_in e) ≡ all (kind_at heads is_name) (every 3 (get_or e 0 0 / 65536) 2 e) = rw (k, ← ig, eq-eqb _ _ y) in
+      a_struct k t it y f is r a =
+          let names : all (kind_at heads is_name) (names_in e) ≡ all (kind_at heads is_name) (every 3 (get_or e 0 0 / 65536) 2 e) = let n : kind_at heads is_name (get_or e 1 0) ≡ true = sym it ∙ y in rw (k, n) in
           let few' : leb (get_or e 0 0 / 65536) (most_of (get_or e 0 0 % 256)) ≡ true = rw (k, le-leb _ _ few) in
           let right : r ≡ ((all (kind_at heads is_name) (every 3 (get_or e 0 0 / 65536) 2 e) && values_ok e) && (all (kind_at heads (takes (kind e))) (types_in e) && eqb (depth e) (depth_for heads e))) =
           rw k (a ∙ ap (one_over (get_or e 0 0 / 256 % 256)) is ∙ above_fields heads (get_or e 0 0 / 256 % 256) (get_or e 0 0 / 65536) e) in
@@ -177,19 +166,19 @@ module _ (heads : ℕ → ℕ) (e : List ℕ) where
           unfolding values_ok
           no_float k t is y = no_value _ _ _ _ _ _ _ (rw k (sym is ∙ y)) ∙ sym (clauses heads e)
 
-          pub fref_unnamed : get_or e 0 0 % 256 ≡ 9 → (g : ℕ) → g ≡ heads (get_or e 1 0) → (g % 256 ≡ 0 → ⊥) → false ≡ ok_entry heads e
+          pub fref_unnamed : get_or e 0 0 % 256 ≡ 9 → (t : Bool) → t ≡ kind_at heads is_name (get_or e 1 0) → t ≡ false → false ≡ ok_entry heads e
           unfolding ok_entry most_of names_in all
-          fref_unnamed k g is ne = rw (k, n0, ← is, ne_eqb _ _ ne)
+          fref_unnamed k t is n = let f : kind_at heads is_name (get_or e 1 0) ≡ false = sym is ∙ n in rw (k, n0, f)
 
-          pub a_fref : get_or e 0 0 % 256 ≡ 9 → (g : ℕ) → g ≡ heads (get_or e 1 0) → g % 256 ≡ 0 → eqb (get_or e 0 0 / 256 % 256) 1 ≡ ok_entry heads e
+          pub a_fref : get_or e 0 0 % 256 ≡ 9 → (t : Bool) → t ≡ kind_at heads is_name (get_or e 1 0) → t ≡ true → eqb (get_or e 0 0 / 256 % 256) 1 ≡ ok_entry heads e
           unfolding ok_entry most_of names_in types_in all values_ok deepest
-          a_fref k g is y = rw (k, n0, ← is, eq-eqb _ _ y, le-leb _ _ low) (trues _ _ refl)
+          a_fref k t is y = let n : kind_at heads is_name (get_or e 1 0) ≡ true = sym is ∙ y in rw (k, n0, n, le-leb _ _ low) (trues _ _ refl)
 
           pub bad_nil : get_or e 0 0 % 256 ≡ 10 → 1 < get_or e 2 0 → false ≡ ok_entry heads e
           unfolding values_ok
           bad_nil k v = no_value _ _ _ _ _ _ _ (rw (k, lt-leb _ _ v)) ∙ sym (clauses heads e)
 
-          pub a_pointer : get_or e 0 0 % 256 ≡ 10 → get_or e 2 0 ≤ 1 → (g : Depth) → g ≡ part_depth heads is_struct (get_or e 1 0) → (r : Bool) → r ≡ one_over (get_or e 0 0 / 256 % 256) g → r ≡ ok_entry heads e
+          pub a_pointer : get_or e 0 0 % 256 ≡ 10 → get_or e 2 0 ≤ 1 → (g : Option ℕ) → g ≡ part_depth heads is_struct (get_or e 1 0) → (r : Bool) → r ≡ one_over (get_or e 0 0 / 256 % 256) g → r ≡ ok_entry heads e
           unfolding ok_entry most_of names_in types_in all values_ok
           a_pointer k v g is r a =
               rw (k, n0, le-leb _ _ low, le-leb _ _ v) (trues _ r (a ∙ ap (one_over (get_or e 0 0 / 256 % 256)) is ∙ above_part heads is_struct (get_or e 1 0) (get_or e 0 0 / 256 % 256)))
@@ -198,11 +187,14 @@ module _ (heads : ℕ → ℕ) (e : List ℕ) where
           unfolding values_ok
           bad_alias k v = no_value _ _ _ _ _ _ _ (rw (k, lt-leb _ _ v)) ∙ sym (clauses heads e)
 
-          pub a_memory : get_or e 0 0 % 256 ≡ 11 → get_or e 1 0 ≤ 4294967295 → (g : Depth) → g ≡ part_depth heads is_type (get_or e 2 0) → (r : Bool) → r ≡ one_over (get_or e 0 0 / 256 % 256) g → r ≡ ok_entry heads e
+          pub a_memory : get_or e 0 0 % 256 ≡ 11 → get_or e 1 0 ≤ 4294967295 → (g : Option ℕ) → g ≡ part_depth heads is_type (get_or e 2 0) → (r : Bool) → r ≡ one_over (get_or e 0 0 / 256 % 256) g → r ≡ ok_entry heads e
           unfolding ok_entry most_of names_in types_in all values_ok
           a_memory k v g is r a =
               rw (k, n0, le-leb _ _ low, le-leb _ _ v) (trues _ r (a ∙ ap (one_over (get_or e 0 0 / 256 % 256)) is ∙ above_part heads is_type (get_or e 2 0) (get_or e 0 0 / 256 % 256)))
 
-          pub other_kind : 5 < get_or e 0 0 % 256 → (get_or e 0 0 % 256 ≡ 6 → ⊥) → (get_or e 0 0 % 256 ≡ 9 → ⊥) → (get_or e 0 0 % 256 ≡ 10 → ⊥) → (get_or e 0 0 % 256 ≡ 11 → ⊥) → false ≡ ok_entry heads e
+          pub other_kind : 11 < get_or e 0 0 % 256 → false ≡ ok_entry heads e
           unfolding ok_entry
-          other_kind a b c d f = let l : 11 < get_or e 0 0 % 256 = past (get_or e 0 0 % 256) a b k7 k8 c d f in rw (lt-leb _ _ l)
+          other_kind l = rw (lt-leb _ _ l)
+
+pub too_large : (heads : ℕ → ℕ) (e : List ℕ) → (255 < get_or e 0 0 / 65536) ⊎ ((get_or e 0 0 / 65536 ≤ 255) × (32 < get_or e 0 0 / 256 % 256)) → false ≡ ok_entry heads e
+too_large heads e = ⊎_elim (many heads e) (λ (h : (get_or e 0 0 / 65536 ≤ 255) × (32 < get_or e 0 0 / 256 % 256)). too_deep_is heads e h.0 h.1)

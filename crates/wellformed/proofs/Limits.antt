@@ -24,6 +24,10 @@ module _ (ws bits : List ℕ) where
   unfolding well_formed
   too_short h = bad (rw (lt-leb 94 _ h))
 
+  pub no_longer : 1048576 < length ws → false ≡ well_formed ws
+  unfolding well_formed
+  no_longer h = let l : 94 ≤ length ws = omega arith in rw (le-leb 94 _ l, lt-leb _ 1048576 h)
+
   module _ (long : 94 ≤ length ws) where
     pub too_long : 1048576 < length ws → Verified ws bits false
     unfolding well_formed

@@ -2,7 +2,8 @@
 use mathlib.Core.Path.{◌≡◌, refl, sym, ap, ◌∙◌}
 use mathlib.Core.Bool.{Bool, true, false, not, cond, ◌&&◌}
 use mathlib.Core.List.{List}
-use Prim.Native.Nat.{ℕ, suc, ◌+◌, ◌-◌, ◌≤◌, ◌<◌, ◌%◌, ◌/◌, max}
+use Rattle.std.proofs.Common.{Option, Some, None}
+use Prim.Native.Nat.{ℕ, suc, ◌+◌, ◌-◌, ◌*◌, ◌≤◌, ◌<◌, ◌%◌, ◌/◌, max}
 use native.Mathlib.Omega.{arith}
 use native.Mathlib.Numerals.{add-one}
 use native.Mathlib.Decide.{ℕ_discrete}
@@ -17,9 +18,7 @@ use Rattle.bitset.specs.Bitset.{bit_at}
 use Rattle.wellformed.specs.Entry.{no_head, kind_in, kind_at, is_name, is_type, is_alias_final, all, deepest}
 use Rattle.words.specs.Columns.{every}
 use Rattle.wellformed.specs.Form.{heads_at}
-use Rattle.wellformed.specs.Scan.{head_depth, part_depth, parts_depth, fields_depth, one_over, Marks}
-use Rattle.wellformed.specs.declared.Depth.{Depth}
-use Rattle.wellformed.specs.declared.Depth.TheVariants.{Of, Bad}
+use Rattle.wellformed.specs.Scan.{head_depth, part_depth, field_depth, parts_depth, fields_depth, one_over, Marks}
 
 -- ---- head_at
 
@@ -46,54 +45,54 @@ module _ (ws bs bits : List ℕ) (h : ℕ) (more : h < length ws) where
 -- ---- part
 
 module _ (low high g : ℕ) where
-  pub too_low : g % 256 < low → Bad ≡ head_depth (kind_in low high) g
+  pub too_low : g % 256 < low → None ≡ head_depth (kind_in low high) g
   unfolding head_depth
   too_low l = rw (lt-leb _ _ l)
 
   module _ (l : low ≤ g % 256) where
-    pub too_high : high < g % 256 → Bad ≡ head_depth (kind_in low high) g
+    pub too_high : high < g % 256 → None ≡ head_depth (kind_in low high) g
     unfolding head_depth
     too_high k = rw (le-leb _ _ l, lt-leb _ _ k)
 
-    pub right_kind : g % 256 ≤ high → Of (g / 256 % 256) ≡ head_depth (kind_in low high) g
+    pub right_kind : g % 256 ≤ high → Some (g / 256 % 256) ≡ head_depth (kind_in low high) g
     unfolding head_depth
     right_kind k = rw (le-leb _ _ l, le-leb _ _ k)
 
 -- of the head that stands at a handle
-pub by_head : (p : ℕ → Bool) (g k : ℕ) (r : Depth) → g ≡ k → r ≡ head_depth p g → r ≡ head_depth p k
+pub by_head : (p : ℕ → Bool) (g k : ℕ) (r : Option ℕ) → g ≡ k → r ≡ head_depth p g → r ≡ head_depth p k
 by_head p g k r is it = it ∙ ap (head_depth p) is
 
 -- what an answer of `part` says
-module _ (heads : ℕ → ℕ) (p : ℕ → Bool) (h : ℕ) (d : Depth) (is : d ≡ part_depth heads p h) where
-  pub part_bad : d ≡ Bad → kind_at heads p h ≡ false
+module _ (heads : ℕ → ℕ) (p : ℕ → Bool) (h : ℕ) (d : Option ℕ) (is : d ≡ part_depth heads p h) where
+  pub part_bad : d ≡ None → kind_at heads p h ≡ false
   unfolding head_depth
   part_bad b = go (kind_at heads p h) refl (sym is ∙ b)
     where
-      go : (t : Bool) → kind_at heads p h ≡ t → cond t (Of (depth_of (heads h))) Bad ≡ Bad → t ≡ false
+      go : (t : Bool) → kind_at heads p h ≡ t → cond t (Some (depth_of (heads h))) None ≡ None → t ≡ false
       go true e q = let z : ◌≡◌ {A = ℕ} 0 1 = cc in absurd (omega arith)
       go false e q = refl
 
-  pub part_of : (x : ℕ) → d ≡ Of x → (kind_at heads p h ≡ true) × (x ≡ depth_of (heads h))
+  pub part_of : (x : ℕ) → d ≡ Some x → (kind_at heads p h ≡ true) × (x ≡ depth_of (heads h))
   unfolding head_depth
   part_of x o = go (kind_at heads p h) refl (sym is ∙ o)
     where
-      go : (t : Bool) → kind_at heads p h ≡ t → cond t (Of (depth_of (heads h))) Bad ≡ Of x → (t ≡ true) × (x ≡ depth_of (heads h))
+      go : (t : Bool) → kind_at heads p h ≡ t → cond t (Some (depth_of (heads h))) None ≡ Some x → (t ≡ true) × (x ≡ depth_of (heads h))
       go true e q = (refl, cc)
       go false e q = let z : ◌≡◌ {A = ℕ} 0 1 = cc in absurd (omega arith)
 
 -- ---- elements
 
-module _ (heads : ℕ → ℕ) (parts : List ℕ) (d i : ℕ) (whole : Depth) (left : whole ≡ parts_depth heads d (drop i parts)) where
-  pub no_part : length parts ≤ i → Of d ≡ whole
+module _ (heads : ℕ → ℕ) (parts : List ℕ) (d i : ℕ) (whole : Option ℕ) (left : whole ≡ parts_depth heads d (drop i parts)) where
+  pub no_part : length parts ≤ i → Some d ≡ whole
   unfolding parts_depth all deepest
   no_part h = let m : max d 0 ≡ d = omega arith in sym (left ∙ rw (drop_of_length-le parts h, m))
 
-  module _ (more : i < length parts) (p : Depth) (is : p ≡ part_depth heads is_type (get_or parts i 0)) where
-    pub bad_part : p ≡ Bad → Bad ≡ whole
+  module _ (more : i < length parts) (p : Option ℕ) (is : p ≡ part_depth heads is_type (get_or parts i 0)) where
+    pub bad_part : p ≡ None → None ≡ whole
     unfolding parts_depth all
     bad_part b = sym (left ∙ rw (drop-cons parts i 0 more, part_bad heads is_type (get_or parts i 0) p is b))
 
-    pub good_part : (x y : ℕ) → p ≡ Of x → y ≡ max d x → whole ≡ parts_depth heads y (drop (i + 1) parts)
+    pub good_part : (x y : ℕ) → p ≡ Some x → y ≡ max d x → whole ≡ parts_depth heads y (drop (i + 1) parts)
     unfolding parts_depth all deepest
     good_part x y o e =
         let q = part_of heads is_type (get_or parts i 0) p is x o in
@@ -103,9 +102,30 @@ module _ (heads : ℕ → ℕ) (parts : List ℕ) (d i : ℕ) (whole : Depth) (l
 
 -- ---- fields
 
+-- what an answer of `field` says
+module _ (name flags type : ℕ) (d : Option ℕ) (is : d ≡ field_depth name flags type) where
+  pub field_bad : d ≡ None → (eqb (name % 256) 0 && is_alias_final flags && kind_in 1 11 (type % 256)) ≡ false
+  unfolding field_depth head_depth
+  field_bad b = go (eqb (name % 256) 0 && is_alias_final flags) (kind_in 1 11 (type % 256)) (sym is ∙ b)
+    where
+      go : (s t : Bool) → cond s (cond t (Some (depth_of type)) None) None ≡ None → (s && t) ≡ false
+      go true true q = let z : ◌≡◌ {A = ℕ} 0 1 = cc in absurd (omega arith)
+      go true false q = refl
+      go false t q = refl
+
+  pub field_of : (x : ℕ) → d ≡ Some x → (eqb (name % 256) 0 ≡ true) × (is_alias_final flags ≡ true) × (kind_in 1 11 (type % 256) ≡ true) × (x ≡ depth_of type)
+  unfolding field_depth head_depth
+  field_of x o = go (eqb (name % 256) 0) (is_alias_final flags) (kind_in 1 11 (type % 256)) (sym is ∙ o)
+    where
+      go : (s r t : Bool) → cond (s && r) (cond t (Some (depth_of type)) None) None ≡ Some x → (s ≡ true) × (r ≡ true) × (t ≡ true) × (x ≡ depth_of type)
+      go true true true q = (refl, refl, refl, cc)
+      go true true false q = let z : ◌≡◌ {A = ℕ} 0 1 = cc in absurd (omega arith)
+      go true false t q = let z : ◌≡◌ {A = ℕ} 0 1 = cc in absurd (omega arith)
+      go false r t q = let z : ◌≡◌ {A = ℕ} 0 1 = cc in absurd (omega arith)
+
 -- one field in front of the others
 merge : (n a t ns vs ts : Bool) (x y : ℕ) → x ≡ y
-    → cond ((n && ns) && (a && vs)) (cond (t && ts) (Of x) Bad) Bad ≡ cond n (cond a (cond t (cond (ns && vs) (cond ts (Of y) Bad) Bad) Bad) Bad) Bad
+    → cond ((n && ns) && (a && vs)) (cond (t && ts) (Some x) None) None ≡ cond (n && a && t) (cond (ns && vs) (cond ts (Some y) None) None) None
 merge false a t ns vs ts x y e = refl
 merge true false t true vs ts x y e = refl
 merge true false t false vs ts x y e = refl
@@ -116,7 +136,7 @@ merge true true true ns vs ts x y e = rw e
 
 module _ (heads : ℕ → ℕ) (d j p : ℕ) (e : List ℕ) where
   pub field_first : fields_depth heads d (suc j) p e
-      ≡ cond (kind_at heads is_name (get_or e p 0)) (cond (is_alias_final (get_or e (p + 2) 0)) (cond (kind_at heads is_type (get_or e (p + 1) 0)) (fields_depth heads (max d (depth_of (heads (get_or e (p + 1) 0)))) j (p + 3) e) Bad) Bad) Bad
+      ≡ cond (kind_at heads is_name (get_or e p 0) && is_alias_final (get_or e (p + 2) 0) && kind_at heads is_type (get_or e (p + 1) 0)) (fields_depth heads (max d (depth_of (heads (get_or e (p + 1) 0)))) j (p + 3) e) None
   unfolding fields_depth parts_depth every all deepest
   field_first =
       let a : p + 2 + 3 ≡ p + 3 + 2 = omega arith in
@@ -126,46 +146,38 @@ module _ (heads : ℕ → ℕ) (d j p : ℕ) (e : List ℕ) where
       let m : max d (max x D) ≡ max (max d x) D = omega arith in
       rw (a, t) (merge (kind_at heads is_name (get_or e p 0)) (is_alias_final (get_or e (p + 2) 0)) (kind_at heads is_type (get_or e (p + 1) 0)) _ _ _ _ _ m)
 
-module _ (heads : ℕ → ℕ) (e : List ℕ) (d i j : ℕ) (whole : Depth) (left : whole ≡ fields_depth heads d j i e) where
-  pub no_field : j ≤ 0 → Of d ≡ whole
+-- at field j of n, of which the first stands at 2
+module _ (heads : ℕ → ℕ) (e : List ℕ) (d n j : ℕ) (whole : Option ℕ) (left : whole ≡ fields_depth heads d (n - j) (2 + 3 * j) e) where
+  pub no_field : n ≤ j → Some d ≡ whole
   unfolding fields_depth parts_depth every all deepest
   no_field h =
-      let z : j ≡ 0 = omega arith in
+      let z : n - j ≡ 0 = omega arith in
       let m : max d 0 ≡ d = omega arith in
       sym (left ∙ rw (z, m))
 
-  module _ (more : 0 < j) where
-    step : whole
-        ≡ cond (kind_at heads is_name (get_or e i 0)) (cond (is_alias_final (get_or e (i + 2) 0)) (cond (kind_at heads is_type (get_or e (i + 1) 0)) (fields_depth heads (max d (depth_of (heads (get_or e (i + 1) 0)))) (j - 1) (i + 3) e) Bad) Bad) Bad
+  module _ (more : j < n) (name type : ℕ) (in_ : name ≡ heads (get_or e (2 + 3 * j) 0)) (it : type ≡ heads (get_or e (2 + 3 * j + 1) 0)) (t : Option ℕ) (is : t ≡ field_depth name (get_or e (2 + 3 * j + 2) 0) type) where
+    step : whole ≡ cond (eqb (name % 256) 0 && is_alias_final (get_or e (2 + 3 * j + 2) 0) && kind_in 1 11 (type % 256)) (fields_depth heads (max d (depth_of type)) (n - (j + 1)) (2 + 3 * (j + 1)) e) None
     step =
-        let q : j ≡ suc (j - 1) = omega arith in
-        left ∙ ap (λ (k : ℕ). fields_depth heads d k i e) q ∙ field_first heads d (j - 1) i e
+        let q : n - j ≡ suc (n - (j + 1)) = omega arith in
+        let r : 2 + 3 * j + 3 ≡ 2 + 3 * (j + 1) = omega arith in
+        left ∙ ap (λ (k : ℕ). fields_depth heads d k (2 + 3 * j) e) q ∙ field_first heads d (n - (j + 1)) (2 + 3 * j) e ∙ rw (in_, it, r)
 
-    module _ (g : ℕ) (ig : g ≡ heads (get_or e i 0)) where
-      pub bad_name : (g % 256 ≡ 0 → ⊥) → Bad ≡ whole
-      bad_name k = sym (step ∙ rw (← ig, ne_eqb _ _ k))
+    pub bad_field : t ≡ None → None ≡ whole
+    bad_field b = sym (step ∙ rw (field_bad name (get_or e (2 + 3 * j + 2) 0) type t is b))
 
-      module _ (k : g % 256 ≡ 0) where
-        pub bad_alias : 8589934591 < get_or e (i + 2) 0 → Bad ≡ whole
-        bad_alias v = sym (step ∙ rw (← ig, eq-eqb _ _ k, lt-leb _ _ v))
-
-        module _ (v : get_or e (i + 2) 0 ≤ 8589934591) (t : Depth) (it : t ≡ part_depth heads is_type (get_or e (i + 1) 0)) where
-          pub bad_type : t ≡ Bad → Bad ≡ whole
-          bad_type b = sym (step ∙ rw (← ig, eq-eqb _ _ k, le-leb _ _ v, part_bad heads is_type (get_or e (i + 1) 0) t it b))
-
-          pub good_field : (x y : ℕ) → t ≡ Of x → y ≡ max d x → whole ≡ fields_depth heads y (j - 1) (i + 3) e
-          good_field x y o q =
-              let f = part_of heads is_type (get_or e (i + 1) 0) t it x o in
-              step ∙ rw (← ig, eq-eqb _ _ k, le-leb _ _ v, f.0, q, f.1)
+    pub good_field : (x y : ℕ) → t ≡ Some x → y ≡ max d x → whole ≡ fields_depth heads y (n - (j + 1)) (2 + 3 * (j + 1)) e
+    good_field x y o q =
+        let f = field_of name (get_or e (2 + 3 * j + 2) 0) type t is x o in
+        step ∙ rw (f.0, f.1, f.2, q, f.3)
 
 -- ---- over
 
-module _ (depth : ℕ) (d : Depth) where
-  pub not_zero : (x : ℕ) → d ≡ Of x → depth ≡ 0 → false ≡ one_over depth d
+module _ (depth : ℕ) (d : Option ℕ) where
+  pub not_zero : (x : ℕ) → d ≡ Some x → depth ≡ 0 → false ≡ one_over depth d
   unfolding one_over
   not_zero x is z = rw (is, z) (sym (ne_eqb 0 (1 + x) (λ e. omega arith)))
 
-  pub one_over_is : (x : ℕ) → d ≡ Of x → (depth ≡ 0 → ⊥) → eqb (depth - 1) x ≡ one_over depth d
+  pub one_over_is : (x : ℕ) → d ≡ Some x → (depth ≡ 0 → ⊥) → eqb (depth - 1) x ≡ one_over depth d
   unfolding one_over
   one_over_is x is nz = rw is (go (ℕ_discrete depth (1 + x)))
     where
@@ -173,6 +185,6 @@ module _ (depth : ℕ) (d : Depth) where
       go (yes e) = eq-eqb (depth - 1) x (omega arith) ∙ sym (eq-eqb depth (1 + x) e)
       go (no n) = ne_eqb (depth - 1) x (λ e. n (omega arith)) ∙ sym (ne_eqb depth (1 + x) n)
 
-  pub over_bad : d ≡ Bad → false ≡ one_over depth d
+  pub over_bad : d ≡ None → false ≡ one_over depth d
   unfolding one_over
   over_bad is = rw is

@@ -15,7 +15,8 @@ use Rattle.bitset.specs.Bitset.{bit_at, nowhere, also}
 use Rattle.wellformed.specs.Form.{heads_at, ok_rows, ok_entries}
 use Rattle.wellformed.specs.Entry.{ok_entry}
 use Rattle.wellformed.specs.Scan.{Passed, Scanned}
-use Rattle.wellformed.proofs.Bools.{and-false, or_false, or_turn}
+use Rattle.std.proofs.Math.Bool.{and-false, or-false}
+use Rattle.wellformed.proofs.Bools.{or_turn}
 
 pub begin : (ws : List ℕ) (used : ℕ) (bits : List ℕ) → 1 ≤ used → bit_at bits ≡ nowhere → Passed ws used bits 1
 unfolding ok_entries entries nowhere
@@ -71,5 +72,5 @@ all_good ws used at bits p out =
     let d = drop_of_length-le (take used ws) h in
     record {
       is = sym (p.left ∙ rw d);
-      marks = λ t. fun_ext (λ k. sym (p.seen k ∙ rw d (or_false (bit_at bits k))));
+      marks = λ t. fun_ext (λ k. sym (p.seen k ∙ rw d (or-false (bit_at bits k))));
     }

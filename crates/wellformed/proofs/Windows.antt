@@ -1,6 +1,8 @@
 -- Windows of the used words: what a turn in one knows, and what is known behind it. Assumes nothing.
 use mathlib.Core.Path.{◌≡◌, refl, sym, ap, ◌∙◌}
-use mathlib.Core.Bool.{Bool, true, false, cond}
+use mathlib.Core.Bool.{Bool, true, false, not, cond}
+use Rattle.std.proofs.Common.{Option, Some, None}
+use Rattle.std.specs.Option.{option_eq}
 use mathlib.Core.List.{List, [], ◌++◌}
 use Prim.Native.Nat.{ℕ, ◌+◌, ◌-◌, ◌*◌, ◌/◌, ◌≤◌, ◌<◌, min}
 use native.Mathlib.Omega.{arith}
@@ -14,13 +16,12 @@ use Rattle.words.specs.Words.{size_of, words_after, kind_of, count_of}
 use Rattle.words.proofs.Walk.{size_pos, take_slice}
 use Rattle.source.specs.Source.{stored}
 use Rattle.source.proofs.Both.{stored_none}
-use Rattle.bitset.specs.Bitset.{bit_at, nowhere}
+use Rattle.bitset.specs.Bitset.{bit_at, nowhere, also}
 use Rattle.wellformed.specs.Form.{heads_at, ok_entries}
+use Rattle.wellformed.specs.Entry.{ok_entry}
 use Rattle.wellformed.specs.Scan.{Passed, Window, Going, Scanned}
-use Rattle.wellformed.specs.declared.Reached.{Reached}
-use Rattle.wellformed.specs.declared.Reached.TheVariants.{At, Fault}
 use Rattle.wellformed.proofs.ByKind.{many}
-use Rattle.wellformed.proofs.Passed.{begin, bad, runs_over, bad_entry, all_good}
+use Rattle.wellformed.proofs.Passed.{begin, bad, runs_over, bad_entry, good_entry, all_good}
 
 low : (t : Bool) (m a b : ℕ) → a ≤ m → b ≤ m → cond t a b ≤ m
 low true m a b p q = p
@@ -57,7 +58,7 @@ module _ (ws : List ℕ) (used base : ℕ) (w : List ℕ) (win : Window ws used 
   pub in_use : base + i < used
   in_use = omega (arith, win.inside)
 
-  pub stops : (bits : List ℕ) → Passed ws used bits (base + i) → length w - i < n → Going ws used bits base (length w) (At i)
+  pub stops : (bits : List ℕ) → Passed ws used bits (base + i) → length w - i < n → Going ws used bits base (length w) (Some i)
   unfolding Going
   stops bits p out = let h : length w < i + n = omega arith in (p, omega arith, λ x. rw (← sized_in) h)
 
@@ -76,22 +77,32 @@ module _ (ws : List ℕ) (used base : ℕ) (w : List ℕ) (win : Window ws used 
         let h : i + n ≤ length w = omega arith in
         rw add-sub_cancel_left (ap (λ (l : List ℕ). take n (drop i l)) win.part ∙ take_slice i n (length w) (drop base ws) h ∙ ap (take n) (drop-drop i base ws))
 
-pub goes_end : (ws bits : List ℕ) (used base m i : ℕ) → Passed ws used bits (base + i) → i ≤ m → m ≤ i → Going ws used bits base m (At i)
+-- the same where the entry ends in the window, and r says whether it is right
+module _ (ws bits : List ℕ) (used base : ℕ) (w : List ℕ) (win : Window ws used base w) (high : used ≤ length ws) (i n : ℕ) (more : i < length w) (sized : n ≡ size_of (get_or w i 0)) (fits : n ≤ length w - i) (p : Passed ws used bits (base + i)) (r : Bool) (is : r ≡ ok_entry (heads_at (bit_at bits) ws) (take ((i + n) - i) (drop i w))) where
+  right : r ≡ ok_entry (heads_at (bit_at bits) ws) (take n (drop (base + i) ws))
+  right = is ∙ ap (ok_entry (heads_at (bit_at bits) ws)) (lent ws used base w win i n more sized fits)
+
+  pub turn_bad : r ≡ false → Going ws used bits base (length w) None
+  unfolding Going
+  turn_bad f = bad_entry ws used (base + i) n bits high p (in_use ws used base w win i n more sized) (sized_in ws used base w win i n more sized) (ends ws used base w win i n more sized fits) r right (ap not f)
+
+  pub turn_good : r ≡ true → (bits' : List ℕ) → bit_at bits' ≡ also (base + i) (bit_at bits) → Passed ws used bits' (base + (i + n))
+  turn_good t bits' e =
+      let q : base + (i + n) ≡ base + i + n = omega arith in
+      rw q (good_entry ws used (base + i) n bits high p (in_use ws used base w win i n more sized) (sized_in ws used base w win i n more sized) (ends ws used base w win i n more sized fits) r right (ap not t) bits' e)
+
+pub goes_end : (ws bits : List ℕ) (used base m i : ℕ) → Passed ws used bits (base + i) → i ≤ m → m ≤ i → Going ws used bits base m (Some i)
 unfolding Going
 goes_end ws bits used base m i p low out = (p, low, λ x. absurd (omega arith))
 
-pub goes_bad : (ws bits : List ℕ) (used base m : ℕ) → ok_entries ws used ≡ false → Going ws used bits base m Fault
-unfolding Going
-goes_bad ws bits used base m e = e
-
 -- ---- what a run says
 
-module _ (ws bits : List ℕ) (used base m : ℕ) (r : Reached) (g : Going ws used bits base m r) where
-  pub run_bad : r ≡ Fault → ok_entries ws used ≡ false
+module _ (ws bits : List ℕ) (used base m : ℕ) (r : Option ℕ) (g : Going ws used bits base m r) where
+  pub run_bad : r ≡ None → ok_entries ws used ≡ false
   unfolding Going
   run_bad e = rw e at g
 
-  pub run_at : (i : ℕ) → r ≡ At i → (Passed ws used bits (base + i)) × (i ≤ m) × (i < m → m < i + size_of (get_or ws (base + i) 0))
+  pub run_at : (i : ℕ) → r ≡ Some i → (Passed ws used bits (base + i)) × (i ≤ m) × (i < m → m < i + size_of (get_or ws (base + i) 0))
   unfolding Going
   run_at i e = rw e at g
 
@@ -110,29 +121,29 @@ module _ (ws : List ℕ) (used : ℕ) (low : 1 ≤ used) (high : used ≤ length
   pub plain_begin : (bits : List ℕ) → bit_at bits ≡ nowhere → Passed (stored ws []) used bits 1
   plain_begin bits none = begin (stored ws []) used bits low none
 
-  module _ (bits : List ℕ) (r : Reached) (g : Going (stored ws []) used bits 0 (length (take used ws)) r) where
-    pub plain_bad : r ≡ Fault → Scanned ws used bits false
-    plain_bad e = bad ws used bits (ap (λ (l : List ℕ). ok_entries l used) (sym (stored_none ws [] refl)) ∙ run_bad (stored ws []) bits used 0 (length (take used ws)) r g e)
+  plain_at : (bits : List ℕ) (i : ℕ) → Going (stored ws []) used bits 0 (length (take used ws)) (Some i) → Scanned ws used bits (eqb i used)
+  unfolding Going
+  plain_at bits i g = go (ℕ_discrete i used)
+    where
+      z : 0 + i ≡ i
+      z = omega arith
 
-    pub plain_at : (i : ℕ) → r ≡ At i → Scanned ws used bits (eqb i used)
-    plain_at i e = go (ℕ_discrete i used)
-      where
-        q : (Passed (stored ws []) used bits (0 + i)) × (i ≤ length (take used ws)) × (i < length (take used ws) → length (take used ws) < i + size_of (get_or (stored ws []) (0 + i) 0))
-        q = run_at (stored ws []) bits used 0 (length (take used ws)) r g i e
+      p : Passed ws used bits i
+      p = rw (stored_none ws [] refl, z) at g.0
 
-        z : 0 + i ≡ i
-        z = omega arith
+      go : Dec (i ≡ used) → Scanned ws used bits (eqb i used)
+      go (yes h) = rw (eq-eqb i used h) (all_good ws used i bits p (omega arith))
+      go (no h) =
+          let l : i < used = omega (arith, g.1, plain_length) in
+          let k : i < length (take used ws) = omega (arith, plain_length) in
+          let o : length (take used ws) < i + size_of (get_or ws i 0) = rw (stored_none ws [] refl, z) at (g.2 k) in
+          rw (ne_eqb i used h) (bad ws used bits (runs_over ws used i (size_of (get_or ws i 0)) bits high p l refl (omega (arith, plain_length))))
 
-        p : Passed ws used bits i
-        p = rw (stored_none ws [] refl, z) at q.0
-
-        go : Dec (i ≡ used) → Scanned ws used bits (eqb i used)
-        go (yes h) = rw (eq-eqb i used h) (all_good ws used i bits p (omega arith))
-        go (no h) =
-            let l : i < used = omega (arith, q.1, plain_length) in
-            let k : i < length (take used ws) = omega (arith, plain_length) in
-            let o : length (take used ws) < i + size_of (get_or ws i 0) = rw (stored_none ws [] refl, z) at (q.2 k) in
-            rw (ne_eqb i used h) (bad ws used bits (runs_over ws used i (size_of (get_or ws i 0)) bits high p l refl (omega (arith, plain_length))))
+  -- all entries are right where the run ends at the last
+  pub plain_run : (bits : List ℕ) (r : Option ℕ) → Going (stored ws []) used bits 0 (length (take used ws)) r → Scanned ws used bits (option_eq eqb r (Some used))
+  unfolding Going
+  plain_run bits None g = bad ws used bits (ap (λ (l : List ℕ). ok_entries l used) (sym (stored_none ws [] refl)) ∙ g)
+  plain_run bits (Some i) g = plain_at bits i g
 
 -- ---- entries_in: windows that are copied
 
@@ -142,9 +153,6 @@ module _ (ws : List ℕ) (used at m : ℕ) (high : used ≤ length ws) (more : a
 
   copy : take m d ≡ take m (drop at ws)
   copy = rw is (take-append-le m (take m (drop at ws)) (drop m d₀) (omega (arith, cut)) ∙ take-take m m (drop at ws) (omega arith))
-
-  pub copy_window : Window ws used at (take m d)
-  copy_window = record { part = rw (copy, cut); inside = rw copy (omega (arith, cut)) }
 
   pub copy_length : length (take m d) ≡ m
   copy_length = ap (λ (l : List ℕ). length l) copy ∙ cut
@@ -165,7 +173,7 @@ module _ (ws : List ℕ) (used at m : ℕ) (high : used ≤ length ws) (more : a
             let c : 255 < get_or (take n (drop at ws)) 0 0 / 65536 = counts (get_or (take n (drop at ws)) 0 0) (omega (arith, ap size_of e)) in
             bad_entry ws used at n bits high p more refl k false (many (heads_at (bit_at bits) ws) (take n (drop at ws)) c) refl
 
-  pub copied_long : (room : ℕ) (bits' : List ℕ) (i : ℕ) → 767 ≤ room → m ≡ min room (used - at) → (r : Reached) → Going ws used bits' at (length (take m d)) r → r ≡ At i → i ≡ 0 → Scanned ws used bits' false
+  pub copied_long : (room : ℕ) (bits' : List ℕ) (i : ℕ) → 767 ≤ room → m ≡ min room (used - at) → (r : Option ℕ) → Going ws used bits' at (length (take m d)) r → r ≡ Some i → i ≡ 0 → Scanned ws used bits' false
   copied_long room bits' i enough least r g e z =
       let q = run_at ws bits' used at (length (take m d)) r g i e in
       let a : at + i ≡ at = omega arith in
@@ -173,6 +181,3 @@ module _ (ws : List ℕ) (used at m : ℕ) (high : used ≤ length ws) (more : a
       let k : i < length (take m d) = omega (arith, copy_length) in
       let o : length (take m d) < i + size_of (get_or ws at 0) = rw a at (q.2 k) in
       bad ws used bits' (too_long room bits' p enough least (omega (arith, copy_length)))
-
-pub from_zero : (ws bits : List ℕ) (used at : ℕ) → Passed ws used bits at → Passed ws used bits (at + 0)
-from_zero ws bits used at p = let e : at + 0 ≡ at = omega arith in rw e p

@@ -1,5 +1,5 @@
 -- What the functions of row 1 give on the way: the depth of the deepest part, where all parts are right.
-use Rattle.std.specs.Prelude.{◌≡◌, Bool, true, false, cond, ◌&&◌, ◌||◌, List, ℕ, ◌+◌, ◌*◌, ◌≤◌, ◌<◌, max, length, take, drop, get_or, eqb}
+use Rattle.std.specs.Prelude.{◌≡◌, Bool, true, false, cond, ◌&&◌, ◌||◌, Option, Some, None, List, ℕ, ◌+◌, ◌*◌, ◌≤◌, ◌<◌, max, length, take, drop, get_or, eqb}
 use Rattle.std.proofs.Math.Seq.{slice}
 use Rattle.words.specs.Words.{size_of, fills, kind_of, depth_of}
 use Rattle.words.specs.Table.{rows, entries, is_at, starts}
@@ -7,32 +7,32 @@ use Rattle.bitset.specs.Bitset.{word_bits, bit_at}
 use Rattle.wellformed.specs.Entry.{kind_at, is_name, is_type, is_alias_final, all, deepest, most_counted}
 use Rattle.words.specs.Columns.{struct_size, names_from, types_from, flags_from}
 use Rattle.wellformed.specs.Form.{ok_rows, ok_entries, well_formed, used_words}
-use Rattle.wellformed.specs.declared.Depth.{Depth}
-use Rattle.wellformed.specs.declared.Depth.TheVariants.{Of, Bad}
-use Rattle.wellformed.specs.declared.Reached.{Reached}
-use Rattle.wellformed.specs.declared.Reached.TheVariants.{At, Fault}
 
 -- the depth in a head, if its kind is one that p takes
-unfoldable pub head_depth : (ℕ → Bool) → ℕ → Depth
-head_depth p head = cond (p (kind_of head)) (Of (depth_of head)) Bad
+unfoldable pub head_depth : (ℕ → Bool) → ℕ → Option ℕ
+head_depth p head = cond (p (kind_of head)) (Some (depth_of head)) None
 
 -- the depth of the earlier entry at h, if its kind is one that p takes
-abbrev pub part_depth : (ℕ → ℕ) → (ℕ → Bool) → ℕ → Depth
+abbrev pub part_depth : (ℕ → ℕ) → (ℕ → Bool) → ℕ → Option ℕ
 part_depth heads p h = head_depth p (heads h)
 
+-- the depth in the head of a field's type, if its name's head is a name's, its flags are ones that the maker takes, and the type's head is a type's
+unfoldable pub field_depth : ℕ → ℕ → ℕ → Option ℕ
+field_depth name flags type = cond (is_name (kind_of name) && is_alias_final flags) (head_depth is_type type) None
+
 -- the depth of the deepest, from d on, if all are types
-unfoldable pub parts_depth : (ℕ → ℕ) → ℕ → List ℕ → Depth
-parts_depth heads d hs = cond (all (kind_at heads is_type) hs) (Of (max d (deepest heads hs))) Bad
+unfoldable pub parts_depth : (ℕ → ℕ) → ℕ → List ℕ → Option ℕ
+parts_depth heads d hs = cond (all (kind_at heads is_type) hs) (Some (max d (deepest heads hs))) None
 
 -- the same of the types of n fields, of which the first stands at p
-unfoldable pub fields_depth : (ℕ → ℕ) → ℕ → ℕ → ℕ → List ℕ → Depth
+unfoldable pub fields_depth : (ℕ → ℕ) → ℕ → ℕ → ℕ → List ℕ → Option ℕ
 fields_depth heads d n p e =
-    cond (all (kind_at heads is_name) (names_from n p e) && all is_alias_final (flags_from n p e)) (parts_depth heads d (types_from n p e)) Bad
+    cond (all (kind_at heads is_name) (names_from n p e) && all is_alias_final (flags_from n p e)) (parts_depth heads d (types_from n p e)) None
 
 -- a depth is one more than that of the deepest part
-unfoldable pub one_over : ℕ → Depth → Bool
-one_over d (Of x) = eqb d (1 + x)
-one_over d Bad = false
+unfoldable pub one_over : ℕ → Option ℕ → Bool
+one_over d (Some x) = eqb d (1 + x)
+one_over d None = false
 
 -- the bits are enough for the words, and mark nothing past them
 pub record Marks (ws bits : List ℕ) : Type 0 where
@@ -56,9 +56,9 @@ abbrev pub largest_entry : ℕ
 largest_entry = struct_size most_counted
 
 -- r is how far the entries of a window of m words are right: at its end, or before one that runs past it
-unfoldable pub Going : List ℕ → ℕ → List ℕ → ℕ → ℕ → Reached → Type 0
-Going ws used bits' base m (At i) = (Passed ws used bits' (base + i)) × (i ≤ m) × (i < m → m < i + size_of (get_or ws (base + i) 0))
-Going ws used bits' base m Fault = ok_entries ws used ≡ false
+unfoldable pub Going : List ℕ → ℕ → List ℕ → ℕ → ℕ → Option ℕ → Type 0
+Going ws used bits' base m (Some i) = (Passed ws used bits' (base + i)) × (i ≤ m) × (i < m → m < i + size_of (get_or ws (base + i) 0))
+Going ws used bits' base m None = ok_entries ws used ≡ false
 
 -- r is whether the entries are right, and if they are, the bits mark where they start
 pub record Scanned (ws : List ℕ) (used : ℕ) (bits' : List ℕ) (r : Bool) : Type 0 where

@@ -1,50 +1,40 @@
 // Row 1 of the refusals: whether a list of words is well formed.
 #![tactic(auto)]
 
-ghost use Rattle.std.specs.Prelude.{◌≡◌, ◌+◌, ◌*◌, ◌<◌, ◌≤◌, max, min, length, drop, get_or};
+ghost use Rattle.std.specs.Prelude.{◌≡◌, ◌≢◌, ◌+◌, ◌-◌, ◌*◌, ◌<◌, ◌≤◌, max, min, length, drop, get_or};
 ghost use Rattle.source.specs.Source.{unpacked, stored};
+ghost use Rattle.words.specs.Kinds.{Name, Tuple, Struct};
 ghost use Rattle.words.specs.Words.{size_of, field_size};
 ghost use Rattle.bitset.specs.Bitset.{word_bits, bit_at};
-ghost use Rattle.wellformed.specs.Entry.{zero_filled, float_ok, kind_in, is_type, ok_entry};
+ghost use Rattle.wellformed.specs.Entry.{zero_filled, float_ok, kind_in, kind_at, is_name, is_type, deepest_allowed, ok_entry};
 ghost use Rattle.wellformed.specs.Form.{all_zero, heads_at, longest_allowed, well_formed, behind_fresh};
-ghost use Rattle.wellformed.specs.Scan.{head_depth, part_depth, parts_depth, fields_depth, one_over, Marks, Passed, Window, Going, Scanned, Verified, largest_entry};
-ghost use Rattle.words.specs.Columns.{struct_size, first_field};
+ghost use Rattle.wellformed.specs.Scan.{head_depth, part_depth, field_depth, parts_depth, fields_depth, one_over, Marks, Passed, Window, Going, Scanned, Verified, largest_entry};
+ghost use Rattle.words.specs.Columns.{struct_size, first_field, kind_on, depth_on, count_on};
 
 use words::{columns, kinds, limits};
 
-// The depth of the deepest part, or that a part is not right.
-#[derive(Clone, Copy)]
-pub enum Depth {
-    Of(u64),
-    Bad,
-}
-
 // Whether all words are 0.
+#[tactic(auto, using(crate::proofs::Zero::not_zero, crate::proofs::Zero::a_zero, crate::proofs::Zero::no_more))]
 pub fn zeros(a: &[u64]) -> bool
     ensures { result ≡ all_zero a.now }
 {
-    let mut i = 0;
-    while i < a.len() {
-        if a[i] != 0 {
+    for w in a {
+        if *w != 0 {
             return false;
         }
-        i += 1;
     }
     true
 }
 
 // Whether what follows a name's bytes in the last word is 0.
+#[tactic(auto, unfolding(crate::specs::Entry::zero_filled))]
 pub fn padding(e: &[u64]) -> bool
     requires { 1 ≤ length e.now }
     ensures { result ≡ zero_filled e.now }
 {
     let n = e[0] / kinds::COUNT;
     let s = 8 * (n % 8);
-    if s == 0 {
-        return true;
-    }
-    let last = e[e.len() - 1];
-    last >> s == 0
+    s == 0 || e[e.len() - 1] >> s == 0
 }
 
 // An entry keeps a float's size plus 64: the five sizes are multiples of 32 from 0 to 128, and size 0, a constant's, is 64.
@@ -53,28 +43,23 @@ pub const SIZE_ZERO: u64 = 64;
 pub const LARGEST_SIZE: u64 = 2 * SIZE_ZERO;
 
 // Whether a float's size and constant are ones that the maker takes.
+#[tactic(auto, unfolding(crate::specs::Entry::float_ok))]
 pub fn float_ok(size: u64, bits: u64) -> bool
     ensures { result ≡ float_ok size bits }
 {
-    if size == SIZE_ZERO {
-        return true;
-    }
-    if bits != 0 {
-        return false;
-    }
-    if size > LARGEST_SIZE {
-        return false;
-    }
-    size % 32 == 0
+    size == SIZE_ZERO || bits == 0 && size <= LARGEST_SIZE && size % 32 == 0
 }
 
 pub fn larger(a: u64, b: u64) -> u64
     ensures { result ≡ max a b }
 {
-    if a < b { b } else { a }
+    a.max(b)
 }
 
+// An entry is checked against the words of its store, in two sources, and the bits that mark where the earlier entries start. They are three arguments, and not one struct: with a struct, lent or copied, row 1 took up to a sixth longer, since the compiler knew no more how long a list may be where a handle is looked up.
+
 // The head of the earlier entry at h, which stands in `words`, or a head of no kind. A plain store's words are all there.
+#[tactic(auto, using(crate::proofs::Parts::bit_room, crate::proofs::Parts::unmarked, crate::proofs::Parts::near_head))]
 fn near_head(words: &[u64], tail: &[u8], bits: &[u64], h: u64) -> u64
     requires marks { Marks (stored words.now tail.now) bits.now }
     requires h_in_bounds { h < length words.now }
@@ -88,6 +73,7 @@ fn near_head(words: &[u64], tail: &[u8], bits: &[u64], h: u64) -> u64
 }
 
 // The head of the earlier entry at h, or a head of no kind.
+#[tactic(auto, using(crate::proofs::Parts::marked_in, crate::proofs::Parts::unmarked, crate::proofs::Parts::marked_head))]
 fn head_at(words: &[u64], tail: &[u8], bits: &[u64], h: u64) -> u64
     requires { Marks (stored words.now tail.now) bits.now }
     ensures { result ≡ heads_at (bit_at bits.now) (stored words.now tail.now) h }
@@ -102,21 +88,20 @@ fn head_at(words: &[u64], tail: &[u8], bits: &[u64], h: u64) -> u64
 }
 
 // The depth in a head, if its kind is from low to high.
-fn depth_in(head: u64, low: u64, high: u64) -> Depth
+#[tactic(auto, using(crate::proofs::Parts::too_low, crate::proofs::Parts::too_high, crate::proofs::Parts::right_kind))]
+fn depth_in(head: u64, low: u64, high: u64) -> Option<u64>
     ensures { result ≡ head_depth (kind_in low high) head }
 {
     let kind = head % kinds::DEPTH;
-    if kind < low {
-        return Depth::Bad;
+    if kind < low || kind > high {
+        return None;
     }
-    if kind > high {
-        return Depth::Bad;
-    }
-    Depth::Of(head / kinds::DEPTH % kinds::DEPTH)
+    Some(head / kinds::DEPTH % kinds::DEPTH)
 }
 
 // The depth of the earlier entry at h, if its kind is from low to high.
-fn part(words: &[u64], tail: &[u8], bits: &[u64], h: u64, low: u64, high: u64) -> Depth
+#[tactic(auto, using(crate::proofs::Parts::by_head))]
+fn part(words: &[u64], tail: &[u8], bits: &[u64], h: u64, low: u64, high: u64) -> Option<u64>
     requires { Marks (stored words.now tail.now) bits.now }
     ensures { result ≡ part_depth (heads_at (bit_at bits.now) (stored words.now tail.now)) (kind_in low high) h }
 {
@@ -124,7 +109,8 @@ fn part(words: &[u64], tail: &[u8], bits: &[u64], h: u64, low: u64, high: u64) -
 }
 
 // The same of an entry that stands in `words`, if it is a type.
-fn near_type(words: &[u64], tail: &[u8], bits: &[u64], h: u64) -> Depth
+#[tactic(auto, using(crate::proofs::Parts::by_head))]
+fn near_type(words: &[u64], tail: &[u8], bits: &[u64], h: u64) -> Option<u64>
     requires marks { Marks (stored words.now tail.now) bits.now }
     requires h_in_bounds { h < length words.now }
     ensures { result ≡ part_depth (heads_at (bit_at bits.now) (stored words.now tail.now)) is_type h }
@@ -132,145 +118,154 @@ fn near_type(words: &[u64], tail: &[u8], bits: &[u64], h: u64) -> Depth
     depth_in(near_head(words, tail, bits, h), kinds::BOT, kinds::MEM)
 }
 
-// The depth of the deepest of the types whose handles are `parts`, from index `from` on, and of one that is `deepest` deep.
+// The depth of the deepest of the types whose handles are `parts`, and of one that is `deepest` deep.
+#[tactic(auto, using(crate::proofs::Parts::no_part, crate::proofs::Parts::bad_part))]
 fn far_elements(
     words: &[u64],
     tail: &[u8],
     bits: &[u64],
     parts: &[u64],
-    from: usize,
     deepest: u64,
-) -> Depth
-    requires marks { Marks (stored words.now tail.now) bits.now }
-    requires from_in_bounds { from ≤ length parts.now }
-    ensures { result ≡ parts_depth (heads_at (bit_at bits.now) (stored words.now tail.now)) deepest (drop from parts.now) }
+) -> Option<u64>
+    requires { Marks (stored words.now tail.now) bits.now }
+    ensures { result ≡ parts_depth (heads_at (bit_at bits.now) (stored words.now tail.now)) deepest parts.now }
 {
     let mut d = deepest;
-    let mut i = from;
-    while i < parts.len() {
-        let p = part(words, tail, bits, parts[i], kinds::BOT, kinds::MEM);
-        let Depth::Of(x) = p else {
-            return Depth::Bad;
-        };
-        d = larger(d, x);
-        i += 1;
+    for h in parts {
+        d = larger(d, part(words, tail, bits, *h, kinds::BOT, kinds::MEM)?);
     }
-    Depth::Of(d)
+    Some(d)
 }
 
 // The depth of the deepest of the types whose handles are `parts`. At the first that is not in `words` the loop is left for another, so that for a plain store it has nothing to do with bytes: with both in one loop row 1 took up to a quarter longer.
-fn elements(words: &[u64], tail: &[u8], bits: &[u64], parts: &[u64]) -> Depth
+#[tactic(auto, using(crate::proofs::Parts::no_part, crate::proofs::Parts::bad_part))]
+fn elements(words: &[u64], tail: &[u8], bits: &[u64], parts: &[u64]) -> Option<u64>
     requires { Marks (stored words.now tail.now) bits.now }
     ensures { result ≡ parts_depth (heads_at (bit_at bits.now) (stored words.now tail.now)) 0 parts.now }
 {
-    let mut d: u64 = 0;
-    let mut i = 0;
-    while i < parts.len() {
-        let h = parts[i];
-        if h >= words.len() as u64 {
-            return far_elements(words, tail, bits, parts, i, d);
+    let mut d = 0;
+    for (i, h) in parts.iter().enumerate() {
+        if *h >= words.len() as u64 {
+            return far_elements(words, tail, bits, &parts[i..], d);
         }
-        let p = near_type(words, tail, bits, h);
-        let Depth::Of(x) = p else {
-            return Depth::Bad;
-        };
-        d = larger(d, x);
-        i += 1;
+        d = larger(d, near_type(words, tail, bits, *h)?);
     }
-    Depth::Of(d)
+    Some(d)
 }
 
-// The depth of the deepest type of n fields, of which the first stands at `from`, and of one that is `deepest` deep.
+// The depth of a field's type, if the field is right, from the heads of its name and its type.
+#[tactic(auto, unfolding(crate::specs::Scan::field_depth))]
+fn field(name: u64, flags: u64, type_head: u64) -> Option<u64>
+    ensures { result ≡ field_depth name flags type_head }
+{
+    if name % kinds::DEPTH != kinds::NAME || flags > limits::LARGEST_FLAGS {
+        return None;
+    }
+    depth_in(type_head, kinds::BOT, kinds::MEM)
+}
+
+// The depth of the deepest type of a struct's n fields from index `from` on, and of one that is `deepest` deep.
+#[tactic(auto, using(crate::proofs::Parts::no_field, crate::proofs::Parts::bad_field))]
 fn far_fields(
     words: &[u64],
     tail: &[u8],
     bits: &[u64],
     e: &[u64],
     from: usize,
-    n: u64,
+    n: usize,
     deepest: u64,
-) -> Depth
+) -> Option<u64>
     requires marks { Marks (stored words.now tail.now) bits.now }
-    requires e_len { length e.now ≡ from + field_size * n }
-    ensures { result ≡ fields_depth (heads_at (bit_at bits.now) (stored words.now tail.now)) deepest n from e.now }
+    requires e_len { length e.now ≡ struct_size n }
+    requires from_in_bounds { from ≤ n }
+    ensures { result ≡ fields_depth (heads_at (bit_at bits.now) (stored words.now tail.now)) deepest (n - from) (first_field 0 + field_size * from) e.now }
 {
     let mut d = deepest;
-    let mut i = from;
-    let mut j = n;
-    while 0 < j {
+    for j in from..n {
+        let i = columns::FIELDS + columns::FIELD * j;
         let name = head_at(words, tail, bits, e[i]);
-        if name % kinds::DEPTH != kinds::NAME {
-            return Depth::Bad;
-        }
-        if e[i + columns::FLAGS] > limits::LARGEST_FLAGS {
-            return Depth::Bad;
-        }
-        let t = part(
-            words,
-            tail,
-            bits,
-            e[i + columns::FIELD_TYPE],
-            kinds::BOT,
-            kinds::MEM,
-        );
-        let Depth::Of(x) = t else {
-            return Depth::Bad;
-        };
-        d = larger(d, x);
-        i += columns::FIELD;
-        j -= 1;
+        let t = head_at(words, tail, bits, e[i + columns::FIELD_TYPE]);
+        d = larger(d, field(name, e[i + columns::FLAGS], t)?);
     }
-    Depth::Of(d)
+    Some(d)
 }
 
 // The depth of the deepest type of a struct's n fields. The loop is left at the first handle that is not in `words`, as above.
-fn fields(words: &[u64], tail: &[u8], bits: &[u64], e: &[u64], n: u64) -> Depth
+#[tactic(auto, using(crate::proofs::Parts::no_field, crate::proofs::Parts::bad_field))]
+fn fields(words: &[u64], tail: &[u8], bits: &[u64], e: &[u64], n: usize) -> Option<u64>
     requires marks { Marks (stored words.now tail.now) bits.now }
     requires e_len { length e.now ≡ struct_size n }
     ensures { result ≡ fields_depth (heads_at (bit_at bits.now) (stored words.now tail.now)) 0 n (first_field 0) e.now }
 {
-    let mut d: u64 = 0;
-    let mut i = columns::FIELDS;
-    let mut j = n;
-    while 0 < j {
+    let mut d = 0;
+    for j in 0..n {
+        let i = columns::FIELDS + columns::FIELD * j;
         let h = e[i];
         let k = e[i + columns::FIELD_TYPE];
-        if h >= words.len() as u64 {
-            return far_fields(words, tail, bits, e, i, j, d);
-        }
-        if k >= words.len() as u64 {
-            return far_fields(words, tail, bits, e, i, j, d);
+        if h >= words.len() as u64 || k >= words.len() as u64 {
+            return far_fields(words, tail, bits, e, j, n, d);
         }
         let name = near_head(words, tail, bits, h);
-        if name % kinds::DEPTH != kinds::NAME {
-            return Depth::Bad;
-        }
-        if e[i + columns::FLAGS] > limits::LARGEST_FLAGS {
-            return Depth::Bad;
-        }
-        let t = near_type(words, tail, bits, k);
-        let Depth::Of(x) = t else {
-            return Depth::Bad;
-        };
-        d = larger(d, x);
-        i += columns::FIELD;
-        j -= 1;
+        let t = near_head(words, tail, bits, k);
+        d = larger(d, field(name, e[i + columns::FLAGS], t)?);
     }
-    Depth::Of(d)
+    Some(d)
 }
 
 // Whether a depth is one more than that of the deepest part.
-fn over(depth: u64, d: Depth) -> bool
+#[tactic(auto, using(crate::proofs::Parts::not_zero, crate::proofs::Parts::one_over_is, crate::proofs::Parts::over_bad))]
+fn over(depth: u64, d: Option<u64>) -> bool
     ensures { result ≡ one_over depth d }
 {
-    match d {
-        Depth::Of(x) => {
-            if depth == 0 {
-                return false;
-            }
-            depth - 1 == x
+    let Some(x) = d else {
+        return false;
+    };
+    depth > 0 && depth - 1 == x
+}
+
+// Whether the earlier entry at h is a name.
+fn is_name(words: &[u64], tail: &[u8], bits: &[u64], h: u64) -> bool
+    requires { Marks (stored words.now tail.now) bits.now }
+    ensures { result ≡ kind_at (heads_at (bit_at bits.now) (stored words.now tail.now)) is_name h }
+{
+    head_at(words, tail, bits, h) % kinds::DEPTH == kinds::NAME
+}
+
+// The same as `entry`, of an entry whose n is 0 and whose kind does not count.
+#[tactic(auto, using(crate::proofs::ByKind::other_kind))]
+fn uncounted(words: &[u64], tail: &[u8], bits: &[u64], e: &[u64]) -> bool
+    requires marks { Marks (stored words.now tail.now) bits.now }
+    requires e_len { length e.now ≡ size_of (get_or e.now 0 0) }
+    requires none { count_on e.now 0 ≡ 0 }
+    requires shallow { depth_on e.now 0 ≤ deepest_allowed }
+    requires no_name { kind_on e.now 0 ≢ Name }
+    requires no_tuple { kind_on e.now 0 ≢ Tuple }
+    requires no_struct { kind_on e.now 0 ≢ Struct }
+    ensures { result ≡ ok_entry (heads_at (bit_at bits.now) (stored words.now tail.now)) e.now }
+{
+    let head = e[0];
+    let depth = head / kinds::DEPTH % kinds::DEPTH;
+    match head % kinds::DEPTH {
+        kinds::BOT..=kinds::INT => depth == 1,
+        kinds::FLOAT => float_ok(e[columns::SIZE], e[columns::BITS]) && depth == 1,
+        kinds::FREF => is_name(words, tail, bits, e[columns::NAME]) && depth == 1,
+        kinds::MEM_PTR => {
+            let target = e[columns::TARGET];
+            e[columns::NIL] <= limits::LARGEST_FLAG
+                && over(
+                    depth,
+                    part(words, tail, bits, target, kinds::STRUCT, kinds::FREF),
+                )
         }
-        Depth::Bad => false,
+        kinds::MEM => {
+            let inner = e[columns::INNER];
+            e[columns::ALIAS] <= limits::LARGEST_ALIAS
+                && over(
+                    depth,
+                    part(words, tail, bits, inner, kinds::BOT, kinds::MEM),
+                )
+        }
+        _ => false,
     }
 }
 
@@ -281,84 +276,23 @@ pub fn entry(words: &[u64], tail: &[u8], bits: &[u64], e: &[u64]) -> bool
     ensures { result ≡ ok_entry (heads_at (bit_at bits.now) (stored words.now tail.now)) e.now }
 {
     let head = e[0];
-    let kind = head % kinds::DEPTH;
     let depth = head / kinds::DEPTH % kinds::DEPTH;
-    let n = head / kinds::COUNT;
-    if n > limits::MOST_COUNTED as u64 {
+    let n = (head / kinds::COUNT) as usize;
+    if n > limits::MOST_COUNTED || depth > limits::DEEPEST {
         return false;
     }
-    if depth > limits::DEEPEST {
-        return false;
-    }
-    if kind == kinds::NAME {
-        if depth != 0 {
-            return false;
+    match head % kinds::DEPTH {
+        kinds::NAME => depth == 0 && padding(e),
+        kinds::TUPLE => over(depth, elements(words, tail, bits, &e[columns::ELEMENTS..])),
+        kinds::STRUCT => {
+            is_name(words, tail, bits, e[columns::NAME])
+                && over(depth, fields(words, tail, bits, e, n))
         }
-        return padding(e);
+        _ => n == 0 && uncounted(words, tail, bits, e),
     }
-    if kind == kinds::TUPLE {
-        return over(depth, elements(words, tail, bits, &e[columns::ELEMENTS..]));
-    }
-    if kind == kinds::STRUCT {
-        if head_at(words, tail, bits, e[columns::NAME]) % kinds::DEPTH != kinds::NAME {
-            return false;
-        }
-        return over(depth, fields(words, tail, bits, e, n));
-    }
-    if n != 0 {
-        return false;
-    }
-    if kind <= kinds::INT {
-        return depth == 1;
-    }
-    if kind == kinds::FLOAT {
-        if float_ok(e[columns::SIZE], e[columns::BITS]) {
-            return depth == 1;
-        }
-        return false;
-    }
-    if kind == kinds::FREF {
-        if head_at(words, tail, bits, e[columns::NAME]) % kinds::DEPTH != kinds::NAME {
-            return false;
-        }
-        return depth == 1;
-    }
-    if kind == kinds::MEM_PTR {
-        if e[columns::NIL] > limits::LARGEST_FLAG {
-            return false;
-        }
-        return over(
-            depth,
-            part(
-                words,
-                tail,
-                bits,
-                e[columns::TARGET],
-                kinds::STRUCT,
-                kinds::FREF,
-            ),
-        );
-    }
-    if kind == kinds::MEM {
-        if e[columns::ALIAS] > limits::LARGEST_ALIAS {
-            return false;
-        }
-        return over(
-            depth,
-            part(words, tail, bits, e[columns::INNER], kinds::BOT, kinds::MEM),
-        );
-    }
-    false
 }
 
-// How far the entries of a window are right, as an index of it.
-#[derive(Clone, Copy)]
-pub enum Reached {
-    At(usize),
-    Fault,
-}
-
-// Checks the entries in a window of the used words, the first at index `from` of it, and marks them. It stops at the window's end, or before an entry that runs past it.
+// Checks the entries in a window of the used words, the first at index `from` of it, and marks them. It stops at the window's end, or before an entry that runs past it, and says at which index of the window; None if an entry is not right.
 // The window begins at position `base`; `used` words are used. The only place that calls `entry`, so that the compiler puts it here.
 fn run(
     words: &[u64],
@@ -368,25 +302,26 @@ fn run(
     window: &[u64],
     base: usize,
     from: usize,
-) -> Reached
+) -> Option<usize>
     requires used_in_bounds { (used ≤ length (stored words.now tail.now)) × (length (stored words.now tail.now) ≤ word_bits * length bits.old) }
     requires window { Window (stored words.now tail.now) used base window.now }
     requires from_in_bounds { (from ≤ length window.now) × (Passed (stored words.now tail.now) used bits.old (base + from)) }
     ensures { Going (stored words.now tail.now) used bits.new base (length window.now) result }
 {
+    // By its index: the step is the size of the entry there, so that no iterator fits.
     let mut i = from;
     while i < window.len() {
         let n = words::size(window[i]);
         if n > window.len() - i {
-            return Reached::At(i);
+            return Some(i);
         }
         if !entry(words, tail, bits, &window[i..i + n]) {
-            return Reached::Fault;
+            return None;
         }
         bitset::mark(bits, base + i);
         i += n;
     }
-    Reached::At(i)
+    Some(i)
 }
 
 // Whether entries fill the words from 1 to used, each with its parts before it. If so, the bits mark where they start. The words are one window.
@@ -395,33 +330,23 @@ fn entries(words: &[u64], used: usize, bits: &mut [u64]) -> bool
     ensures { Scanned words.now used bits.new result }
 {
     bitset::clear(bits);
-    let none = [0u8; 0];
-    let r = run(words, &none, used, bits, &words[..used], 0, 1);
-    match r {
-        Reached::At(i) => i == used,
-        Reached::Fault => false,
-    }
-}
-
-fn smaller(a: usize, b: usize) -> usize
-    ensures { result ≡ min a b }
-{
-    if a < b { a } else { b }
+    run(words, &[], used, bits, &words[..used], 0, 1) == Some(used)
 }
 
 // The same for words in two sources, in windows that are copied to `room`, which has room for the largest entry.
+#[tactic(auto, using(crate::proofs::Passed::all_good))]
 fn entries_in(words: &[u64], tail: &[u8], used: usize, bits: &mut [u64], room: &mut [u64]) -> bool
     requires le_used { (1 ≤ used) × (used ≤ length (stored words.now tail.now)) × (length (stored words.now tail.now) ≤ word_bits * length bits.old) }
     requires largest_entry_in_bounds { largest_entry ≤ length room.old }
     ensures { Scanned (stored words.now tail.now) used bits.new result }
 {
     bitset::clear(bits);
+    // By its position: the step is how far the entries of the window went.
     let mut at = 1;
     while at < used {
-        let m = smaller(room.len(), used - at);
+        let m = room.len().min(used - at);
         source::gather(words, tail, at, m, room);
-        let r = run(words, tail, used, bits, &room[..m], at, 0);
-        let Reached::At(i) = r else {
+        let Some(i) = run(words, tail, used, bits, &room[..m], at, 0) else {
             return false;
         };
         if i == 0 {
@@ -592,45 +517,31 @@ pub const LARGE_MARKS: usize = 16384;
 
 pub const LARGE_LIST: usize = bitset::WORD_BITS * LARGE_MARKS;
 
+// Row 1 with so many words of bits, which stand in this frame. It is put into no other function, so that a small list needs little stack.
 #[inline(never)]
-fn verify_middle(words: &[u64]) -> bool
-    requires { min (length words.now) longest_allowed ≤ word_bits * 1024 }
+fn verify_with<const MARKS: usize>(words: &[u64]) -> bool
+    requires enough { min (length words.now) longest_allowed ≤ word_bits * MARKS }
+    requires few { MARKS ≤ longest_allowed }
     ensures { result ≡ well_formed words.now }
 {
-    let mut bits = [0u64; MIDDLE_MARKS];
+    let mut bits = [0u64; MARKS];
     verify(words, &mut bits)
-}
-
-#[inline(never)]
-fn verify_large(words: &[u64]) -> bool
-    ensures { result ≡ well_formed words.now }
-{
-    let mut bits = [0u64; LARGE_MARKS];
-    verify(words, &mut bits)
-}
-
-// Row 1 with bits for a list of n words: the list's length, or where that is more than twice as long as a store may be, half of it, and so on. Each size of the array of bits stands in the frame of a function of its own, which is put into no other, so that a small list needs
-// little stack.
-fn verify_for(n: usize, words: &[u64]) -> bool
-    requires { min (length words.now) longest_allowed ≤ n }
-    ensures { result ≡ well_formed words.now }
-{
-    if n <= SMALL_LIST {
-        let mut bits = [0u64; SMALL_MARKS];
-        return verify(words, &mut bits);
-    }
-    if n <= MIDDLE_LIST {
-        return verify_middle(words);
-    }
-    if n / 2 <= LARGE_LIST {
-        return verify_large(words);
-    }
-    verify_for(n / 2, words)
 }
 
 // Row 1.
+#[tactic(auto, using(crate::proofs::Limits::no_longer))]
 pub fn well_formed(words: &[u64]) -> bool
     ensures { result ≡ well_formed words.now }
 {
-    verify_for(words.len(), words)
+    let n = words.len();
+    if n > limits::LONGEST {
+        return false;
+    }
+    if n <= SMALL_LIST {
+        return verify_with::<SMALL_MARKS>(words);
+    }
+    if n <= MIDDLE_LIST {
+        return verify_with::<MIDDLE_MARKS>(words);
+    }
+    verify_with::<LARGE_MARKS>(words)
 }
