@@ -43,17 +43,17 @@ module _ (u index : List ℕ) (c : Covers u index) where
   empty_index z e = sym (rw (sym (to_none index z)) (found_none u e))
 
   module _ (some : length index / 2 ≡ 0 → ⊥) (e : List ℕ) where
-    pub chain_start : (b : ℕ) → b ≡ bucket_of (length index / 2) e → b < length index / 2 → Seek (take (indexed_to index) u) index e (get_or index b 0) 0
+    pub chain_start : (b : ℕ) → b ≡ bucket_of (length index / 2) e → b < length index / 2 → Seek (take (indexed_to index) u) index e (get_or index b 0) None
     chain_start b is l = rw is (seek_first (take k u) index e (omega (arith, k_long, c.low)) (c.indexed some) (rw is at l))
 
-  module _ (e : List ℕ) (at low : ℕ) (s : Seek (take (indexed_to index) u) index e at low) (some : at ≡ 0 → ⊥) where
+  module _ (e : List ℕ) (at : ℕ) (low : Option ℕ) (s : Seek (take (indexed_to index) u) index e at low) (some : at ≡ 0 → ⊥) where
     start : starts (take (indexed_to index) u) at ≡ true
     start = seek_starts (take k u) index e at low s some
 
     pub chain_starts : starts u at ≡ true
     chain_starts = starts_whole u k c.low c.high c.cut at start
 
-    pub chain_next : (t : Bool) → t ≡ eqs (take (size_of (get_or u at 0)) (drop at u)) e → (next : ℕ) → next ≡ cond t at low → Seek (take (indexed_to index) u) index e (get_or index (length index / 2 + at) 0 - 1) next
+    pub chain_next : (t : Bool) → t ≡ eqs (take (size_of (get_or u at 0)) (drop at u)) e → (next : Option ℕ) → next ≡ cond t (Some at) low → Seek (take (indexed_to index) u) index e (get_or index (length index / 2 + at) 0 - 1) next
     chain_next t same = seek_next (take k u) index e at low s some c.cut t (same ∙ ap (λ (w : List ℕ). eqs w e) (words_whole u k c.low c.high c.cut at start))
 
   module _ (full : fills 0 (drop 1 u) ≡ true) (e : List ℕ) (f : Option ℕ) (is : f ≡ find_in (take (indexed_to index) u) e) where

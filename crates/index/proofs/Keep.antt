@@ -75,9 +75,6 @@ module _ (ws : List ℕ) (used : ℕ) (index : List ℕ) (high : used ≤ length
   long : length (take used ws) ≡ used
   long = length-take-le used ws high
 
-  pub extend_none : length index / 2 < used → Opened (take used ws) index
-  extend_none out = record { covers = c; all = λ l. absurd (omega (arith, long)) }
-
   pub extend_first : used ≤ length index / 2 → (at : ℕ) → at ≡ indexed_to index → Built ws used index at
   extend_first room at to =
       let k = indexed_to index in

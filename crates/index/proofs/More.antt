@@ -26,10 +26,6 @@ pub length_added : (index : List ℕ) (at : ℕ) (e : List ℕ) → length (adde
 unfolding added
 length_added index at e = simp length-set
 
-pub added_is : (index : List ℕ) (at : ℕ) (e : List ℕ) (b : ℕ) → b ≡ bucket_of (length index / 2) e → set (set index (length index / 2 + at) (get_or index b 0 + 1)) b at ≡ added index at e
-unfolding added
-added_is index at e b is = rw is
-
 -- the index of rows, once a row is before them
 module _ (index : List ℕ) (rs : List Row) (at : ℕ) (e : List ℕ) (low : at < length index / 2) (x : Holds rs (length index / 2) index) where
   abbrev n : ℕ

@@ -1,15 +1,15 @@
 -- Where the words of an entry stand: in the used words, and in one of the two segments. Assumes nothing.
 use mathlib.Core.Path.{◌≡◌, sym, ap, subst, ◌∙◌}
-use mathlib.Core.Bool.{Bool, true}
+use mathlib.Core.Bool.{true}
 use mathlib.Core.Logic.{⊎_elim}
 use mathlib.Core.List.Memᴰ
 use mathlib.Core.List.{List, [], ◌∷◌, ◌++◌}
 use Prim.Native.Nat.{ℕ, zero, suc, pred, ◌+◌, ◌-◌, ◌≤◌, ◌<◌}
 use native.Mathlib.Omega.{arith}
-use native.Mathlib.Nat.{add-zero, add-sub_cancel_left}
+use native.Mathlib.Nat.{add-zero}
 use lib.ListN.{length, take, drop, get_or, length-take, length-drop}
 use lib.Seq.{drop-drop, get_or-drop, take-append-le, drop-append-le}
-use Rattle.words.specs.Words.{size_of, eqs, fills}
+use Rattle.words.specs.Words.{size_of, fills}
 use Rattle.words.specs.Table.{Row, rows, entries, starts, RowIn}
 use Rattle.words.specs.Ran.{Segments}
 use Rattle.words.proofs.Walk.{size_pos, long, take_slice}
@@ -98,11 +98,11 @@ module _ (old new : List ℕ) (used at : ℕ) (s : Segments old new used) (start
         (λ (i : RowIn r.0 (rows (length old) 0 (take (used - length old) new))). absurd (omega (arith, (rows_bound (length old) 0 (take (used - length old) new) r.0 i).0, r.2)))
         (Memᴰ.append_cases (entries old) m)
 
-    pub in_old : (e : List ℕ) (n : ℕ) (t : Bool) → n ≡ size_of (get_or old at 0) → t ≡ eqs (take ((at + n) - at) (drop at old)) e → t ≡ eqs (take (size_of (get_or (take used (old ++ new)) at 0)) (drop at (take used (old ++ new)))) e
-    in_old e n t size is =
+    pub in_old : take (size_of (get_or old at 0)) (drop at old) ≡ take (size_of (get_or (take used (old ++ new)) at 0)) (drop at (take used (old ++ new)))
+    in_old =
         let g : get_or old at 0 ≡ get_or u at 0 = in_first old new used at s.over first in
         let k : size_of (get_or u at 0) ≤ length (drop at old) = omega (arith, old_inside, length-drop at old, ap size_of g) in
-        is ∙ rw (words_here, add-sub_cancel_left, size, g, drop-append-le at old new (omega arith), take-append-le (size_of (get_or u at 0)) (drop at old) new k)
+        rw (words_here, g, drop-append-le at old new (omega arith), take-append-le (size_of (get_or u at 0)) (drop at old) new k)
 
   module _ (second : length old ≤ at) where
     new_word : get_or new (at - length old) 0 ≡ get_or (take used (old ++ new)) at 0
@@ -111,5 +111,5 @@ module _ (old new : List ℕ) (used at : ℕ) (s : Segments old new used) (start
     pub new_inside : (at - length old) + size_of (get_or new (at - length old) 0) ≤ length new
     new_inside = rw new_word (omega (arith, here.1, s.high))
 
-    pub in_new : (e : List ℕ) (n : ℕ) (t : Bool) → n ≡ size_of (get_or new (at - length old) 0) → t ≡ eqs (take (((at - length old) + n) - (at - length old)) (drop (at - length old) new)) e → t ≡ eqs (take (size_of (get_or (take used (old ++ new)) at 0)) (drop at (take used (old ++ new)))) e
-    in_new e n t size is = is ∙ rw (words_here, add-sub_cancel_left, size, new_word, drop_past old new at second)
+    pub in_new : take (size_of (get_or new (at - length old) 0)) (drop (at - length old) new) ≡ take (size_of (get_or (take used (old ++ new)) at 0)) (drop at (take used (old ++ new)))
+    in_new = rw (words_here, new_word, drop_past old new at second)

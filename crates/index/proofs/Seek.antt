@@ -2,7 +2,7 @@
 use mathlib.Core.Path.{◌≡◌, refl, sym, ap, ◌∙◌}
 use mathlib.Core.Bool.{Bool, true, false, cond}
 use mathlib.Core.List.{List, []}
-use Prim.Native.Nat.{ℕ, zero, suc, ◌+◌, ◌-◌, ◌/◌, ◌≤◌, ◌<◌}
+use Prim.Native.Nat.{ℕ, ◌+◌, ◌-◌, ◌/◌, ◌≤◌, ◌<◌}
 use native.Mathlib.Omega.{arith}
 use lib.ListN.{length, take, drop, get_or}
 use Rattle.words.specs.Words.{size_of, eqs, fills}
@@ -16,19 +16,14 @@ use Rattle.words.proofs.Handles.{row_starts}
 use Rattle.index.proofs.Place.{place}
 use Rattle.index.proofs.Split.{newest_low, nowhere_in, Split, split}
 
--- the lowest handle so far, 0: none
-unfoldable pub named : ℕ → Option ℕ
-named zero = None
-named (suc h) = Some (suc h)
-
--- The chain has come to `at`: what is left to search is `older`
-pub record Seek (u index e : List ℕ) (at low : ℕ) : Type 0 where
+-- The chain has come to `at`: what is left to search is `older`, and the lowest handle so far is `low`
+pub record Seek (u index e : List ℕ) (at : ℕ) (low : Option ℕ) : Type 0 where
   pub older : List Row
   pub falling : Falling (length u) older
   pub within : (r : Row) → RowIn r older → RowIn r (entries u)
   pub is : newest (length index / 2) (bucket_of (length index / 2) e) older ≡ at
   pub links : (h : ℕ) → 0 < h → h ≤ at → get_or index (length index / 2 + h) 0 ≡ link (length index / 2) h older
-  pub found : find_in u e ≡ or_else (lowest older e) (named low)
+  pub found : find_in u e ≡ or_else (lowest older e) low
   pub below : at < length index / 2
 
 module _ (u index e : List ℕ) where
@@ -38,8 +33,8 @@ module _ (u index e : List ℕ) where
   abbrev b : ℕ
   b = bucket_of (length index / 2) e
 
-  pub seek_first : 1 ≤ length u → Indexed u index → bucket_of (length index / 2) e < length index / 2 → Seek u index e (get_or index (bucket_of (length index / 2) e) 0) 0
-  unfolding find_in named
+  pub seek_first : 1 ≤ length u → Indexed u index → bucket_of (length index / 2) e < length index / 2 → Seek u index e (get_or index (bucket_of (length index / 2) e) 0) None
+  unfolding find_in
   seek_first low x l =
       let rs = newest_first [] (entries u) in
       let f = entries_fall u low in
@@ -55,28 +50,15 @@ module _ (u index e : List ℕ) where
         below = omega (arith, q, x.room);
       }
 
-  named_or : (t : Bool) (at low : ℕ) → 0 < at → or_else (one t at) (named low) ≡ named (cond t at low)
-  unfolding or_else named
-  named_or true zero low z = absurd (omega arith)
-  named_or true (suc at) low z = refl
-  named_or false at low z = refl
+  one_or : (t : Bool) (at : ℕ) (low : Option ℕ) → or_else (one t at) low ≡ cond t (Some at) low
+  unfolding or_else
+  one_or true at low = refl
+  one_or false at low = refl
 
-  name_of : (low : ℕ) → (low ≡ 0 → ⊥) → named low ≡ Some low
-  unfolding named
-  name_of zero q = absurd (q refl)
-  name_of (suc low) q = refl
-
-  module _ (at low : ℕ) (s : Seek u index e at low) where
-    seek_last : at ≡ 0 → find_in u e ≡ named low
+  module _ (at : ℕ) (low : Option ℕ) (s : Seek u index e at low) where
+    pub seek_last : at ≡ 0 → low ≡ find_in u e
     unfolding or_else
-    seek_last z = s.found ∙ rw (nowhere_in n b s.older s.falling (s.is ∙ z) e refl)
-
-    pub seek_nothing : at ≡ 0 → low ≡ 0 → None ≡ find_in u e
-    unfolding named
-    seek_nothing z q = sym (seek_last z ∙ rw q)
-
-    pub seek_at : at ≡ 0 → (low ≡ 0 → ⊥) → Some low ≡ find_in u e
-    seek_at z q = sym (seek_last z ∙ name_of low q)
+    seek_last z = sym (s.found ∙ rw (nowhere_in n b s.older s.falling (s.is ∙ z) e refl))
 
     module _ (some : at ≡ 0 → ⊥) where
       z : 0 < at
@@ -98,7 +80,7 @@ module _ (u index e : List ℕ) where
       pub seek_falls : get_or index (length index / 2 + at) 0 ≤ at
       seek_falls = omega (arith, here, newest_low n b cut.older cut.falling z)
 
-      pub seek_next : fills 0 (drop 1 u) ≡ true → (t : Bool) → t ≡ eqs (take (size_of (get_or u at 0)) (drop at u)) e → (next : ℕ) → next ≡ cond t at low → Seek u index e (get_or index (length index / 2 + at) 0 - 1) next
+      pub seek_next : fills 0 (drop 1 u) ≡ true → (t : Bool) → t ≡ eqs (take (size_of (get_or u at 0)) (drop at u)) e → (next : Option ℕ) → next ≡ cond t (Some at) low → Seek u index e (get_or index (length index / 2 + at) 0 - 1) next
       seek_next full t same next step =
           let r : Row = record { at = at; words = cut.words } in
           let p = place u full r (s.within r cut.row) in
@@ -111,8 +93,8 @@ module _ (u index e : List ℕ) where
             is = m;
             links = λ h p l. s.links h p (omega (arith, seek_falls)) ∙ cut.links h (omega (arith, seek_falls));
             found =
-                s.found ∙ ap (λ (f : Option ℕ). or_else f (named low)) (cut.search e refl)
-                ∙ or_assoc (lowest cut.older e) (one (eqs cut.words e) at) (named low)
-                ∙ ap (or_else (lowest cut.older e)) (rw same-words (named_or t at low z) ∙ ap named (sym step));
+                s.found ∙ ap (λ (f : Option ℕ). or_else f low) (cut.search e refl)
+                ∙ or_assoc (lowest cut.older e) (one (eqs cut.words e) at) low
+                ∙ ap (or_else (lowest cut.older e)) (rw same-words (one_or t at low) ∙ sym step);
             below = omega (arith, seek_falls, s.below);
           }

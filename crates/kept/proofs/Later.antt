@@ -55,6 +55,6 @@ name_right u bs s =
     let g = make u (name_entry bs) in
     let m = make_in u (name_entry bs) s.low s.full (name_sized bs) in
     let r : Row = record { at = g.handle; words = name_entry bs } in
-    let head : word g.words g.handle ≡ 65536 * length bs = entry_head g.words r m ∙ sym (head_word bs (length bs) refl) in
+    let head : word g.words g.handle ≡ 65536 * length bs = entry_head g.words r m ∙ head_word bs in
     let k : kind_of (word g.words g.handle) ≡ 0 = omega arith in
     record { start = and_both (starts g.words g.handle) true (row_starts (entries g.words) r m) refl; kinds = rw k }

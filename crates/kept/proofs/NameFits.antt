@@ -21,7 +21,7 @@ use Rattle.names.proofs.NameEntry.{name_length, head_word, later_word, name_size
 module _ (bs : List ℕ) where
   -- the head: kind, depth and number of bytes
   head : get_or (name_entry bs) 0 0 ≡ 65536 * length bs
-  head = sym (head_word bs (length bs) refl)
+  head = head_word bs
 
   is_name : kind (name_entry bs) ≡ 0
   is_name = omega (arith, head)
@@ -46,7 +46,7 @@ module _ (bs : List ℕ) where
         let r : length (drop p bs) ≡ n % 8 = omega (arith, length-drop p bs) in
         let le : length (drop p bs) ≤ 8 = omega arith in
         let w : of_bytes (drop p bs) ≡ of_bytes (take 8 (drop (8 * (i - 1)) bs)) = rw (m, take_all 8 (drop p bs) le) in
-        rw (sym (later_word bs i (of_bytes (drop p bs)) ne in-it w), sym r)
+        rw (later_word bs i ne in-it, sym w, sym r)
         (number_below (drop p bs) (λ j. rw (get_or-drop p bs j 0) (small (p + j))))
 
     filled : zero_filled (name_entry bs) ≡ true

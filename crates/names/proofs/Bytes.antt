@@ -1,14 +1,13 @@
 -- The bytes of a name, which is the lent text or the text in brackets. Assumes nothing.
 use mathlib.Core.Path.{◌≡◌, refl, sym, ap, ◌∙◌}
-use mathlib.Core.Bool.{Bool, true, false, not}
+use mathlib.Core.Bool.{Bool, true, false}
 use mathlib.Core.List.{List, [], ◌∷◌, ◌++◌}
 use Prim.Native.Nat.{ℕ, zero, suc, ◌+◌, ◌-◌, ◌≤◌}
 use native.Mathlib.Omega.{arith}
-use borrow.Author.Tests.{not-true, not-false, ltb-true, ltb-false}
-use lib.ListN.{length, take, drop, get_or, length-append, get_or-append, get_or-eq_default}
+use borrow.Author.Tests.{ltb-true, ltb-false}
+use lib.ListN.{length, get_or, length-append, get_or-append, get_or-eq_default}
 use lib.Seq.{get_or-append-add}
 use lib.Dec.{ltb}
-use Rattle.source.specs.Packed.{of_bytes}
 use Rattle.names.specs.Name.{wrapped}
 
 -- the closing bracket is the byte after the text's, and the others are as they were
@@ -27,43 +26,41 @@ elsewhere text i ne = go (ltb i (length text)) refl
         let k : length (text ++ (93 ∷ [])) ≤ i = omega (arith, length-append text (93 ∷ [])) in
         get_or-eq_default text 0 h ∙ sym (get_or-eq_default (text ++ (93 ∷ [])) 0 k)
 
-module _ (text : List ℕ) (wrap : Bool) where
-  -- how many they are
-  pub length_wrapped : wrap ≡ true → length text + 2 ≡ length (wrapped wrap text)
-  unfolding wrapped
-  length_wrapped w = rw w (omega (arith, length-append text (93 ∷ [])))
+-- how many they are
+pub length_wrapped : (text : List ℕ) (wrap : Bool) → wrap ≡ true → length (wrapped wrap text) ≡ length text + 2
+unfolding wrapped
+length_wrapped text wrap w = rw w (omega (arith, length-append text (93 ∷ [])))
 
-  pub length_plain : wrap ≡ false → length text ≡ length (wrapped wrap text)
-  unfolding wrapped
-  length_plain w = rw w
+pub length_plain : (text : List ℕ) (wrap : Bool) → wrap ≡ false → length (wrapped wrap text) ≡ length text
+unfolding wrapped
+length_plain text wrap w = rw w
 
-  -- each of them
-  pub plain : (i r : ℕ) → not wrap ≡ true → r ≡ get_or text i 0 → r ≡ get_or (wrapped wrap text) i 0
-  unfolding wrapped
-  plain i r w is = rw (not-true wrap w) is
+-- each of them
+pub plain : (text : List ℕ) (wrap : Bool) (i : ℕ) → wrap ≡ false → get_or (wrapped wrap text) i 0 ≡ get_or text i 0
+unfolding wrapped
+plain text wrap i w = rw w
 
-  module _ (w : not wrap ≡ false) where
-    pub opens : (i : ℕ) → i ≡ 0 → 91 ≡ get_or (wrapped wrap text) i 0
-    unfolding wrapped
-    opens i z = rw (not-false wrap w, z)
+pub opens : (text : List ℕ) (wrap : Bool) (i : ℕ) → wrap ≡ true → i ≡ 0 → ◌≡◌ {A = ℕ} (get_or (wrapped wrap text) i 0) 91
+unfolding wrapped
+opens text wrap i w z = rw (w, z)
 
-    pub closes : (i : ℕ) → (i ≡ 0 → ⊥) → i - 1 ≡ length text → 93 ≡ get_or (wrapped wrap text) i 0
-    unfolding wrapped
-    closes zero ne end = absurd (ne refl)
-    closes (suc i) ne end = rw (not-false wrap w) (at_end text i (omega arith))
+pub closes : (text : List ℕ) (wrap : Bool) (i : ℕ) → wrap ≡ true → (i ≡ 0 → ⊥) → i - 1 ≡ length text → ◌≡◌ {A = ℕ} (get_or (wrapped wrap text) i 0) 93
+unfolding wrapped
+closes text wrap zero w ne end = absurd (ne refl)
+closes text wrap (suc i) w ne end = rw w (sym (at_end text i (omega arith)))
 
-    pub between : (i r : ℕ) → (i ≡ 0 → ⊥) → (i - 1 ≡ length text → ⊥) → r ≡ get_or text (i - 1) 0 → r ≡ get_or (wrapped wrap text) i 0
-    unfolding wrapped
-    between zero r ne no_end is = absurd (ne refl)
-    between (suc i) r ne no_end is =
-        let k : suc i - 1 ≡ i = omega arith in
-        rw (not-false wrap w) (is ∙ ap (λ (n : ℕ). get_or text n 0) k ∙ elsewhere text i (λ e. no_end (k ∙ e)))
+pub between : (text : List ℕ) (wrap : Bool) (i : ℕ) → wrap ≡ true → (i ≡ 0 → ⊥) → (i - 1 ≡ length text → ⊥) → get_or (wrapped wrap text) i 0 ≡ get_or text (i - 1) 0
+unfolding wrapped
+between text wrap zero w ne no_end = absurd (ne refl)
+between text wrap (suc i) w ne no_end =
+    let k : suc i - 1 ≡ i = omega arith in
+    rw w (sym (ap (λ (n : ℕ). get_or text n 0) k ∙ elsewhere text i (λ e. no_end (k ∙ e))))
 
 pub length_most : (text : List ℕ) (wrap : Bool) → length (wrapped wrap text) ≤ length text + 2
 length_most text true = omega (arith, length_wrapped text true refl)
 length_most text false = omega (arith, length_plain text false refl)
 
 -- a text that is no array's is the name
-pub plain_word : (text : List ℕ) (wrap : Bool) (at r : ℕ) → not wrap ≡ true → r ≡ of_bytes (take 8 (drop at text)) → r ≡ of_bytes (take 8 (drop at (wrapped wrap text)))
+pub plain_word : (text : List ℕ) (wrap : Bool) → wrap ≡ false → wrapped wrap text ≡ text
 unfolding wrapped
-plain_word text wrap at r w is = rw (not-true wrap w) is
+plain_word text wrap w = rw w

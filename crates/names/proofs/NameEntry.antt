@@ -20,30 +20,24 @@ name_length bs = ap suc (length_packed ((length bs + 7) / 8) bs) ∙ omega arith
 pub name_most : (wrap : Bool) (text : List ℕ) → length text ≤ 65535 → length (name_entry (wrapped wrap text)) ≤ 8194
 name_most wrap text h = omega (arith, name_length (wrapped wrap text), length_most text wrap)
 
--- what `name_size`, `name_head` and `entry_word` give
-pub size_of_name : (bs : List ℕ) (n : ℕ) → n ≡ length bs → 1 + (n + 7) / 8 ≡ length (name_entry bs)
-size_of_name bs n is = rw is (sym (name_length bs))
-
-pub head_word : (bs : List ℕ) (n : ℕ) → n ≡ length bs → 65536 * n ≡ get_or (name_entry bs) 0 0
+-- its words
+pub head_word : (bs : List ℕ) → get_or (name_entry bs) 0 0 ≡ 65536 * length bs
 unfolding name_entry
-head_word bs n is = omega arith
+head_word bs = omega arith
 
-pub first_word : (bs : List ℕ) (i w : ℕ) → i ≡ 0 → w ≡ get_or (name_entry bs) 0 0 → w ≡ get_or (name_entry bs) i 0
-first_word bs i w z is = rw z is
-
-pub later_word : (bs : List ℕ) (i w : ℕ) → (i ≡ 0 → ⊥) → i < length (name_entry bs) → w ≡ of_bytes (take 8 (drop (8 * (i - 1)) bs)) → w ≡ get_or (name_entry bs) i 0
+pub later_word : (bs : List ℕ) (i : ℕ) → (i ≡ 0 → ⊥) → i < length (name_entry bs) → get_or (name_entry bs) i 0 ≡ of_bytes (take 8 (drop (8 * (i - 1)) bs))
 unfolding name_entry
-later_word bs zero w ne h is = absurd (ne refl)
-later_word bs (suc i) w ne h is =
+later_word bs zero ne h = absurd (ne refl)
+later_word bs (suc i) ne h =
     let k : suc i - 1 ≡ i = omega arith in
     let m : i < (length bs + 7) / 8 = omega (arith, length_packed ((length bs + 7) / 8) bs) in
-    is ∙ ap (λ (n : ℕ). of_bytes (take 8 (drop (8 * n) bs))) k ∙ sym (packed_word ((length bs + 7) / 8) i bs m)
+    packed_word ((length bs + 7) / 8) i bs m ∙ ap (λ (n : ℕ). of_bytes (take 8 (drop (8 * n) bs))) (sym k)
 
 -- an entry of a name has as many words as its head says
 pub name_sized : (bs : List ℕ) → HasSize (name_entry bs)
 name_sized bs =
     let w = get_or (name_entry bs) 0 0 in
-    let e : 65536 * length bs ≡ w = head_word bs (length bs) refl in
+    let e : w ≡ 65536 * length bs = head_word bs in
     let k : w % 256 ≡ 0 = omega arith in
     let n : w / 65536 ≡ length bs = omega arith in
     name_length bs ∙ sym (name_size w k ∙ rw n)

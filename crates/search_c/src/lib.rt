@@ -9,19 +9,17 @@ ghost use Rattle.words.specs.Table.{rows, entries, first_of, find_in};
 ghost use Rattle.words.specs.Made.{make};
 ghost use Rattle.words.specs.Ran.{Segments};
 ghost use Rattle.index.specs.Covers.{Covers, Opened};
-ghost use Rattle.names.specs.Name.{name_entry, wrapped, longest_text};
+ghost use Rattle.names.specs.Name.{name_entry, longest_text};
 ghost use Rattle.search_c.specs.Handle.{of_found, of_interned, Ready, Left, Told};
 
-use words::{Interned, Search, columns, kinds};
+use names::Name;
+use words::{Interned, Search, Wanted, columns, kinds};
 
 // A handle, 0 for nothing.
 fn of_found(f: Option<usize>) -> u64
     ensures { result ≡ of_found f }
 {
-    match f {
-        Some(h) => h as u64,
-        None => 0,
-    }
+    f.unwrap_or(0) as u64
 }
 
 // A handle, 0 where the entry did not fit.
@@ -63,8 +61,7 @@ pub extern "C" fn bench_find(words: &[u64], used: usize, entry: &[u64], index: &
     requires covers { Covers (take used words.now) index.now }
     ensures { result ≡ of_found (find_in (take used words.now) entry.now) }
 {
-    let none = [0u64; 0];
-    of_found(index::find(&none, words, used, entry, index))
+    of_found(index::find(&[], words, used, entry, index))
 }
 
 // The handle of an entry, which is appended where there is none; 0 where it does not fit. Word 0 stays as it is.
@@ -74,8 +71,7 @@ pub extern "C" fn bench_intern(words: &mut [u64], used: usize, entry: &[u64], in
     requires covers { Covers (take used words.old) index.now }
     ensures { Left used (make (take used words.old) entry.now) words.old words.new result }
 {
-    let none = [0u64; 0];
-    of_interned(index::intern(&none, words, used, entry, index))
+    of_interned(index::intern(&[], words, used, entry, index))
 }
 
 // The same for a name.
@@ -91,8 +87,7 @@ pub extern "C" fn bench_intern_name(
     requires covers { Covers (take used words.old) index.now }
     ensures { Left used (make (take used words.old) (name_entry name.now)) words.old words.new result }
 {
-    let none = [0u64; 0];
-    of_interned(names::intern_name(&none, words, used, name, false, index))
+    of_interned(names::intern_name(&[], words, used, name, false, index))
 }
 
 // ---- the search alone, with the number of entries not passed over
@@ -102,34 +97,38 @@ fn tell(s: Search, count: &mut u64) -> u64
     ensures { (result ≡ of_found s.found) × (count.new ≡ s.count) }
 {
     *count = s.count as u64;
-    let f = s.found;
-    of_found(f)
+    of_found(s.found)
 }
 
 // The lowest handle of an entry, 0 for nothing, by looking through all entries.
+#[tactic(auto, unfolding(words::specs::Table::entries))]
 #[unsafe(no_mangle)]
 pub extern "C" fn bench_search(words: &[u64], used: usize, entry: &[u64], count: &mut u64) -> u64
     requires { Segments [] words.now used }
     ensures { Told (entries (take used words.now)) entry.now result count.new }
 {
-    let none = [0u64; 0];
-    tell(words::find(&none, words, used, 1, entry), count)
+    tell(words::find(&[], words, used, 1, entry), count)
 }
 
 // The same for a name.
+#[tactic(auto, unfolding(words::specs::Table::entries, names::specs::Name::wrapped))]
 #[unsafe(no_mangle)]
 pub extern "C" fn bench_search_name(words: &[u64], used: usize, name: &[u8], count: &mut u64) -> u64
     requires segments { Segments [] words.now used }
     requires name_len_bound { length name.now ≤ longest_text }
     ensures { Told (entries (take used words.now)) (name_entry name.now) result count.new }
 {
-    let none = [0u64; 0];
-    tell(names::find_bytes(&none, words, used, 1, name, false), count)
+    let name = Name {
+        text: name,
+        wrap: false,
+    };
+    tell(words::find(&[], words, used, 1, name), count)
 }
 
 // ---- the search as it was before: each entry's size by one match, and each entry compared whole. The benchmark measures it beside the one above, in one run.
 
 // The number of words of an entry, from its head.
+#[tactic(auto, using(std::proofs::lemmas::Bool::Decides::nat_tests), unfolding(words::specs::Words::words_after, words::specs::Words::size_of))]
 fn size_before(head: u64) -> usize
     ensures { result ≡ size_of head }
 {
@@ -146,31 +145,15 @@ fn size_before(head: u64) -> usize
 }
 
 // The first entry equal to `entry` among those from `from` to `to`.
-fn look_before(words: &[u64], from: usize, to: usize, entry: &[u64]) -> Found
+fn look_before<W: Wanted>(words: &[u64], from: usize, to: usize, entry: W) -> Option<usize>
     requires { (to ≤ length words.now) × (fills 0 (slice from to words.now) ≡ true) }
-    ensures { result ≡ first_of (rows from 0 (slice from to words.now)) entry.now }
+    ensures { result ≡ first_of (rows from 0 (slice from to words.now)) (W.entry entry) }
 {
     let mut at = from;
+    // By its position, as in `words::pass_over`.
     while at < to {
         let n = size_before(words[at]);
-        if words::same(&words[at..at + n], entry) {
-            return Some(at);
-        }
-        at += n;
-    }
-    None
-}
-
-// The same for a name.
-fn look_name_before(words: &[u64], from: usize, to: usize, text: &[u8], wrap: bool) -> Found
-    requires to_in_bounds { (to ≤ length words.now) × (fills 0 (slice from to words.now) ≡ true) }
-    requires text_len_bound { length text.now ≤ longest_text }
-    ensures { result ≡ first_of (rows from 0 (slice from to words.now)) (name_entry (wrapped wrap text.now)) }
-{
-    let mut at = from;
-    while at < to {
-        let n = size_before(words[at]);
-        if names::same_name(&words[at..at + n], text, wrap) {
+        if entry.same(&words[at..at + n]) {
             return Some(at);
         }
         at += n;
@@ -179,6 +162,7 @@ fn look_name_before(words: &[u64], from: usize, to: usize, text: &[u8], wrap: bo
 }
 
 // The lowest handle of an entry, 0 for nothing.
+#[tactic(auto, unfolding(words::specs::Table::find_in, words::specs::Table::entries))]
 #[unsafe(no_mangle)]
 pub extern "C" fn bench_find_before(words: &[u64], used: usize, entry: &[u64]) -> u64
     requires { Segments [] words.now used }
@@ -188,11 +172,16 @@ pub extern "C" fn bench_find_before(words: &[u64], used: usize, entry: &[u64]) -
 }
 
 // The same for a name.
+#[tactic(auto, unfolding(words::specs::Table::find_in, words::specs::Table::entries, names::specs::Name::wrapped))]
 #[unsafe(no_mangle)]
 pub extern "C" fn bench_find_name_before(words: &[u64], used: usize, name: &[u8]) -> u64
     requires segments { Segments [] words.now used }
     requires name_len_bound { length name.now ≤ longest_text }
     ensures { result ≡ of_found (find_in (take used words.now) (name_entry name.now)) }
 {
-    of_found(look_name_before(words, 1, used, name, false))
+    let name = Name {
+        text: name,
+        wrap: false,
+    };
+    of_found(look_before(words, 1, used, name))
 }

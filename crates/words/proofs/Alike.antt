@@ -10,6 +10,7 @@ use lib.ListN.{length, drop, get_or, drop_of_length-le}
 use lib.Seq.{drop-cons}
 use lib.Dec.{eqb}
 use Rattle.std.specs.Prelude.{nat_eq}
+use Rattle.std.proofs.lemmas.List.{ext_get_or}
 use Rattle.std.specs.Cmp.Lexicographic.{pointwise}
 use Rattle.words.specs.Words.{eqs}
 
@@ -47,6 +48,17 @@ other_length [] [] h = absurd (h refl)
 other_length [] (y ∷ ys) h = refl
 other_length (x ∷ xs) [] h = refl
 other_length (x ∷ xs) (y ∷ ys) h = rw (← other_length xs ys (λ e. h (ap suc e))) (sym (and-false (eqb x y)))
+
+-- lists that differ at a place, and lists that differ at none
+pub differ_at : (a b : List ℕ) (i : ℕ) → (get_or a i 0 ≡ get_or b i 0 → ⊥) → eqs a b ≡ false
+differ_at a b i ne = go (eqs a b) refl
+  where
+    go : (t : Bool) → eqs a b ≡ t → t ≡ false
+    go true q = absurd (ne (ap (λ (l : List ℕ). get_or l i 0) (eqs_eq a b q)))
+    go false q = refl
+
+pub same_at_all : (a b : List ℕ) → length a ≡ length b → ((i : ℕ) → i < length a → get_or a i 0 ≡ get_or b i 0) → eqs a b ≡ true
+same_at_all a b long is = rw (ext_get_or 0 a b long is) (eqs_refl b)
 
 step : (a b : List ℕ) (i : ℕ) → i < length a → i < length b → eqs (drop i a) (drop i b) ≡ (eqb (get_or a i 0) (get_or b i 0) && eqs (drop (suc i) a) (drop (suc i) b))
 unfolding eqs

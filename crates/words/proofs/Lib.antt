@@ -16,4 +16,3 @@ pub mod Room
 pub mod Placed
 pub mod Kept
 pub mod Written
-pub mod Heading

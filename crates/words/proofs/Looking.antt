@@ -1,5 +1,5 @@
 -- The search in one segment: what a turn of `look` knows, whatever it compares the words with. Assumes nothing.
-use mathlib.Core.Path.{◌≡◌, refl, sym, ◌∙◌}
+use mathlib.Core.Path.{◌≡◌, sym, ◌∙◌}
 use mathlib.Core.Bool.{Bool, true, false, cond}
 use mathlib.Core.List.{List}
 use Prim.Native.Nat.{ℕ, ◌+◌, ◌-◌, ◌≤◌, ◌<◌}
@@ -24,9 +24,6 @@ pub record Looking (ws : List ℕ) (base from to : ℕ) (e : List ℕ) (at count
   pub answer : first_of (rows (base + from) 0 (slice from to ws)) e ≡ first_of (rows (base + at) 0 (slice at to ws)) e
   pub number : looked (rows (base + from) 0 (slice from to ws)) e ≡ count + looked (rows (base + at) 0 (slice at to ws)) e
   pub few : count ≤ at
-
-pub looking_first : (ws : List ℕ) (base from to : ℕ) (e : List ℕ) → fills 0 (slice from to ws) ≡ true → Looking ws base from to e from 0
-looking_first ws base from to e full = record { filled = full; answer = refl; number = omega arith; few = omega arith }
 
 module _ (ws : List ℕ) (base from to : ℕ) (e : List ℕ) (at count : ℕ) (l : Looking ws base from to e at count) where
   -- entries with another head were passed over

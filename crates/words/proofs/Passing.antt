@@ -87,3 +87,9 @@ module _ (ws : List ℕ) (from to head at : ℕ) (high : to ≤ length ws) (onwa
         here = λ l. absurd (omega arith);
         left = λ (base : ℕ). sym (left base ∙ rw (drop_of_length-le (take to ws) h));
       }
+
+-- where `pass_over` stopped before the end, an entry of that size ends before it
+pub stops_inside : (ws : List ℕ) (from to head r n : ℕ) → PassedOver ws from to head r → to ≤ length ws → n ≡ size_of head → r < to → (n ≡ size_of (get_or ws r 0)) × (r + n ≤ to) × (0 < n)
+stops_inside ws from to head r n p high size more =
+    let sized : n ≡ size_of (get_or ws r 0) = size ∙ ap size_of (sym (p.here more)) in
+    (sized, omega (arith, sized, inside ws to r high more p.filled), omega (arith, size_pos head))

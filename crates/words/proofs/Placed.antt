@@ -37,31 +37,32 @@ module _ (old new : List ℕ) (used : ℕ) (e : List ℕ) (s : Segments old new 
         words = rw long (sym (take-append-drop used (old ++ new)));
       })
 
-  module _ (gone : f ≡ None) where
+  -- where none is there, an entry of n words
+  module _ (gone : f ≡ None) (n : ℕ) (words : n ≡ length e) where
     abbrev at : ℕ
     at = used - length old
 
-    pub appended : (d : List ℕ) → length e ≤ length new - (used - length old)
+    pub appended : (d : List ℕ) → n ≤ length new - (used - length old)
         → d ≡ e ++ drop (length e) (take (length new - (used - length old)) (drop (used - length old) new))
-        → Ran used (make (take used (old ++ new)) e) (old ++ new) (old ++ put_mid (used - length old) (length new - (used - length old)) new d) (interned used (used + length e))
+        → Ran used (make (take used (old ++ new)) e) (old ++ new) (old ++ put_mid (used - length old) (length new - (used - length old)) new d) (interned used (used + n))
     appended d room eq =
-        let n : length (take used (old ++ new) ++ e) ≡ used + length e = length-append (take used (old ++ new)) e ∙ ap (λ (k : ℕ). k + length e) long in
+        let m : length (take used (old ++ new) ++ e) ≡ used + length e = length-append (take used (old ++ new)) e ∙ ap (λ (k : ℕ). k + length e) long in
         let h : length (drop at new) ≤ length new - at = omega (arith, length-drop at new) in
-        let m : (used + length e) - length old ≡ at + length e = omega (arith, s.over) in
+        let k : (used + length e) - length old ≡ at + length e = omega (arith, s.over) in
         let o : length old ≤ used + length e = omega (arith, s.over) in
-        rw (make_new (take used (old ++ new)) e (sym is ∙ gone))
+        rw (words, make_new (take used (old ++ new)) e (sym is ∙ gone))
         (fit _ _ _ _ _ _ record {
           handle = sym long;
-          end = sym n;
-          room = omega (arith, n, length-append old new, s.high, s.over);
-          words = rw (n, drop_past old new (used + length e) o, m, take_past old new used s.over, eq, take_all (length new - at) (drop at new) h, drop-drop (length e) at new, drop_of_length-le (drop at new) h, append-nil) (simp append_assoc);
+          end = sym m;
+          room = omega (arith, m, length-append old new, s.high, s.over);
+          words = rw (m, drop_past old new (used + length e) o, k, take_past old new used s.over, eq, take_all (length new - at) (drop at new) h, drop-drop (length e) at new, drop_of_length-le (drop at new) h, append-nil) (simp append_assoc);
         })
 
-    pub no_room : length new - (used - length old) < length e → Ran used (make (take used (old ++ new)) e) (old ++ new) (old ++ new) None
+    pub no_room : length new - (used - length old) < n → Ran used (make (take used (old ++ new)) e) (old ++ new) (old ++ new) None
     no_room out =
-        let n : length (take used (old ++ new) ++ e) ≡ used + length e = length-append (take used (old ++ new)) e ∙ ap (λ (k : ℕ). k + length e) long in
+        let m : length (take used (old ++ new) ++ e) ≡ used + length e = length-append (take used (old ++ new)) e ∙ ap (λ (k : ℕ). k + length e) long in
         rw (make_new (take used (old ++ new)) e (sym is ∙ gone))
-        (over _ _ _ _ (omega (arith, n, length-append old new, s.high, s.over)) refl)
+        (over _ _ _ _ (omega (arith, m, length-append old new, s.high, s.over)) refl)
 
 -- making an entry only adds
 pub make_extends : (u e : List ℕ) → Extends u (make u e).words

@@ -1,6 +1,6 @@
 -- The search from a position on, in two segments. Assumes nothing.
-use mathlib.Core.Path.{◌≡◌, sym, ap, ◌∙◌}
-use mathlib.Core.Bool.{true}
+use mathlib.Core.Path.{◌≡◌, refl, sym, ap, ◌∙◌}
+use mathlib.Core.Bool.{true, false}
 use mathlib.Core.List.{List, ◌++◌}
 use Prim.Native.Nat.{ℕ, ◌+◌, ◌-◌, ◌≤◌, ◌<◌}
 use native.Mathlib.Omega.{arith}
@@ -10,7 +10,7 @@ use Rattle.words.specs.Words.{fills}
 use Rattle.words.specs.Table.{rows, first_of}
 use Rattle.words.specs.Search.{not_passed_over, Searched}
 use Rattle.words.specs.Ran.{Segments, Tail}
-use Rattle.std.specs.Prelude.{Option, Some, None}
+use Rattle.std.specs.Prelude.{Option, Some, None, is_some}
 use Rattle.words.proofs.Join.{take_past, drop_past}
 use Rattle.words.proofs.Grow.{fills_append, rows_append, or_else, first_append}
 use Rattle.words.proofs.Counted.{looked, counted, searched_few, when_none, looked_append}
@@ -55,11 +55,22 @@ module _ (old new : List ℕ) (used from : ℕ) (s : Segments old new used) (t :
       found_all : (g : Option ℕ) → f ≡ g → first_of (rows from 0 (drop from (take used (old ++ new)))) e ≡ or_else g (first_of (rows (length old + 0) 0 (slice 0 (used - length old) new)) e)
       found_all g it = rw (split, first_append) (rw (sym is.answer ∙ it))
 
-      pub in_old : (h : ℕ) → f ≡ Some h → Searched (rows from 0 (drop from (take used (old ++ new)))) e f n
+      pub in_old : is_some f ≡ true → Searched (rows from 0 (drop from (take used (old ++ new)))) e f n
       unfolding or_else when_none
-      in_old h at = record { answer = at ∙ sym (found_all (Some h) at); number = omega (arith, looked_all (Some h) at) }
+      in_old y = go f refl y
+        where
+          go : (g : Option ℕ) → f ≡ g → is_some g ≡ true → Searched (rows from 0 (drop from (take used (old ++ new)))) e f n
+          go (Some h) at t = record { answer = at ∙ sym (found_all (Some h) at); number = omega (arith, looked_all (Some h) at) }
+          go None at t = let z : ◌≡◌ {A = ℕ} 0 1 = cc in absurd (omega arith)
 
-      module _ (none : f ≡ None) (g : Option ℕ) (m : ℕ) (it : Searched (rows (length old + 0) 0 (slice 0 (used - length old) new)) e g m) where
+      module _ (not : is_some f ≡ false) (g : Option ℕ) (m : ℕ) (it : Searched (rows (length old + 0) 0 (slice 0 (used - length old) new)) e g m) where
+        none : f ≡ None
+        none = go f not
+          where
+            go : (g : Option ℕ) → is_some g ≡ false → g ≡ None
+            go (Some h) t = let z : ◌≡◌ {A = ℕ} 0 1 = cc in absurd (omega arith)
+            go None t = refl
+
         pub count_few : n + m ≤ length old + length new
         count_few =
             omega (
@@ -71,11 +82,11 @@ module _ (old new : List ℕ) (used from : ℕ) (s : Segments old new used) (t :
               length-slice 0 (used - length old) new (omega (arith, s.high)),
             )
 
-        pub in_new : (r : Option ℕ) (k : ℕ) → r ≡ g → k ≡ n + m → Searched (rows from 0 (drop from (take used (old ++ new)))) e r k
+        pub in_new : Searched (rows from 0 (drop from (take used (old ++ new)))) e g (n + m)
         unfolding or_else when_none
-        in_new r k is-g is_sum = record {
-          answer = is-g ∙ it.answer ∙ sym (found_all None none);
-          number = is_sum ∙ sym (looked_all None none ∙ rw (it.number, counted (length old + 0) 0 (slice 0 (used - length old) new) e));
+        in_new = record {
+          answer = it.answer ∙ sym (found_all None none);
+          number = sym (looked_all None none ∙ rw (it.number, counted (length old + 0) 0 (slice 0 (used - length old) new) e));
         }
 
 -- from 1 on stand all entries

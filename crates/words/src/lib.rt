@@ -2,7 +2,7 @@
 // then `new`; entries are appended to `new` only.
 #![tactic(auto)]
 
-ghost use Rattle.std.specs.Prelude.{◌≡◌, true, ◌+◌, ◌-◌, ◌*◌, ◌^◌, ◌<◌, ◌≤◌, ◌∷◌, ◌++◌, length, take, drop, get_or, replicate};
+ghost use Rattle.std.specs.Prelude.{◌≡◌, true, ◌+◌, ◌^◌, ◌<◌, ◌≤◌, List, ℕ, ◌∷◌, ◌++◌, length, take, drop, get_or, replicate};
 ghost use Rattle.std.proofs.Math.Seq.{slice};
 ghost use Rattle.words.specs.Words.{words_after, size_of, eqs, fills};
 ghost use Rattle.words.specs.Table.{rows};
@@ -22,6 +22,7 @@ pub struct Search {
 }
 
 // The number of words of an entry whose n is 0, from its kind.
+#[tactic(auto, using(std::proofs::lemmas::Bool::Decides::nat_tests), unfolding(crate::specs::Words::words_after))]
 fn least_size(kind: u64) -> usize
     ensures { result ≡ 1 + words_after kind 0 }
 {
@@ -33,6 +34,7 @@ fn least_size(kind: u64) -> usize
 }
 
 // The number of words of an entry, from its head.
+#[tactic(auto, using(std::proofs::lemmas::Bool::Decides::nat_tests), unfolding(crate::specs::Words::words_after, crate::specs::Words::size_of))]
 pub fn size(head: u64) -> usize
     ensures { result ≡ size_of head }
 {
@@ -60,6 +62,16 @@ fn size_after(last: u64, n: usize, head: u64) -> usize
     size(head)
 }
 
+// The entry at a position.
+#[tactic(auto, using(crate::proofs::Walk::size_pos))]
+pub fn entry_at(words: &[u64], at: usize) -> &[u64]
+    requires { at + size_of (get_or words.now at 0) ≤ length words.now }
+    ensures { result.now ≡ take (size_of (get_or words.now at 0)) (drop at words.now) }
+{
+    let n = size(words[at]);
+    &words[at..at + n]
+}
+
 // Whether two lists of words are the same.
 #[tactic(auto, using(crate::proofs::Alike::pointwise_eqs))]
 pub fn same(a: &[u64], b: &[u64]) -> bool
@@ -82,19 +94,64 @@ pub fn word(old: &[u64], new: &[u64], used: usize, p: usize) -> u64
     0
 }
 
-// ---- the search: the head word is compared first, and an entry with another head is passed over
+// ---- what is looked for
 
-// An entry's head; 0 where it has no words.
-fn head_of(entry: &[u64]) -> u64
-    ensures { result ≡ get_or entry.now 0 0 }
-{
-    if entry.len() == 0 {
-        return 0;
-    }
-    entry[0]
+// An entry that is looked for or made: one whose words are lent, or one whose words are made one at a time of something else (`names::Name`).
+pub trait Wanted: Copy {
+    // its words
+    ghost entry: { Self → List ℕ };
+
+    // How many they are.
+    fn size(self) -> usize
+        ensures { result ≡ length (entry self) };
+
+    // The first, its head; 0 where it has none.
+    fn head(self) -> u64
+        ensures { result ≡ get_or (entry self) 0 0 };
+
+    // One of them.
+    fn word(self, i: usize) -> u64
+        requires { i < length (entry self) }
+        ensures { result ≡ get_or (entry self) i 0 };
+
+    // Whether a list of words is the same.
+    fn same(self, words: &[u64]) -> bool
+        ensures { result ≡ eqs words.now (entry self) };
+
+    // Fills the first words of `dst` with them.
+    fn write(self, dst: &mut [u64])
+        requires { length (entry self) ≤ length dst.old }
+        ensures { dst.new ≡ entry self ++ drop (length (entry self)) dst.old };
 }
 
+impl Wanted for &[u64] {
+    ghost entry = { λ s. s.now };
+
+    fn size(self) -> usize {
+        self.len()
+    }
+
+    fn head(self) -> u64 {
+        self.first().copied().unwrap_or(0)
+    }
+
+    fn word(self, i: usize) -> u64 {
+        self[i]
+    }
+
+    fn same(self, words: &[u64]) -> bool {
+        same(words, self)
+    }
+
+    fn write(self, dst: &mut [u64]) {
+        write(dst, self);
+    }
+}
+
+// ---- the search: the head word is compared first, and an entry with another head is passed over
+
 // Where the first entry with this head, which has this size, stands among those from `from` to `to`. The entries before it have another head and are passed over whole.
+#[tactic(auto, using(crate::proofs::Walk::inside, crate::proofs::Walk::size_pos, crate::proofs::Passing::stops))]
 pub fn pass_over(words: &[u64], from: usize, to: usize, head: u64, size: usize) -> usize
     requires { (to ≤ length words.now) × (fills 0 (slice from to words.now) ≡ true) × (size ≡ size_of head) }
     ensures { PassedOver words.now from to head result }
@@ -102,6 +159,7 @@ pub fn pass_over(words: &[u64], from: usize, to: usize, head: u64, size: usize) 
     let mut at = from;
     let mut last = head;
     let mut n = size;
+    // By its position: the step is the size of the entry there, so that no iterator fits.
     while at < to {
         let w = words[at];
         if w == head {
@@ -115,23 +173,21 @@ pub fn pass_over(words: &[u64], from: usize, to: usize, head: u64, size: usize) 
 }
 
 // The first entry equal to `entry` among those from `from` to `to` of one segment, whose first word is at position `base` of the store.
-fn look(words: &[u64], base: usize, from: usize, to: usize, entry: &[u64]) -> Search
+fn look<W: Wanted>(words: &[u64], base: usize, from: usize, to: usize, entry: W) -> Search
     requires { (to ≤ length words.now) × (base + length words.now < 2 ^ 63) × (fills 0 (slice from to words.now) ≡ true) }
-    ensures { Searched (rows (base + from) 0 (slice from to words.now)) entry.now result.found result.count }
+    ensures { Searched (rows (base + from) 0 (slice from to words.now)) (W.entry entry) result.found result.count }
 {
-    let head = head_of(entry);
+    let head = entry.head();
     let n = size(head);
     let mut at = from;
     let mut count = 0;
+    // By its position, as in `pass_over`.
     while at < to {
         at = pass_over(words, at, to, head, n);
         if to <= at {
-            return Search {
-                found: None,
-                count,
-            };
+            return Search { found: None, count };
         }
-        if same(&words[at..at + n], entry) {
+        if entry.same(&words[at..at + n]) {
             return Search {
                 found: Some(base + at),
                 count: count + 1,
@@ -140,39 +196,25 @@ fn look(words: &[u64], base: usize, from: usize, to: usize, entry: &[u64]) -> Se
         count += 1;
         at += n;
     }
-    Search {
-        found: None,
-        count,
-    }
-}
-
-// What a search tells where so many entries were not passed over before it.
-pub fn behind(before: usize, s: Search) -> Search
-    requires { before + s.count < 2 ^ 64 }
-    ensures { (result.found ≡ s.found) × (result.count ≡ before + s.count) }
-{
-    Search {
-        found: s.found,
-        count: before + s.count,
-    }
+    Search { found: None, count }
 }
 
 // The first entry equal to `entry` among those from `from` on; from 1 on, among all.
-pub fn find(old: &[u64], new: &[u64], used: usize, from: usize, entry: &[u64]) -> Search
+pub fn find<W: Wanted>(old: &[u64], new: &[u64], used: usize, from: usize, entry: W) -> Search
     requires { Segments old.now new.now used × Tail old.now (take used (old.now ++ new.now)) from }
-    ensures { Searched (rows from 0 (drop from (take used (old.now ++ new.now)))) entry.now result.found result.count }
+    ensures { Searched (rows from 0 (drop from (take used (old.now ++ new.now)))) (W.entry entry) result.found result.count }
 {
     if old.len() <= from {
         return look(new, old.len(), from - old.len(), used - old.len(), entry);
     }
     let first = look(old, 0, from, old.len(), entry);
-    let f = first.found;
-    match f {
-        Some(_) => first,
-        None => {
-            let second = look(new, old.len(), 0, used - old.len(), entry);
-            behind(first.count, second)
-        }
+    if first.found.is_some() {
+        return first;
+    }
+    let second = look(new, old.len(), 0, used - old.len(), entry);
+    Search {
+        found: second.found,
+        count: first.count + second.count,
     }
 }
 
