@@ -1,12 +1,11 @@
 // The lines about the list itself.
 #![tactic(auto)]
 
-mod remembered;
-
-ghost use Rattle.std.specs.Prelude.{◌≤◌};
-
-use replies::{Reply, arg, done, flag, is};
+use replies::Reply;
 use script::Answer;
+
+// How many words a list has at most.
+pub const WORDS: usize = 65536;
 
 // A line of a name and numbers.
 #[derive(Clone, Copy)]
@@ -39,7 +38,7 @@ pub enum Reading {
     Dump,
     DumpAll,
     Check,
-    // remembers it, all its words and its length
+    // remembers it
     Keep,
     // tells whether it is as it was then
     Kept,
@@ -47,155 +46,77 @@ pub enum Reading {
     FindEntry,
 }
 
-// ---- which line
-
-// The lines that close the list, and then the others.
 pub fn order_of(name: &[u8], a: &[u64]) -> Order {
-    let n = a.len();
-    let x = arg(a, 0);
-    let y = arg(a, 1);
-    if is(name, n, b"list", 1) {
-        return Order::Close(Closing::List(x, 0));
+    match (name, a) {
+        (b"list", &[n]) => Order::Close(Closing::List(n, 0)),
+        (b"list", &[n, value]) => Order::Close(Closing::List(n, value)),
+        (b"fresh", []) => Order::Close(Closing::Fresh),
+        (b"fresh", &[n]) => Order::Close(Closing::FreshIn(n)),
+        (b"poke", &[i, value]) => Order::Close(Closing::Poke(i, value)),
+        (b"close", []) => Order::Close(Closing::Close),
+        (b"open", []) => Order::Open,
+        (b"peek", &[i]) => Order::Read(Reading::Peek(i)),
+        (b"dump", []) => Order::Read(Reading::Dump),
+        (b"dumpall", []) => Order::Read(Reading::DumpAll),
+        (b"check", []) => Order::Read(Reading::Check),
+        (b"keep", []) => Order::Read(Reading::Keep),
+        (b"kept", []) => Order::Read(Reading::Kept),
+        // an entry has a word at least, its head
+        (b"find_entry", [_, ..]) => Order::Read(Reading::FindEntry),
+        _ => Order::Call,
     }
-    if is(name, n, b"list", 2) {
-        return Order::Close(Closing::List(x, y));
-    }
-    if is(name, n, b"fresh", 0) {
-        return Order::Close(Closing::Fresh);
-    }
-    if is(name, n, b"fresh", 1) {
-        return Order::Close(Closing::FreshIn(x));
-    }
-    if is(name, n, b"poke", 2) {
-        return Order::Close(Closing::Poke(x, y));
-    }
-    if is(name, n, b"close", 0) {
-        return Order::Close(Closing::Close);
-    }
-    others(name, a)
-}
-
-fn others(name: &[u8], a: &[u64]) -> Order {
-    let n = a.len();
-    if is(name, n, b"open", 0) {
-        return Order::Open;
-    }
-    if is(name, n, b"peek", 1) {
-        return Order::Read(Reading::Peek(arg(a, 0)));
-    }
-    if is(name, n, b"dump", 0) {
-        return Order::Read(Reading::Dump);
-    }
-    if is(name, n, b"dumpall", 0) {
-        return Order::Read(Reading::DumpAll);
-    }
-    if is(name, n, b"check", 0) {
-        return Order::Read(Reading::Check);
-    }
-    if is(name, n, b"keep", 0) {
-        return Order::Read(Reading::Keep);
-    }
-    if is(name, n, b"kept", 0) {
-        return Order::Read(Reading::Kept);
-    }
-    // an entry has a word at least, its head
-    if n != 0 {
-        if check::same(name, b"find_entry") {
-            return Order::Read(Reading::FindEntry);
-        }
-    }
-    Order::Call
 }
 
 // ---- lines that close
 
-// The length that a line gives the list, which has `len` words and room for `most`.
-pub fn length(closing: Closing, len: usize, most: usize) -> usize
-    requires { len ≤ most }
-    ensures { result ≤ most }
-{
+// Changes the list.
+pub fn change(closing: Closing, words: &mut Vec<u64>) -> Option<Reply> {
     match closing {
-        Closing::List(n, _) => within(n, len, most),
-        Closing::Fresh => len,
-        Closing::FreshIn(n) => within(n, len, most),
-        Closing::Poke(_, _) => len,
-        Closing::Close => len,
+        Closing::List(n, value) => {
+            renew(words, n, value)?;
+            Some(Answer::Accepted.into())
+        }
+        Closing::Fresh => Some(fresh_store::fresh(words).into()),
+        Closing::FreshIn(n) => {
+            renew(words, n, 0)?;
+            Some(fresh_store::fresh(words).into())
+        }
+        Closing::Poke(i, value) => {
+            *words.get_mut(usize::try_from(i).ok()?)? = value;
+            Some(Answer::Accepted.into())
+        }
+        Closing::Close => Some(Answer::Accepted.into()),
     }
 }
 
-fn within(wanted: u64, len: usize, most: usize) -> usize
-    requires { len ≤ most }
-    ensures { result ≤ most }
-{
-    if wanted <= most as u64 {
-        return wanted as usize;
+// Makes the list one of n words, each the value. One that is too long leaves it as it is.
+fn renew(words: &mut Vec<u64>, n: u64, value: u64) -> Option<()> {
+    let n = usize::try_from(n).ok()?;
+    if n > WORDS {
+        return None;
     }
-    len
-}
-
-// Changes the list, which has the length that the line gives it.
-pub fn change(closing: Closing, words: &mut [u64]) -> Reply {
-    match closing {
-        Closing::List(n, value) => list(words, n, value),
-        Closing::Fresh => done(fresh_store::fresh(words)),
-        Closing::FreshIn(n) => fresh(words, n),
-        Closing::Poke(i, value) => poke(words, i, value),
-        Closing::Close => Reply::Short(Answer::Accepted),
-    }
-}
-
-// A list of n words, each the value. It has that many already, unless there is no room for them.
-fn list(words: &mut [u64], n: u64, value: u64) -> Reply {
-    if words.len() as u64 != n {
-        return Reply::Malformed;
-    }
-    replies::fill(words, value);
-    Reply::Short(Answer::Accepted)
-}
-
-fn fresh(words: &mut [u64], n: u64) -> Reply {
-    if words.len() as u64 != n {
-        return Reply::Malformed;
-    }
-    replies::fill(words, 0);
-    done(fresh_store::fresh(words))
-}
-
-fn poke(words: &mut [u64], i: u64, value: u64) -> Reply {
-    if words.len() as u64 <= i {
-        return Reply::Malformed;
-    }
-    words[i as usize] = value;
-    Reply::Short(Answer::Accepted)
+    words.clear();
+    words.resize(n, value).ok()
 }
 
 // ---- lines that read
 
-// The line's numbers are `a`. What is remembered stands in `kept`: before the first `keep` zeros, which are the empty list.
-pub fn read(reading: Reading, a: &[u64], words: &[u64], kept: &mut [u64]) -> Reply {
+// The line's numbers are `a`. What is remembered is `kept`: before the first `keep` the empty list.
+pub fn read(reading: Reading, a: &[u64], words: &[u64], kept: &mut Vec<u64>) -> Option<Reply> {
     match reading {
-        Reading::Peek(i) => peek(words, i),
-        Reading::Dump => Reply::Used,
-        Reading::DumpAll => Reply::All,
-        Reading::Check => flag(wellformed::well_formed(words)),
-        Reading::Keep => remember(words, kept),
-        Reading::Kept => flag(remembered::is_kept(words, kept)),
-        Reading::FindEntry => Reply::Search(entry_search::find_entry(words, a)),
+        Reading::Peek(i) => {
+            let word = *words.get(usize::try_from(i).ok()?)?;
+            Some(Answer::Number(word).into())
+        }
+        Reading::Dump => Some(Reply::Used),
+        Reading::DumpAll => Some(Reply::All),
+        Reading::Check => Some(wellformed::well_formed(words).into()),
+        Reading::Keep => {
+            kept.clear();
+            kept.extend_from_slice(words).ok()?;
+            Some(Answer::Accepted.into())
+        }
+        Reading::Kept => Some((words == kept.as_slice()).into()),
+        Reading::FindEntry => Some(Reply::Search(entry_search::find_entry(words, a))),
     }
-}
-
-// A list that there is no room for is not remembered.
-fn remember(words: &[u64], kept: &mut [u64]) -> Reply {
-    if kept.len() <= words.len() {
-        return Reply::Malformed;
-    }
-    remembered::keep(words, kept);
-    Reply::Short(Answer::Accepted)
-}
-
-fn peek(words: &[u64], i: u64) -> Reply {
-    if words.len() as u64 <= i {
-        return Reply::Malformed;
-    }
-    Reply::Short(Answer::Number(words[i as usize]))
 }

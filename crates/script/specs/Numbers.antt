@@ -1,8 +1,6 @@
 -- What a word of a script says as a number: decimal, a negative one as its two's complement word, or 0x hex.
 -- A word is the list of its bytes.
-use Rattle.std.specs.Prelude.{Bool, true, cond, ◌&&◌, List, [], ◌∷◌, ℕ, ◌+◌, ◌-◌, ◌*◌, ◌%◌, ◌^◌, eqb, leb, ltb, length, get_or, drop}
-use Rattle.script.specs.declared.values.Value.{Value}
-use Rattle.script.specs.declared.values.Value.TheVariants.{Is, Bad}
+use Rattle.std.specs.Prelude.{Bool, true, cond, ◌&&◌, List, [], ◌∷◌, ℕ, ◌+◌, ◌-◌, ◌*◌, ◌%◌, ◌^◌, eqb, leb, ltb, length, get_or, drop, Option, Some, None}
 
 -- a byte lies between two, these included
 abbrev pub between : ℕ → ℕ → ℕ → Bool
@@ -51,21 +49,21 @@ value_from base sum [] = sum
 value_from base sum (b ∷ bs) = value_from base (sum * base + digit_of b) bs
 
 -- that value, where all bytes are digits and 64 bits hold it
-unfoldable pub summed : ℕ → ℕ → List ℕ → Value
+unfoldable pub summed : ℕ → ℕ → List ℕ → Option ℕ
 summed base sum bs =
-    cond (all_digits base bs && ltb (value_from base sum bs) (2 ^ 64)) (Is (value_from base sum bs)) Bad
+    cond (all_digits base bs && ltb (value_from base sum bs) (2 ^ 64)) (Some (value_from base sum bs)) None
 
 -- one to `most` digits in a base
-unfoldable pub unsigned_of : ℕ → ℕ → List ℕ → Value
-unsigned_of base most bs = cond (between 1 most (length bs)) (summed base 0 bs) Bad
+unfoldable pub unsigned_of : ℕ → ℕ → List ℕ → Option ℕ
+unsigned_of base most bs = cond (between 1 most (length bs)) (summed base 0 bs) None
 
 -- the two's complement of a magnitude of at most 2^63
-unfoldable pub negative_of : Value → Value
-negative_of (Is m) = cond (leb m (2 ^ 63)) (Is ((2 ^ 64 - m) % 2 ^ 64)) Bad
-negative_of Bad = Bad
+unfoldable pub negative_of : Option ℕ → Option ℕ
+negative_of (Some m) = cond (leb m (2 ^ 63)) (Some ((2 ^ 64 - m) % 2 ^ 64)) None
+negative_of None = None
 
 -- `-` and a magnitude; `0x` and 1 to 16 hex digits; else 1 to 20 decimal digits
-unfoldable pub number_of : List ℕ → Value
+unfoldable pub number_of : List ℕ → Option ℕ
 number_of word =
     cond (eqb (get_or word 0 0) dash) (negative_of (unsigned_of 10 20 (drop 1 word)))
     (cond (eqb (get_or word 0 0) digit0 && eqb (get_or word 1 0) small_x) (unsigned_of 16 16 (drop 2 word))

@@ -1,45 +1,32 @@
 // A text in hex: a pair of digits for each byte.
-ghost use Rattle.std.specs.Prelude.{◌≡◌, ◌<◌, length};
-ghost use Rattle.script.specs.Numbers.{digit_of};
-ghost use Rattle.script.specs.Words.{Within};
+use std::fmt;
 
-use crate::lines::Count;
-use crate::values::digit;
-
-// Puts the text that a word says at the start of out. A text that does not fit there counts as none.
-pub fn text(word: &[u8], out: &mut [u8]) -> Count
-    ensures { Within result (length out.new) }
-{
-    if word.len() % 2 != 0 {
-        return Count::Bad;
+// Puts the text that the one word behind a word says into `out`, and nothing else: the empty one where there is no word, and `None` where the word says none.
+pub fn text(rest: &[u8], out: &mut Vec<u8>) -> Option<()> {
+    out.clear();
+    let [b' ', word @ ..] = rest else {
+        return Some(());
+    };
+    if word.is_empty() || word.len() % 2 != 0 {
+        return None;
     }
-    let n = word.len() / 2;
-    if out.len() < n {
-        return Count::Bad;
+    for pair in word.chunks_exact(2) {
+        let high = char::from(pair[0]).to_digit(16)?;
+        let low = char::from(pair[1]).to_digit(16)?;
+        out.push((16 * high + low) as u8).ok()?;
     }
-    let mut i: usize = 0;
-    while i < n {
-        let high = digit(word[2 * i]);
-        if 16 <= high {
-            return Count::Bad;
-        }
-        let low = digit(word[2 * i + 1]);
-        if 16 <= low {
-            return Count::Bad;
-        }
-        out[i] = (16 * high + low) as u8;
-        i += 1;
-    }
-    Count::Of(n)
+    Some(())
 }
 
-// The hex digit, of the lower case, that says a number.
-pub fn hex(d: u8) -> u8
-    requires { d < 16 }
-    ensures { digit_of result ≡ d }
-{
-    if d < 10 {
-        return b'0' + d;
+// Bytes, two hex digits for each.
+#[derive(Clone, Copy)]
+pub struct Hex<'a>(pub &'a [u8]);
+
+impl fmt::Display for Hex<'_> {
+    fn fmt<W: fmt::Write>(&self, f: &mut fmt::Formatter<W>) -> fmt::Result {
+        for b in self.0 {
+            write!(f, "{b:02x}")?;
+        }
+        Ok(())
     }
-    b'a' - 10 + d
 }

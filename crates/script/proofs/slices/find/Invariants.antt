@@ -1,6 +1,0 @@
--- `script::find`: no byte that was passed is the one that is looked for.
-use Rattle.std.proofs.Common.{◌≡◌, ℕ, ◌<◌, ◌≤◌, get_or}
-use Rattle.script.proofs.slices.find.Given as goal
-
-abbrev pub invariant-loop-i : goal.invariant-loop-i
-invariant-loop-i l = (k : ℕ) → l.from ≤ k → k < l.i → get_or l.s k 0 ≡ l.byte → ⊥
