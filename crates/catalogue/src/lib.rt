@@ -93,8 +93,10 @@ fn stores_for(tail: &[u8]) -> bool
     }
 }
 
-// Fills a list with the store whose words behind the fresh ones are in `tail`, and zeroes its rest.
+// Fills a list with the store whose words behind the fresh ones are in `tail`, and zeroes its rest. It is put into no other function, so that its array is gone
+// where `load` tests the words.
 #[tactic(auto, using(wellformed::proofs::Tail::tail_length))]
+#[inline(never)]
 fn fill(words: &mut [u64], tail: &[u8])
     requires { (length (behind_fresh (unpacked tail.now)) ≤ length words.old) × (length words.old ≤ longest_allowed) }
     ensures { words.new ≡ loaded_store (unpacked tail.now) (length words.old) }
