@@ -20,9 +20,9 @@ every_behind s n p (x ∷ a) l =
     rw q (every_shift s n (p + length a) x (a ++ l) ∙ every_behind s n p a l)
 
 module _ (t : ℕ → Bool) (l : List ℕ) (n p : ℕ) (rest : List ℕ) (left : all t (every 4 n p l) ≡ all t (every 4 (length rest / 4) p rest)) where
-  pub apart_end : length rest < 4 → true ≡ all t (every 4 n p l)
+  pub fields_end : length rest < 4 → true ≡ all t (every 4 n p l)
   unfolding all every
-  apart_end h = let z : length rest / 4 ≡ 0 = omega arith in sym (left ∙ rw z)
+  fields_end h = let z : length rest / 4 ≡ 0 = omega arith in sym (left ∙ rw z)
 
   module _ (field more : List ℕ) (cut : rest ≡ field ++ more) (four : length field ≡ 4) (low : p < 4) where
     first : all t (every 4 n p l) ≡ (t (get_or field p 0) && all t (every 4 (length more / 4) p more))
@@ -35,11 +35,11 @@ module _ (t : ℕ → Bool) (l : List ℕ) (n p : ℕ) (rest : List ℕ) (left :
         let b : every 4 (length more / 4) (p + 4) rest ≡ every 4 (length more / 4) p more = rw cut (rw four at (every_behind 4 (length more / 4) p field more)) in
         left ∙ rw (every_first 4 (length rest / 4) p rest some, m, g, b)
 
-    pub apart_stop : t (get_or field p 0) ≡ false → false ≡ all t (every 4 n p l)
-    apart_stop e = sym (first ∙ rw e)
+    pub fields_stop : t (get_or field p 0) ≡ false → false ≡ all t (every 4 n p l)
+    fields_stop e = sym (first ∙ rw e)
 
-    pub apart_on : t (get_or field p 0) ≡ true → all t (every 4 n p l) ≡ all t (every 4 (length more / 4) p more)
-    apart_on e = first ∙ rw e
+    pub fields_on : t (get_or field p 0) ≡ true → all t (every 4 n p l) ≡ all t (every 4 (length more / 4) p more)
+    fields_on e = first ∙ rw e
 
     -- as a function's answer on a list of one says it
     module _ (a : Bool) (is : a ≡ all t (get_or field p 0 ∷ [])) where
@@ -52,7 +52,7 @@ module _ (t : ℕ → Bool) (l : List ℕ) (n p : ℕ) (rest : List ℕ) (left :
           go false = refl
 
       pub stop_one : a ≡ false → false ≡ all t (every 4 n p l)
-      stop_one e = apart_stop (sym (is ∙ one) ∙ e)
+      stop_one e = fields_stop (sym (is ∙ one) ∙ e)
 
       pub on_one : a ≡ true → all t (every 4 n p l) ≡ all t (every 4 (length more / 4) p more)
-      on_one e = apart_on (sym (is ∙ one) ∙ e)
+      on_one e = fields_on (sym (is ∙ one) ∙ e)

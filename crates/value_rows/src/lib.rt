@@ -1,11 +1,13 @@
-// The tests of rows 4 and 5 on values, which read no store. Each gives the number of the row, or 0.
+// The tests of rows 4 and 5 on values, which read no store.
 #![tactic(auto)]
 
 ghost use Rattle.std.specs.Prelude.{◌≡◌, not, length, nat_lt};
 ghost use Rattle.wellformed.specs.Entry.{most_counted, is_flag, float_ok};
+ghost use Rattle.call.specs.Refusals.{row_of};
 ghost use Rattle.call.specs.Call.{◌when◌};
 ghost use Rattle.makers.specs.Entries.{stored_size};
 
+use call::Refusal;
 use words::limits;
 
 pub fn float_rows(sz: u64, bits: u64) -> Result<(), Refusal>
