@@ -73,6 +73,7 @@ module _ (ws : List ℕ) where
 pub record Begun (ws : List ℕ) (used : ℕ) : Type 0 where
   pub ok : well_formed ws ≡ true
   pub is : used ≡ get_or ws 0 0
+  pub low : 0 < used
   pub some : 0 < length ws
   pub within : used ≤ length ws
   pub segments : Segments [] ws used
@@ -88,7 +89,7 @@ begun ws used is = go (well_formed ws) refl is
     go true e q =
         let t = tests ws e in
         let n : used ≡ get_or ws 0 0 = cc in
-        record { ok = e; is = n; some = omega (arith, t.least); within = omega (arith, t.within); segments = rw n (well_segments ws e); covers = covers_none (take used ws) [] (omega (arith, length-take-le used ws (omega (arith, t.within)), t.enough)) refl }
+        record { ok = e; is = n; low = omega (arith, t.enough); some = omega (arith, t.least); within = omega (arith, t.within); segments = rw n (well_segments ws e); covers = covers_none (take used ws) [] (omega (arith, length-take-le used ws (omega (arith, t.within)), t.enough)) refl }
 
 -- ---- the ways of a call that makes entries
 

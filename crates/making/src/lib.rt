@@ -102,7 +102,7 @@ fn float(old: &[u64], new: &mut [u64], used: usize, sz: u64, bits: u64, index: &
     requires covers { Covers (take used (old.now ++ new.old)) index.now }
     ensures { Runs (λ u. make u (float_entry (stored_size sz) bits)) old.now new.old used new.new result }
 {
-    let size = std::num::wrapping_add_u64(sz, wellformed::SIZE_ZERO);
+    let size = sz.wrapping_add(wellformed::SIZE_ZERO);
     let f = type_float::float_of(size, bits);
     makers::float(old, new, used, f, bits, index)
 }

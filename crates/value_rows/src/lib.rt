@@ -13,13 +13,14 @@ use words::limits;
 pub fn float_rows(sz: u64, bits: u64) -> Result<(), Refusal>
     ensures { row_of result ≡ (4 when not (float_ok (stored_size sz) bits)) }
 {
-    let size = std::num::wrapping_add_u64(sz, wellformed::SIZE_ZERO);
+    let size = sz.wrapping_add(wellformed::SIZE_ZERO);
     if !wellformed::float_ok(size, bits) {
         return Err(Refusal::WrongValue);
     }
     Ok(())
 }
 
+#[tactic(auto, using(crate::proofs::Rows::long_name, crate::proofs::Rows::short_name))]
 pub fn str_rows(text: &[u8]) -> Result<(), Refusal>
     ensures { row_of result ≡ (5 when nat_lt most_counted (length text.now)) }
 {
@@ -29,6 +30,7 @@ pub fn str_rows(text: &[u8]) -> Result<(), Refusal>
     Ok(())
 }
 
+#[tactic(auto, using(crate::proofs::Rows::no_flag, crate::proofs::Rows::a_flag))]
 pub fn bool_rows(value: u64) -> Result<(), Refusal>
     ensures { row_of result ≡ (4 when not (is_flag value)) }
 {
