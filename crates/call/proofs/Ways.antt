@@ -20,13 +20,14 @@ use Rattle.wellformed.specs.Form.{well_formed, used_words}
 use Rattle.wellformed.specs.Scan.{Verified}
 use Rattle.wellformed.proofs.Before.{tests, well_segments}
 use Rattle.std.proofs.Common.{Result, Ok, Err}
+use Rattle.std.specs.Result.{IsErrAnd}
 use Rattle.call.specs.declared.Answer.{Answer}
 use Rattle.call.specs.declared.Refusal.{Refusal}
 use Rattle.call.specs.declared.Refusal.TheVariants.{NoStore, NoRoom}
 use Rattle.call.specs.Refusals.{number_of, row_of}
 use Rattle.call.specs.Call.{Reply, refused, Outcome, left, made, answered, told, ◌when◌, settle, call, ask}
 use Rattle.call.specs.Steps.{row_1, Beginning, finish_in}
-use Rattle.call.proofs.Refusals.{numbered, row_turned}
+use Rattle.call.proofs.Refusals.{numbered, row_turned, handed_up}
 use Rattle.call.proofs.Zeros.{all_zero_is}
 
 -- ---- the end
@@ -52,6 +53,9 @@ module _ (ws : List ℕ) where
   row_some : well_formed ws ≡ true → row_1 ws ≡ Ok (get_or ws 0 0)
   unfolding row_1
   row_some e = rw e
+
+  pub row_passed : well_formed ws ≡ true → Ok (get_or ws 0 0) ≡ row_1 ws
+  row_passed e = sym (row_some e)
 
   -- word 0 may be read
   pub first_word : (t : Bool) → t ≡ well_formed ws → not t ≡ false → 0 < length ws
@@ -94,9 +98,9 @@ begun ws used is = go (well_formed ws) refl is
 -- ---- the ways of a call that makes entries
 
 module _ (rows : List ℕ → ℕ) (op : List ℕ → Grown) (ws : List ℕ) where
-  pub no_store : (r : Result ℕ Refusal) (e : Refusal) → r ≡ row_1 ws → r ≡ Err e → left (made (Err e)) ws ≡ call rows op ws
+  pub no_store : (r s : Result ℕ Refusal) (e : Refusal) → r ≡ row_1 ws → r ≡ Err e → IsErrAnd s (λ x. x ≡ e) → left (made s) ws ≡ call rows op ws
   unfolding call row_1
-  no_store r e is q = go (well_formed ws) refl (sym q ∙ is)
+  no_store r s e is q h = rw (handed_up s e h) (go (well_formed ws) refl (sym q ∙ is))
     where
       go : (t : Bool) → well_formed ws ≡ t → Err e ≡ cond t (Ok (get_or ws 0 0)) (Err NoStore) → left (refused (number_of e)) ws ≡ call rows op ws
       go false w q = let n : e ≡ NoStore = cc in rw (w, n)
@@ -106,11 +110,11 @@ module _ (rows : List ℕ → ℕ) (op : List ℕ → Grown) (ws : List ℕ) whe
     begin_call : Begun ws used
     begin_call = begun ws used is
 
-    pub turned : {T : Type 0} (r : Result T Refusal) (e : Refusal) → row_of r ≡ rows (take used ws) → r ≡ Err e → left (made (Err e)) ws ≡ call rows op ws
+    pub turned : {T : Type 0} (r : Result T Refusal) (s : Result ℕ Refusal) (e : Refusal) → row_of r ≡ rows (take used ws) → r ≡ Err e → IsErrAnd s (λ x. x ≡ e) → left (made s) ws ≡ call rows op ws
     unfolding call
-    turned r e q is' =
+    turned r s e q is' h =
         let n : rows (used_words ws) ≡ number_of e = rw begin_call.is at (row_turned r e _ is' q) in
-        rw (begin_call.ok, n, numbered e)
+        rw (handed_up s e h) (rw (begin_call.ok, n, numbered e))
 
     passed : rows (used_words ws) ≡ 0 → call rows op ws ≡ settle (12 when ltb (length ws) (length (op (used_words ws)).words)) (op (used_words ws)) ws
     unfolding call
@@ -144,9 +148,9 @@ module _ (rows : List ℕ → ℕ) (op : List ℕ → Grown) (ws : List ℕ) whe
 -- ---- the ways of a call that only reads
 
 module _ (rows : List ℕ → ℕ) (answer : List ℕ → Reply) (ws : List ℕ) where
-  pub unread : (r : Result ℕ Refusal) (e : Refusal) → r ≡ row_1 ws → r ≡ Err e → left (told (Err e)) ws ≡ ask rows answer ws
+  pub unread : (r : Result ℕ Refusal) (s : Result Answer Refusal) (e : Refusal) → r ≡ row_1 ws → r ≡ Err e → IsErrAnd s (λ x. x ≡ e) → left (told s) ws ≡ ask rows answer ws
   unfolding ask row_1
-  unread r e is q = go (well_formed ws) refl (sym q ∙ is)
+  unread r s e is q h = rw (handed_up s e h) (go (well_formed ws) refl (sym q ∙ is))
     where
       go : (t : Bool) → well_formed ws ≡ t → Err e ≡ cond t (Ok (get_or ws 0 0)) (Err NoStore) → left (refused (number_of e)) ws ≡ ask rows answer ws
       go false w q = let n : e ≡ NoStore = cc in rw (w, n)
@@ -156,11 +160,11 @@ module _ (rows : List ℕ → ℕ) (answer : List ℕ → Reply) (ws : List ℕ)
     begin_read : Begun ws used
     begin_read = begun ws used is
 
-    pub read_back : {T : Type 0} (r : Result T Refusal) (e : Refusal) → row_of r ≡ rows (take used ws) → r ≡ Err e → left (told (Err e)) ws ≡ ask rows answer ws
+    pub read_back : {T : Type 0} (r : Result T Refusal) (s : Result Answer Refusal) (e : Refusal) → row_of r ≡ rows (take used ws) → r ≡ Err e → IsErrAnd s (λ x. x ≡ e) → left (told s) ws ≡ ask rows answer ws
     unfolding ask
-    read_back r e q is' =
+    read_back r s e q is' h =
         let n : rows (used_words ws) ≡ number_of e = rw begin_read.is at (row_turned r e _ is' q) in
-        rw (begin_read.ok, n, numbered e)
+        rw (handed_up s e h) (rw (begin_read.ok, n, numbered e))
 
     pub answered_so : rows (take used ws) ≡ 0 → (a : Answer) → answered a ≡ answer (take used ws) → left (told (Ok a)) ws ≡ ask rows answer ws
     unfolding ask

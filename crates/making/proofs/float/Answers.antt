@@ -5,8 +5,8 @@ use Rattle.making.proofs.float.Goals as goal
 pub float_of-f-requires : goal.float_of-f-requires
 float_of-f-requires c = size_known _ _ c.requires.bits_value
 
-pub float-requires : goal.float-requires
-float-requires c = ?
+pub float-requires-clause-sz_value : goal.float-requires-clause-sz_value
+float-requires-clause-sz_value c = (size_fits _ _ c.requires.bits_value _ c.float_of-f.ensures.0, c.float_of-f.ensures.1)
 
 pub returns : goal.returns
 returns c = float_stored _ _ c.requires.bits_value _ c.float_of-f.ensures.0 _ c.float.ensures
