@@ -13,16 +13,16 @@ pub overflow_add-s : goal.overflow_add-s
 overflow_add-s c = omega (arith, kind_used is_struct c.args.s (as_cleared c.in-Name.is c.args.s c.requires), within c.requires)
 
 pub find-requires : goal.find-requires
-find-requires c = find_need _ _ _ _ (as_cleared c.in-Find.is c.args.s c.requires)
+find-requires c = let p = find_need _ _ _ _ (as_cleared c.in-Find.is c.args.s c.requires) in record { used_in_bounds = p.0; s_bound = p.1 }
 
 pub find_alias-requires : goal.find_alias-requires
-find_alias-requires c = alias_need _ _ _ _ (as_cleared c.in-FindAlias.is c.args.s c.requires)
+find_alias-requires c = let p = alias_need _ _ _ _ (as_cleared c.in-FindAlias.is c.args.s c.requires) in record { used_in_bounds = p.0; s_bound = p.1 }
 
 pub offset-requires : goal.offset-requires
-offset-requires c = offset_need _ _ _ _ (as_cleared c.in-Offset.is c.args.s c.requires)
+offset-requires c = let p = offset_need _ _ _ _ (as_cleared c.in-Offset.is c.args.s c.requires) in record { used_in_bounds = p.0; s_value = p.1 }
 
 pub offset-requires-in-AryBase : goal.offset-requires-in-AryBase
-offset-requires-in-AryBase c = base_need _ _ _ (as_cleared c.in-AryBase.is c.args.s c.requires)
+offset-requires-in-AryBase c = let p = base_need _ _ _ (as_cleared c.in-AryBase.is c.args.s c.requires) in record { used_in_bounds = p.0; s_value = p.1 }
 
 pub ary_scale-requires : goal.ary_scale-requires
 ary_scale-requires c = scale_need _ _ _ (as_cleared c.in-AryScale.is c.args.s c.requires)
