@@ -99,15 +99,3 @@ answer_of (Asking-variants.Struct of s) = of_struct_told of s
 -- what the output of a call that fills holds afterwards
 abbrev pub output_of : Filling → ℕ → List ℕ → List ℕ → List ℕ
 output_of filling s = filled_output (filling_rows filling s) (filled_words filling s)
-
--- for the functions alone
-abbrev pub is_refused : Reply → Bool
-is_refused (handle h) = false
-is_refused (number n) = false
-is_refused (flag b) = false
-is_refused accepted = false
-is_refused (refused n) = true
-is_refused (signed_number w) = false
-is_refused absent = false
-is_refused (constant_bits bits) = false
-is_refused (size_alone w) = false

@@ -4,15 +4,16 @@
 ghost use Rattle.std.specs.Prelude.{◌≡◌, not, cond, [], eqb, length, take};
 ghost use Rattle.index.specs.Covers.{Covers};
 ghost use Rattle.wellformed.specs.Entry.{is_flag};
-ghost use Rattle.call.specs.Call.{left, told, ◌when◌};
+ghost use Rattle.call.specs.Call.{left, answered, told, ◌when◌};
+ghost use Rattle.call.specs.Refusals.{row_of};
 ghost use Rattle.call.specs.Steps.{Marked};
 ghost use Rattle.lent_memory.specs.Memory.{Right};
 ghost use Rattle.every_call.specs.Run.{run};
 ghost use Rattle.every_call.specs.Cleared.{Cleared};
-ghost use Rattle.asking.specs.Asking.{asked_filling, rows_of, answer_of, output_of, is_refused};
+ghost use Rattle.asking.specs.Asking.{asked_filling, rows_of, answer_of, output_of};
 ghost use Rattle.wellformed.specs.FreshHandles.{int_zero, int_one};
 
-use call::Answer;
+use call::{Answer, Refusal};
 use of_types::OfType;
 use of_values::{OfFloat, OfInt};
 use struct_calls::{Filling, OfStruct};
@@ -32,10 +33,10 @@ pub enum Asking {
 
 // ---- rows
 
-// The number of the first row that applies, or 0.
-pub fn rows_of(words: &[u64], used: usize, bits: &[u64], asking: Asking) -> u8
+// The rows of each.
+pub fn rows_of(words: &[u64], used: usize, bits: &[u64], asking: Asking) -> Result<(), Refusal>
     requires { Marked words.now bits.now used }
-    ensures { result ≡ rows_of asking (take used words.now) }
+    ensures { row_of result ≡ rows_of asking (take used words.now) }
 {
     match asking {
         Asking::Kind(h) => rows::types_rows(words, used, bits, &[h]),
@@ -74,7 +75,7 @@ pub fn tell(
     requires cleared { Cleared (rows_of asking) [] words.now used }
     requires right { Right (take used words.now) memory.old }
     requires covers { Covers (take used words.now) index.now }
-    ensures result_value { told result ≡ answer_of asking (take used words.now) }
+    ensures result_value { answered result ≡ answer_of asking (take used words.now) }
     ensures right_2 { Right (take used words.now) memory.new }
 {
     let none = [0u64; 0];
@@ -95,27 +96,12 @@ pub fn tell(
 
 // ---- a call that fills a lent output
 
-fn is_refused(answer: Answer) -> bool
-    ensures { result ≡ is_refused (told answer) }
-{
-    match answer {
-        Answer::Handle(_) => false,
-        Answer::Number(_) => false,
-        Answer::Flag(_) => false,
-        Answer::Refused(_) => true,
-        Answer::Signed(_) => false,
-        Answer::Absent => false,
-        Answer::Constant(_) => false,
-        Answer::Size(_) => false,
-    }
-}
-
 // Fills the output of a call that was answered so, unless it was refused.
-pub fn fill(words: &[u64], filling: Filling, s: u64, answer: Answer, output: &mut [u64])
+pub fn fill(words: &[u64], filling: Filling, s: u64, answer: Result<Answer, Refusal>, output: &mut [u64])
     requires { left (told answer) words.now ≡ run (asked_filling filling s (length output.old)) words.now }
     ensures { output.new ≡ output_of filling s words.now output.old }
 {
-    if is_refused(answer) {
+    if answer.is_err() {
         return;
     }
     struct_calls::fill(words, words[0] as usize, filling, s, output);

@@ -20,19 +20,25 @@ use Rattle.index.proofs.Keep.{covers_none}
 use Rattle.wellformed.specs.Form.{well_formed, used_words}
 use Rattle.wellformed.specs.Scan.{Verified}
 use Rattle.wellformed.proofs.Before.{tests, well_segments}
-use Rattle.call.specs.Call.{Reply, refused, Outcome, left, made, ◌when◌, settle, call, ask}
-use Rattle.call.specs.Steps.{used_of, Beginning, finish_in}
-use Rattle.call.specs.declared.Made.TheVariants.{Handle, Refused}
+use Rattle.std.proofs.Common.{Result, Ok, Err}
+use Rattle.std.specs.Result.{IsErrAnd}
+use Rattle.call.specs.declared.Answer.{Answer}
+use Rattle.call.specs.declared.Refusal.{Refusal}
+use Rattle.call.specs.declared.Refusal.TheVariants.{NoStore, NoRoom}
+use Rattle.call.specs.Refusals.{number_of, row_of}
+use Rattle.call.specs.Call.{Reply, refused, Outcome, left, made, answered, told, ◌when◌, settle, call, ask}
+use Rattle.call.specs.Steps.{row_1, Beginning, finish_in}
+use Rattle.call.proofs.Refusals.{numbered, row_turned, handed_up}
 use Rattle.call.proofs.Zeros.{all_zero_is}
 
 -- ---- the end
 
 module _ (used : ℕ) (ws : List ℕ) (r : Option Interned) where
-  pub fin_at : (h end : ℕ) → r ≡ interned h end → left (made (Handle h)) (set ws 0 end) ≡ finish_in used r ws
+  pub fin_at : (h end : ℕ) → r ≡ interned h end → left (made (Ok h)) (set ws 0 end) ≡ finish_in used r ws
   unfolding finish_in
   fin_at h end is = rw is
 
-  pub fin_full : r ≡ None → (d : List ℕ) → d ≡ replicate (length (take (length ws - used) (drop used ws))) 0 → left (made (Refused 12)) (put_mid used (length ws - used) ws d) ≡ finish_in used r ws
+  pub fin_full : r ≡ None → (d : List ℕ) → d ≡ replicate (length (take (length ws - used) (drop used ws))) 0 → left (made (Err NoRoom)) (put_mid used (length ws - used) ws d) ≡ finish_in used r ws
   unfolding finish_in
   fin_full is d e =
       let h : length (drop used ws) ≤ length ws - used = omega (arith, length-drop used ws) in
@@ -41,31 +47,30 @@ module _ (used : ℕ) (ws : List ℕ) (r : Option Interned) where
 -- ---- the beginning
 
 module _ (ws : List ℕ) where
-  used_none : well_formed ws ≡ false → used_of ws ≡ 0
-  unfolding used_of
-  used_none e = rw e
+  row_none : well_formed ws ≡ false → row_1 ws ≡ Err NoStore
+  unfolding row_1
+  row_none e = rw e
 
-  used_some : well_formed ws ≡ true → used_of ws ≡ get_or ws 0 0
-  unfolding used_of
-  used_some e = rw e
+  row_some : well_formed ws ≡ true → row_1 ws ≡ Ok (get_or ws 0 0)
+  unfolding row_1
+  row_some e = rw e
 
-  pub none_used : (t : Bool) → t ≡ well_formed ws → not t ≡ true → 0 ≡ used_of ws
-  none_used t is n = sym (used_none (sym is ∙ not-true t n))
-
-  pub some_used : (t : Bool) → t ≡ well_formed ws → not t ≡ false → get_or ws 0 0 ≡ used_of ws
-  some_used t is y = sym (used_some (sym is ∙ not-false t y))
+  pub row_passed : well_formed ws ≡ true → Ok (get_or ws 0 0) ≡ row_1 ws
+  row_passed e = sym (row_some e)
 
   -- word 0 may be read
   pub first_word : (t : Bool) → t ≡ well_formed ws → not t ≡ false → 0 < length ws
   first_word t is y = omega (arith, (tests ws (sym is ∙ not-false t y)).least)
 
-  pub no_opening : (bits : List ℕ) (t : Bool) → Verified ws bits t → not t ≡ true → Beginning ws bits 0
-  no_opening bits t o n = record { is = none_used t o.is n; ready = λ z. absurd (z refl) }
+  pub no_opening : (bits : List ℕ) (t : Bool) → Verified ws bits t → not t ≡ true → Beginning ws bits (Err NoStore)
+  no_opening bits t o n = record { is = sym (row_none (sym o.is ∙ not-true t n)); ready = λ used z. absurd (cc) }
 
-  pub an_opening : (bits : List ℕ) (t : Bool) → Verified ws bits t → not t ≡ false → Beginning ws bits (get_or ws 0 0)
+  pub an_opening : (bits : List ℕ) (t : Bool) → Verified ws bits t → not t ≡ false → Beginning ws bits (Ok (get_or ws 0 0))
   an_opening bits t o y = record {
-    is = some_used t o.is y;
-    ready = λ z. record { within = (tests ws (sym o.is ∙ not-false t y)).within; marks = o.marks (not-false t y) };
+    is = sym (row_some (sym o.is ∙ not-false t y));
+    ready = λ used z.
+        let e : get_or ws 0 0 ≡ used = cc in
+        rw (← e) (record { within = (tests ws (sym o.is ∙ not-false t y)).within; marks = o.marks (not-false t y) });
   }
 
 -- ---- what is known past row 1
@@ -73,41 +78,44 @@ module _ (ws : List ℕ) where
 pub record Begun (ws : List ℕ) (used : ℕ) : Type 0 where
   pub ok : well_formed ws ≡ true
   pub is : used ≡ get_or ws 0 0
+  pub low : 0 < used
   pub some : 0 < length ws
   pub within : used ≤ length ws
   pub segments : Segments [] ws used
   -- without an index
   pub covers : Covers (take used ws) []
 
-pub begun : (ws : List ℕ) (used : ℕ) → used ≡ used_of ws → (used ≡ 0 → ⊥) → Begun ws used
-unfolding used_of
-begun ws used is ne = go (well_formed ws) refl is
+pub begun : (ws : List ℕ) (used : ℕ) → Ok used ≡ row_1 ws → Begun ws used
+unfolding row_1
+begun ws used is = go (well_formed ws) refl is
   where
-    go : (t : Bool) → well_formed ws ≡ t → used ≡ cond t (get_or ws 0 0) 0 → Begun ws used
-    go false e q = absurd (ne q)
+    go : (t : Bool) → well_formed ws ≡ t → Ok used ≡ cond t (Ok (get_or ws 0 0)) (Err NoStore) → Begun ws used
+    go false e q = absurd (cc)
     go true e q =
         let t = tests ws e in
-        record { ok = e; is = q; some = omega (arith, t.least); within = omega (arith, t.within); segments = rw q (well_segments ws e); covers = covers_none (take used ws) [] (omega (arith, length-take-le used ws (omega (arith, t.within)), t.enough)) refl }
+        let n : used ≡ get_or ws 0 0 = cc in
+        record { ok = e; is = n; low = omega (arith, t.enough); some = omega (arith, t.least); within = omega (arith, t.within); segments = rw n (well_segments ws e); covers = covers_none (take used ws) [] (omega (arith, length-take-le used ws (omega (arith, t.within)), t.enough)) refl }
 
 -- ---- the ways of a call that makes entries
 
-module _ (rows : List ℕ → ℕ) (op : List ℕ → Grown) (ws : List ℕ) (used : ℕ) (is : used ≡ used_of ws) where
-  pub no_store : used ≡ 0 → left (made (Refused 1)) ws ≡ call rows op ws
-  unfolding call used_of
-  no_store z = go (well_formed ws) refl (sym z ∙ is)
+module _ (rows : List ℕ → ℕ) (op : List ℕ → Grown) (ws : List ℕ) where
+  pub no_store : (r s : Result ℕ Refusal) (e : Refusal) → r ≡ row_1 ws → r ≡ Err e → IsErrAnd s (λ x. x ≡ e) → left (made s) ws ≡ call rows op ws
+  unfolding call row_1
+  no_store r s e is q h = rw (handed_up s e h) (go (well_formed ws) refl (sym q ∙ is))
     where
-      go : (t : Bool) → well_formed ws ≡ t → 0 ≡ cond t (get_or ws 0 0) 0 → left (refused 1) ws ≡ call rows op ws
-      go false e q = rw e
-      go true e q = absurd (omega (arith, (tests ws e).enough))
+      go : (t : Bool) → well_formed ws ≡ t → Err e ≡ cond t (Ok (get_or ws 0 0)) (Err NoStore) → left (refused (number_of e)) ws ≡ call rows op ws
+      go false w q = let n : e ≡ NoStore = cc in rw (w, n)
+      go true w q = absurd (cc)
 
-  module _ (ne : used ≡ 0 → ⊥) where
+  module _ (used : ℕ) (is : Ok used ≡ row_1 ws) where
     begin_call : Begun ws used
-    begin_call = begun ws used is ne
+    begin_call = begun ws used is
 
-    pub turned : (n : ℕ) → n ≡ rows (take used ws) → (n ≡ 0 → ⊥) → left (made (Refused n)) ws ≡ call rows op ws
+    pub turned : {T : Type 0} (r : Result T Refusal) (s : Result ℕ Refusal) (e : Refusal) → row_of r ≡ rows (take used ws) → r ≡ Err e → IsErrAnd s (λ x. x ≡ e) → left (made s) ws ≡ call rows op ws
     unfolding call
-    turned zero q z = absurd (z refl)
-    turned (suc n) q z = let r : rows (used_words ws) ≡ suc n = rw begin_call.is at (sym q) in rw (begin_call.ok, r)
+    turned r s e q is' h =
+        let n : rows (used_words ws) ≡ number_of e = rw begin_call.is at (row_turned r e _ is' q) in
+        rw (handed_up s e h) (rw (begin_call.ok, n, numbered e))
 
     passed : rows (used_words ws) ≡ 0 → call rows op ws ≡ settle (12 when ltb (length ws) (length (op (used_words ws)).words)) (op (used_words ws)) ws
     unfolding call
@@ -142,27 +150,28 @@ module _ (rows : List ℕ → ℕ) (op : List ℕ → Grown) (ws : List ℕ) (us
 
 -- ---- the ways of a call that only reads
 
-module _ (rows : List ℕ → ℕ) (answer : List ℕ → Reply) (ws : List ℕ) (used : ℕ) (is : used ≡ used_of ws) where
-  pub unread : used ≡ 0 → left (refused 1) ws ≡ ask rows answer ws
-  unfolding ask used_of
-  unread z = go (well_formed ws) refl (sym z ∙ is)
+module _ (rows : List ℕ → ℕ) (answer : List ℕ → Reply) (ws : List ℕ) where
+  pub unread : (r : Result ℕ Refusal) (s : Result Answer Refusal) (e : Refusal) → r ≡ row_1 ws → r ≡ Err e → IsErrAnd s (λ x. x ≡ e) → left (told s) ws ≡ ask rows answer ws
+  unfolding ask row_1
+  unread r s e is q h = rw (handed_up s e h) (go (well_formed ws) refl (sym q ∙ is))
     where
-      go : (t : Bool) → well_formed ws ≡ t → 0 ≡ cond t (get_or ws 0 0) 0 → left (refused 1) ws ≡ ask rows answer ws
-      go false e q = rw e
-      go true e q = absurd (omega (arith, (tests ws e).enough))
+      go : (t : Bool) → well_formed ws ≡ t → Err e ≡ cond t (Ok (get_or ws 0 0)) (Err NoStore) → left (refused (number_of e)) ws ≡ ask rows answer ws
+      go false w q = let n : e ≡ NoStore = cc in rw (w, n)
+      go true w q = absurd (cc)
 
-  module _ (ne : used ≡ 0 → ⊥) where
+  module _ (used : ℕ) (is : Ok used ≡ row_1 ws) where
     begin_read : Begun ws used
-    begin_read = begun ws used is ne
+    begin_read = begun ws used is
 
-    pub read_back : (n : ℕ) → n ≡ rows (take used ws) → (n ≡ 0 → ⊥) → left (refused n) ws ≡ ask rows answer ws
+    pub read_back : {T : Type 0} (r : Result T Refusal) (s : Result Answer Refusal) (e : Refusal) → row_of r ≡ rows (take used ws) → r ≡ Err e → IsErrAnd s (λ x. x ≡ e) → left (told s) ws ≡ ask rows answer ws
     unfolding ask
-    read_back zero q z = absurd (z refl)
-    read_back (suc n) q z = let n₁ : rows (used_words ws) ≡ suc n = rw begin_read.is at (sym q) in rw (begin_read.ok, n₁)
+    read_back r s e q is' h =
+        let n : rows (used_words ws) ≡ number_of e = rw begin_read.is at (row_turned r e _ is' q) in
+        rw (handed_up s e h) (rw (begin_read.ok, n, numbered e))
 
-    pub answered : rows (take used ws) ≡ 0 → (a : Reply) → a ≡ answer (take used ws) → left a ws ≡ ask rows answer ws
+    pub answered_so : rows (take used ws) ≡ 0 → (a : Answer) → answered a ≡ answer (take used ws) → left (told (Ok a)) ws ≡ ask rows answer ws
     unfolding ask
-    answered q a e =
+    answered_so q a e =
         let q' : rows (used_words ws) ≡ 0 = rw begin_read.is at q in
-        let a₁ : answer (used_words ws) ≡ a = rw begin_read.is at (sym e) in
+        let a₁ : answer (used_words ws) ≡ answered a = rw begin_read.is at (sym e) in
         rw (begin_read.ok, q', a₁)

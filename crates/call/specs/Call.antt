@@ -1,13 +1,11 @@
 -- Document 01, "Calls turned back": the shape that every call on a store has.
-use Rattle.std.specs.Prelude.{Bool, true, false, not, List, ◌++◌, ℕ, zero, suc, length, drop, set, ltb}
+use Rattle.std.specs.Prelude.{Bool, true, false, not, List, ◌++◌, ℕ, zero, suc, length, drop, set, ltb, ⊤, Result, Ok, Err}
 use Rattle.words.specs.Made.{Grown}
 use Rattle.wellformed.specs.Form.{well_formed, used_words}
-use Rattle.call.specs.declared.Made.{Made}
-use Rattle.call.specs.declared.Made.TheVariants as Made-variants
 use Rattle.call.specs.declared.Answer.{Answer}
 use Rattle.call.specs.declared.Answer.TheVariants as Answer-variants
-use Rattle.call.specs.declared.Done.{Done}
-use Rattle.call.specs.declared.Done.TheVariants as Done-variants
+use Rattle.call.specs.declared.Refusal.{Refusal}
+use Rattle.call.specs.Refusals.{number_of}
 
 -- ---- what a call answers, and what it leaves
 
@@ -33,23 +31,26 @@ abbrev pub left : Reply → List ℕ → Outcome
 left r ws = record { reply = r; words = ws }
 
 -- the reply that each answer of a function stands for
-abbrev pub made : Made → Reply
-made (Made-variants.Handle h) = handle h
-made (Made-variants.Refused n) = refused n
+abbrev pub made : Result ℕ Refusal → Reply
+made (Ok h) = handle h
+made (Err e) = refused (number_of e)
 
-abbrev pub told : Answer → Reply
-told (Answer-variants.Handle h) = handle h
-told (Answer-variants.Number n) = number n
-told (Answer-variants.Flag b) = flag b
-told (Answer-variants.Refused n) = refused n
-told (Answer-variants.Signed w) = signed_number w
-told Answer-variants.Absent = absent
-told (Answer-variants.Constant bits) = constant_bits bits
-told (Answer-variants.Size w) = size_alone w
+abbrev pub answered : Answer → Reply
+answered (Answer-variants.Handle h) = handle h
+answered (Answer-variants.Number n) = number n
+answered (Answer-variants.Flag b) = flag b
+answered (Answer-variants.Signed w) = signed_number w
+answered Answer-variants.Absent = absent
+answered (Answer-variants.Constant bits) = constant_bits bits
+answered (Answer-variants.Size w) = size_alone w
 
-abbrev pub done : Done → Reply
-done Done-variants.Accepted = accepted
-done (Done-variants.Refused n) = refused n
+abbrev pub told : Result Answer Refusal → Reply
+told (Ok a) = answered a
+told (Err e) = refused (number_of e)
+
+abbrev pub done : Result ⊤ Refusal → Reply
+done (Ok u) = accepted
+done (Err e) = refused (number_of e)
 
 -- ---- rows of refusals: "The lowest number that applies is given, and only then." A number of document 02 is "tested where its slip says". 0 is no refusal.
 

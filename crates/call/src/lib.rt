@@ -5,6 +5,7 @@ ghost use Rattle.std.specs.Prelude.{◌≡◌, ◌++◌, ◌+◌, ◌*◌, ◌�
 ghost use Rattle.words.specs.Words.{depth_of};
 ghost use Rattle.bitset.specs.Bitset.{bit_at, word_bits};
 ghost use Rattle.wellformed.specs.Entry.{kind_in, kind_at, all, deepest};
+ghost use Rattle.call.specs.Refusals.{number_of};
 ghost use Rattle.call.specs.Call.{made, left};
 ghost use Rattle.call.specs.Steps.{Beginning, finish_in};
 ghost use Rattle.words.specs.Columns.{word, kind_on};
@@ -12,11 +13,55 @@ ghost use Rattle.wellformed.specs.Form.{longest_allowed};
 
 use words::{Interned, kinds};
 
-// The answer of a call that hands back a handle.
-#[derive(Clone, Copy)]
-pub enum Made {
-    Handle(u64),
-    Refused(u8),
+// Why a call was turned back: the numbered rows of documents 01 and 02, each with the row's words.
+#[derive(Clone, Copy, Debug, PartialEq, Eq)]
+pub enum Refusal {
+    // store length out of limits, or not well formed
+    NoStore = 1,
+    // handle starts no entry
+    NoEntry = 2,
+    // entry of a kind the call does not take
+    WrongKind = 3,
+    // a value the call does not take: a float's size or bits, an unfinished field, an alias, a flag
+    WrongValue = 4,
+    // over 255 name bytes, elements or fields
+    TooMany = 5,
+    // depth over 32
+    TooDeep = 6,
+    // fields wanted of a forward reference
+    NoFields = 7,
+    // offset index above the field count
+    PastFields = 8,
+    // no log size
+    NoLogSize = 9,
+    // array body a pointer without nil
+    NeverNil = 10,
+    // output shorter than the answer
+    ShortOutput = 11,
+    // the entries to append do not fit
+    NoRoom = 12,
+    // list over 4,096
+    LongList = 13,
+    // trailer missing or not fitting the length
+    NoTrailer = 14,
+    // words that form no store, or one with two equal entries
+    WrongWords = 15,
+}
+
+impl From<Refusal> for u8 {
+    ghost from_gives = { λ e n. n ≡ number_of e };
+
+    fn from(e: Refusal) -> u8 {
+        e as u8
+    }
+}
+
+impl From<Refusal> for u32 {
+    ghost from_gives = { λ e n. n ≡ number_of e };
+
+    fn from(e: Refusal) -> u32 {
+        e as u32
+    }
 }
 
 // The answer of a call that only reads, by the call: a handle, a number, yes or no; a signed number, as its two's complement word; that there is none; or what a float
@@ -26,49 +71,44 @@ pub enum Answer {
     Handle(u64),
     Number(u64),
     Flag(bool),
-    Refused(u8),
     Signed(u64),
     Absent,
     Constant(u64),
     Size(u64),
 }
 
-// The answer of a call that tells nothing more.
-#[derive(Clone, Copy)]
-pub enum Done {
-    Accepted,
-    Refused(u8),
-}
-
 // ---- the beginning
 
-// Row 1: the number of used words, or 0 where the words are not well formed. If they are, the bits mark where the entries start.
-pub fn begin(words: &[u64], bits: &mut [u64]) -> usize
+// Row 1: the number of used words. If it is answered, the bits mark where the entries start.
+pub fn begin(words: &[u64], bits: &mut [u64]) -> Result<usize, Refusal>
     requires { min (length words.now) longest_allowed ≤ word_bits * length bits.old }
     ensures { Beginning words.now bits.new result }
 {
     if !wellformed::verify(words, bits) {
-        return 0;
+        return Err(Refusal::NoStore);
     }
-    let w = words[0];
-    w as usize
+    Ok(words[0] as usize)
 }
 
 // ---- the end
 
-// Writes word 0, once; or zeroes the words past `used`, and answers 12.
-pub fn finish(words: &mut [u64], used: usize, r: Option<Interned>) -> Made
+// Writes word 0, once; or zeroes the words past `used`, and refuses.
+#[tactic(
+    auto,
+    using(crate::proofs::Ways::fin_at, crate::proofs::Ways::fin_full)
+)]
+pub fn finish(words: &mut [u64], used: usize, r: Option<Interned>) -> Result<u64, Refusal>
     requires { (0 < length words.old) × (used ≤ length words.old) }
     ensures { left (made result) words.new ≡ finish_in used r words.old }
 {
     match r {
         Some(m) => {
             words[0] = m.used as u64;
-            Made::Handle(m.handle as u64)
+            Ok(m.handle as u64)
         }
         None => {
             words::clear(&mut words[used..]);
-            Made::Refused(12)
+            Err(Refusal::NoRoom)
         }
     }
 }
@@ -79,14 +119,7 @@ pub fn finish(words: &mut [u64], used: usize, r: Option<Interned>) -> Made
 pub fn all_start(bits: &[u64], hs: &[u64]) -> bool
     ensures { result ≡ all (bit_at bits.now) hs.now }
 {
-    let mut i = 0;
-    while i < hs.len() {
-        if !bitset::contains(bits, hs[i]) {
-            return false;
-        }
-        i += 1;
-    }
-    true
+    hs.iter().all(|h| bitset::contains(bits, *h))
 }
 
 // The kind of the entry at h.
@@ -102,18 +135,10 @@ pub fn all_kinds(old: &[u64], new: &[u64], used: usize, hs: &[u64], low: u64, hi
     requires { (length old.now ≤ used) × (used ≤ length old.now + length new.now) }
     ensures { result ≡ all (kind_at (word (take used (old.now ++ new.now))) (kind_in low high)) hs.now }
 {
-    let mut i = 0;
-    while i < hs.len() {
-        let k = kind_on(old, new, used, hs[i]);
-        if k < low {
-            return false;
-        }
-        if k > high {
-            return false;
-        }
-        i += 1;
-    }
-    true
+    hs.iter().all(|h| {
+        let k = kind_on(old, new, used, *h);
+        low <= k && k <= high
+    })
 }
 
 // The depth of the entry at h, one byte of its head.
@@ -130,10 +155,8 @@ pub fn deep(old: &[u64], new: &[u64], used: usize, hs: &[u64]) -> u64
     ensures { (result ≡ deepest (word (take used (old.now ++ new.now))) hs.now) × (result < 256) }
 {
     let mut d: u64 = 0;
-    let mut i = 0;
-    while i < hs.len() {
-        d = wellformed::larger(d, depth_on(old, new, used, hs[i]));
-        i += 1;
+    for h in hs {
+        d = d.max(depth_on(old, new, used, *h));
     }
     d
 }

@@ -17,7 +17,12 @@ use Rattle.wellformed.specs.Form.{behind_fresh}
 use Rattle.wellformed.proofs.Tail.{tail_length, first_stored}
 use Rattle.call.specs.Call.{left, told}
 use Rattle.call.specs.declared.Answer.{Answer}
-use Rattle.call.specs.declared.Answer.TheVariants.{Number, Refused}
+use Rattle.call.specs.declared.Answer.TheVariants.{Number}
+use Rattle.call.specs.declared.Refusal.{Refusal}
+use Rattle.call.specs.declared.Refusal.TheVariants.{NoStore, NoTrailer, WrongWords, TooMany, NoRoom}
+use Rattle.call.specs.Refusals.{number_of}
+use Rattle.call.proofs.Refusals.{numbered}
+use Rattle.std.proofs.Common.{Result, Ok, Err}
 use Rattle.catalogue_file.specs.File.{start_in, count_in, trailed, words_in}
 use Rattle.catalogue.specs.Catalogue.{forms_store, load_rows, loaded_store, load_call}
 
@@ -55,29 +60,29 @@ module _ (bs f x : List ℕ) (few : length bs / 8 ≤ 1048482) (is : f ≡ ((94 
 -- ---- load
 
 -- what `load` gives: its answer, and the words that it leaves
-abbrev pub Loads : List ℕ → List ℕ → Answer → List ℕ → Type 0
+abbrev pub Loads : List ℕ → List ℕ → Result Answer Refusal → List ℕ → Type 0
 Loads f ws r ws' = left (told r) ws' ≡ load_call f ws
 
 module _ (f ws : List ℕ) where
-  refuses : (n : ℕ) → load_rows f ws ≡ suc n → Loads f ws (Refused (suc n)) ws
+  refuses : (e : Refusal) → load_rows f ws ≡ number_of e → Loads f ws (Err e) ws
   unfolding load_call
-  refuses n e = rw e
+  refuses e q = rw (q, numbered e)
 
-  pub list_short : length ws < 94 → Loads f ws (Refused 1) ws
+  pub list_short : length ws < 94 → Loads f ws (Err NoStore) ws
   unfolding load_rows
-  list_short h = refuses 0 (rw (lt-leb 94 _ h))
+  list_short h = refuses NoStore (rw (lt-leb 94 _ h))
 
   module _ (long : 94 ≤ length ws) where
-    pub list_long : 1048576 < length ws → Loads f ws (Refused 1) ws
+    pub list_long : 1048576 < length ws → Loads f ws (Err NoStore) ws
     unfolding load_rows
-    list_long h = refuses 0 (rw (le-leb 94 _ long, lt-leb _ 1048576 h))
+    list_long h = refuses NoStore (rw (le-leb 94 _ long, lt-leb _ 1048576 h))
 
     module _ (short : length ws ≤ 1048576) where
-      no_trail : trailed f ≡ false → Loads f ws (Refused 14) ws
+      no_trail : trailed f ≡ false → Loads f ws (Err NoTrailer) ws
       unfolding load_rows
-      no_trail e = refuses 13 (rw (le-leb 94 _ long, le-leb _ 1048576 short, e))
+      no_trail e = refuses NoTrailer (rw (le-leb 94 _ long, le-leb _ 1048576 short, e))
 
-      pub no_trailer : length f < 16 → Loads f ws (Refused 14) ws
+      pub no_trailer : length f < 16 → Loads f ws (Err NoTrailer) ws
       unfolding trailed
       no_trailer h = no_trail (rw (lt-leb 16 _ h))
 
@@ -91,7 +96,7 @@ pub record Read (f ws : List ℕ) (s k : ℕ) (t : Bool) : Type 0 where
   pub fits : t ≡ eqb (s + 8 * k) (length f - 16)
 
 module _ (f ws : List ℕ) (s k : ℕ) (t : Bool) (r : Read f ws s k t) where
-  pub wrong_trailer : not t ≡ true → Loads f ws (Refused 14) ws
+  pub wrong_trailer : not t ≡ true → Loads f ws (Err NoTrailer) ws
   unfolding trailed
   wrong_trailer n =
       let ne : start_in f + 8 * count_in f + 16 ≡ length f → ⊥ = λ e.
@@ -131,21 +136,21 @@ module _ (f ws : List ℕ) (s k : ℕ) (t : Bool) (r : Read f ws s k t) where
     words_size = omega (arith, tail_length (take ((length f - 16) - s) (drop s f)), tail_bytes)
 
     module _ (g : Bool) (ig : g ≡ forms_store (unpacked (take ((length f - 16) - s) (drop s f)))) where
-      pub no_store : not g ≡ true → Loads f ws (Refused 15) ws
+      pub no_store : not g ≡ true → Loads f ws (Err WrongWords) ws
       unfolding load_rows
-      no_store n = refuses f ws 14 (rw (le-leb 94 _ r.long, le-leb _ 1048576 r.short, trail, ← lent_words, sym ig ∙ not-true g n))
+      no_store n = refuses f ws WrongWords (rw (le-leb 94 _ r.long, le-leb _ 1048576 r.short, trail, ← lent_words, sym ig ∙ not-true g n))
 
       module _ (w : not g ≡ false) where
-        pub long_label : 255 < s → Loads f ws (Refused 5) ws
+        pub long_label : 255 < s → Loads f ws (Err TooMany) ws
         unfolding load_rows
-        long_label h = refuses f ws 4 (rw (le-leb 94 _ r.long, le-leb _ 1048576 r.short, trail, ← lent_words, sym ig ∙ not-false g w, ← r.start, lt-ltb 255 s h))
+        long_label h = refuses f ws TooMany (rw (le-leb 94 _ r.long, le-leb _ 1048576 r.short, trail, ← lent_words, sym ig ∙ not-false g w, ← r.start, lt-ltb 255 s h))
 
         module _ (brief : s ≤ 255) where
-          pub no_room : length ws < 94 + k → Loads f ws (Refused 12) ws
+          pub no_room : length ws < 94 + k → Loads f ws (Err NoRoom) ws
           unfolding load_rows
-          no_room h = refuses f ws 11 (rw (le-leb 94 _ r.long, le-leb _ 1048576 r.short, trail, ← lent_words, sym ig ∙ not-false g w, ← r.start, le-ltb 255 s brief, words_size, lt-ltb _ _ h))
+          no_room h = refuses f ws NoRoom (rw (le-leb 94 _ r.long, le-leb _ 1048576 r.short, trail, ← lent_words, sym ig ∙ not-false g w, ← r.start, le-ltb 255 s brief, words_size, lt-ltb _ _ h))
 
-          pub loaded : 94 + k ≤ length ws → (ws' : List ℕ) → ws' ≡ loaded_store (unpacked (take ((length f - 16) - s) (drop s f))) (length ws) → Loads f ws (Number s) ws'
+          pub loaded : 94 + k ≤ length ws → (ws' : List ℕ) → ws' ≡ loaded_store (unpacked (take ((length f - 16) - s) (drop s f))) (length ws) → Loads f ws (Ok (Number s)) ws'
           unfolding load_rows load_call
           loaded h ws' e =
               let z : load_rows f ws ≡ 0 = rw (le-leb 94 _ r.long, le-leb _ 1048576 r.short, trail, ← lent_words, sym ig ∙ not-false g w, ← r.start, le-ltb 255 s brief, words_size, le-ltb _ _ h) in

@@ -9,29 +9,31 @@ ghost use Rattle.call.specs.Call.{left, told};
 ghost use Rattle.distinct.specs.Distinct.{most_bits};
 ghost use Rattle.catalogue.specs.Catalogue.{save_call, save_output, forms_store, load_call, loaded_store};
 
-use call::Answer;
+use call::{Answer, Refusal};
 use words::limits;
 
 // ---- the writer
 
 // Saves a store under a label, in an output of bytes.
 #[tactic(auto, using(crate::proofs::Saving::saving))]
-pub fn save(words: &[u64], label: &[u8], file: &mut [u8]) -> Answer
+pub fn save(words: &[u64], label: &[u8], file: &mut [u8]) -> Result<Answer, Refusal>
     ensures words_value { left (told result) words.now ≡ save_call label.now (length file.old) words.now }
     ensures file_after { file.new ≡ save_output label.now words.now file.old }
 {
     if !wellformed::well_formed(words) {
-        return Answer::Refused(1);
+        return Err(Refusal::NoStore);
     }
     if label.len() > catalogue_file::LONGEST_LABEL {
-        return Answer::Refused(5);
+        return Err(Refusal::TooMany);
     }
     let used = words[0] as usize;
     let n = catalogue_file::file_length(label.len(), used);
     if file.len() < n {
-        return Answer::Refused(11);
+        return Err(Refusal::ShortOutput);
     }
-    Answer::Number(catalogue_file::write_file(words, used, label, file) as u64)
+    Ok(Answer::Number(
+        catalogue_file::write_file(words, used, label, file) as u64,
+    ))
 }
 
 // ---- the loader
@@ -110,35 +112,35 @@ fn fill(words: &mut [u64], tail: &[u8])
 
 // Loads a file into a lent list. All is checked before the first word is written.
 #[tactic(auto, using(crate::proofs::Loading::loading))]
-pub fn load(words: &mut [u64], file: &[u8]) -> Answer
+pub fn load(words: &mut [u64], file: &[u8]) -> Result<Answer, Refusal>
     ensures { left (told result) words.new ≡ load_call file.now words.old }
 {
     if words.len() < limits::FRESH_LENGTH {
-        return Answer::Refused(1);
+        return Err(Refusal::NoStore);
     }
     if words.len() > limits::LONGEST {
-        return Answer::Refused(1);
+        return Err(Refusal::NoStore);
     }
     let n = file.len();
     if n < catalogue_file::TRAILER {
-        return Answer::Refused(14);
+        return Err(Refusal::NoTrailer);
     }
     let end = n - catalogue_file::TRAILER;
     let start = source::eight(file, end);
     let count = source::eight(file, n - 8);
     if !trailer_fits(start, count, end as u64) {
-        return Answer::Refused(14);
+        return Err(Refusal::NoTrailer);
     }
     let from = start as usize;
     if !stores_for(&file[from..end]) {
-        return Answer::Refused(15);
+        return Err(Refusal::WrongWords);
     }
     if start > catalogue_file::LONGEST_LABEL as u64 {
-        return Answer::Refused(5);
+        return Err(Refusal::TooMany);
     }
     if (words.len() as u64) < limits::FRESH_LENGTH as u64 + count {
-        return Answer::Refused(12);
+        return Err(Refusal::NoRoom);
     }
     fill(words, &file[from..end]);
-    Answer::Number(start)
+    Ok(Answer::Number(start))
 }

@@ -6,22 +6,7 @@ ghost use Rattle.std.specs.Prelude.{◌≡◌, cond};
 ghost use Rattle.call.specs.Call.{made, told, done};
 ghost use Rattle.codes.specs.Code.{status, answer_after, which_after};
 
-use call::{Answer, Done, Made};
-
-fn refusal(n: u8) -> u32
-    ensures { result ≡ n }
-{
-    n as u32
-}
-
-fn flag_word(yes: bool) -> u64
-    ensures { result ≡ cond yes 1 0 }
-{
-    if yes {
-        return 1;
-    }
-    0
-}
+use call::{Answer, Refusal};
 
 fn tell(word: u64, answer: &mut u64) -> u32
     ensures { (result ≡ 0) × (answer.new ≡ word) }
@@ -38,50 +23,50 @@ fn tell_which(way: u64, word: u64, which: &mut u64, answer: &mut u64) -> u32
     0
 }
 
-pub fn of_done(m: Done) -> u32
+pub fn of_done(m: Result<(), Refusal>) -> u32
     ensures { result ≡ status (done m) }
 {
     match m {
-        Done::Accepted => 0,
-        Done::Refused(n) => refusal(n),
+        Ok(_) => 0,
+        Err(e) => e.into(),
     }
 }
 
-pub fn of_made(m: Made, answer: &mut u64) -> u32
+pub fn of_made(m: Result<u64, Refusal>, answer: &mut u64) -> u32
     ensures { (result ≡ status (made m)) × (answer.new ≡ answer_after (made m) answer.old) }
 {
     match m {
-        Made::Handle(h) => tell(h, answer),
-        Made::Refused(n) => refusal(n),
+        Ok(h) => tell(h, answer),
+        Err(e) => e.into(),
     }
 }
 
-pub fn of_answer(m: Answer, answer: &mut u64) -> u32
+pub fn of_answer(m: Result<Answer, Refusal>, answer: &mut u64) -> u32
     ensures { (result ≡ status (told m)) × (answer.new ≡ answer_after (told m) answer.old) }
 {
     match m {
-        Answer::Handle(h) => tell(h, answer),
-        Answer::Number(n) => tell(n, answer),
-        Answer::Flag(yes) => tell(flag_word(yes), answer),
-        Answer::Refused(n) => refusal(n),
-        Answer::Signed(w) => tell(w, answer),
-        Answer::Absent => 0,
-        Answer::Constant(bits) => tell(bits, answer),
-        Answer::Size(w) => tell(w, answer),
+        Ok(Answer::Handle(h)) => tell(h, answer),
+        Ok(Answer::Number(n)) => tell(n, answer),
+        Ok(Answer::Flag(yes)) => tell(u64::from(yes), answer),
+        Ok(Answer::Signed(w)) => tell(w, answer),
+        Ok(Answer::Absent) => 0,
+        Ok(Answer::Constant(bits)) => tell(bits, answer),
+        Ok(Answer::Size(w)) => tell(w, answer),
+        Err(e) => e.into(),
     }
 }
 
-pub fn of_answer_which(m: Answer, which: &mut u64, answer: &mut u64) -> u32
+pub fn of_answer_which(m: Result<Answer, Refusal>, which: &mut u64, answer: &mut u64) -> u32
     ensures { (result ≡ status (told m)) × (which.new ≡ which_after (told m) which.old) × (answer.new ≡ answer_after (told m) answer.old) }
 {
     match m {
-        Answer::Handle(h) => tell_which(1, h, which, answer),
-        Answer::Number(n) => tell_which(1, n, which, answer),
-        Answer::Flag(yes) => tell_which(1, flag_word(yes), which, answer),
-        Answer::Refused(n) => refusal(n),
-        Answer::Signed(w) => tell_which(1, w, which, answer),
-        Answer::Absent => tell(0, which),
-        Answer::Constant(bits) => tell_which(1, bits, which, answer),
-        Answer::Size(w) => tell_which(0, w, which, answer),
+        Ok(Answer::Handle(h)) => tell_which(1, h, which, answer),
+        Ok(Answer::Number(n)) => tell_which(1, n, which, answer),
+        Ok(Answer::Flag(yes)) => tell_which(1, u64::from(yes), which, answer),
+        Ok(Answer::Signed(w)) => tell_which(1, w, which, answer),
+        Ok(Answer::Absent) => tell(0, which),
+        Ok(Answer::Constant(bits)) => tell_which(1, bits, which, answer),
+        Ok(Answer::Size(w)) => tell_which(0, w, which, answer),
+        Err(e) => e.into(),
     }
 }

@@ -9,17 +9,19 @@ use lib.ListN.{length, take, drop, get_or}
 use Rattle.words.specs.Table.{rows, entries, find_in}
 use Rattle.words.specs.Search.{Searched}
 use Rattle.words.specs.Ran.{Segments, Tail}
-use Rattle.std.specs.Prelude.{Option, Some, None}
+use Rattle.std.specs.Prelude.{Option}
 use Rattle.words.proofs.Two.{from_one}
 use Rattle.wellformed.specs.Form.{well_formed}
 use Rattle.wellformed.proofs.Before.{tests, well_segments}
 use Rattle.entry_search.specs.EntrySearch.{entry_search}
 use Rattle.entry_search.specs.declared.EntrySearch.{EntrySearch}
-use Rattle.entry_search.specs.declared.EntrySearch.TheVariants as Variants
+use Rattle.std.proofs.Common.{Some, None, Result, Ok, Err}
+use Rattle.call.specs.declared.Refusal.{Refusal}
+use Rattle.call.specs.declared.Refusal.TheVariants.{NoStore}
 use Rattle.entry_search.specs.CodedSearch.{CodedSearch}
 
 module _ (ws e : List ℕ) (t : Bool) (is : t ≡ well_formed ws) where
-  pub turned_back : not t ≡ true → Variants.Refused 1 ≡ entry_search ws e
+  pub turned_back : not t ≡ true → Err NoStore ≡ entry_search ws e
   unfolding entry_search
   turned_back n = rw (sym is ∙ not-true t n)
 
@@ -35,15 +37,15 @@ module _ (ws e : List ℕ) (t : Bool) (is : t ≡ well_formed ws) where
     to_find = let s = well_segments ws good in (s, from_one [] ws (get_or ws 0 0) s)
 
     module _ (f : Option ℕ) (n : ℕ) (s : Searched (rows 1 0 (drop 1 (take (get_or ws 0 0) ws))) e f n) where
-      pub found_there : (h : ℕ) → f ≡ Some h → Variants.Found h n ≡ entry_search ws e
+      pub found_there : (h : ℕ) → f ≡ Some h → Ok (record { found = Some h; count = n }) ≡ entry_search ws e
       unfolding entry_search find_in entries
       found_there h at = sym (rw (good, sym s.answer ∙ at, sym s.number))
 
-      pub found_nowhere : f ≡ None → Variants.Absent n ≡ entry_search ws e
+      pub found_nowhere : f ≡ None → Ok (record { found = None; count = n }) ≡ entry_search ws e
       unfolding entry_search find_in entries
       found_nowhere none = sym (rw (good, sym s.answer ∙ none, sym s.number))
 
 -- ---- as callers in C and Rust are told it
 
-pub told_same : (s t : EntrySearch) (r w w' k k' a a' : ℕ) → s ≡ t → CodedSearch s r w w' k k' a a' → CodedSearch t r w w' k k' a a'
+pub told_same : (s t : Result EntrySearch Refusal) (r w w' k k' a a' : ℕ) → s ≡ t → CodedSearch s r w w' k k' a a' → CodedSearch t r w w' k k' a a'
 told_same s t r w w' k k' a a' is c = rw is at c

@@ -6,29 +6,29 @@ ghost use Rattle.std.specs.Prelude.{◌≡◌};
 ghost use Rattle.entry_search.specs.EntrySearch.{entry_search};
 ghost use Rattle.entry_search.specs.CodedSearch.{CodedSearch};
 
+use call::Refusal;
 
+// What a search found.
 #[derive(Clone, Copy)]
-pub enum EntrySearch {
-    // its handle, and how many entries were not passed over
-    Found(u64, u64),
-    // there is none; how many entries were not passed over
-    Absent(u64),
-    Refused(u8),
+pub struct EntrySearch {
+    // its handle, if there is such an entry
+    pub found: Option<u64>,
+    // how many entries were not passed over
+    pub count: u64,
 }
 
-pub fn find_entry(words: &[u64], entry: &[u64]) -> EntrySearch
+pub fn find_entry(words: &[u64], entry: &[u64]) -> Result<EntrySearch, Refusal>
     ensures { result ≡ entry_search words.now entry.now }
 {
     if !wellformed::well_formed(words) {
-        return EntrySearch::Refused(1);
+        return Err(Refusal::NoStore);
     }
     let used = words[0] as usize;
-    let none = [0u64; 0];
-    let s = words::find(&none, words, used, 1, entry);
-    let f = s.found;
-    match f {
-        Some(h) => EntrySearch::Found(h as u64, s.count as u64),
-        None => EntrySearch::Absent(s.count as u64),
+    let s = words::find(&[], words, used, 1, entry);
+    let count = s.count as u64;
+    match s.found {
+        Some(h) => Ok(EntrySearch { found: Some(h as u64), count }),
+        None => Ok(EntrySearch { found: None, count }),
     }
 }
 
@@ -36,22 +36,26 @@ pub fn find_entry(words: &[u64], entry: &[u64]) -> EntrySearch
 
 // Returns 0, or the number of a refusal. What is told goes to three lent words: whether there is such an entry, 1 or 0; how many entries were not passed over; and its
 // handle, whose word keeps where there is none. Where it is refused all three keep.
-fn tell(s: EntrySearch, which: &mut u64, count: &mut u64, answer: &mut u64) -> u32
+fn tell(
+    s: Result<EntrySearch, Refusal>,
+    which: &mut u64,
+    count: &mut u64,
+    answer: &mut u64,
+) -> u32
     ensures { CodedSearch s result which.old which.new count.old count.new answer.old answer.new }
 {
     match s {
-        EntrySearch::Found(h, n) => {
+        Ok(s) => {
+            *count = s.count;
+            let Some(h) = s.found else {
+                *which = 0;
+                return 0;
+            };
             *which = 1;
-            *count = n;
             *answer = h;
             0
         }
-        EntrySearch::Absent(n) => {
-            *which = 0;
-            *count = n;
-            0
-        }
-        EntrySearch::Refused(n) => n as u32,
+        Err(e) => e.into(),
     }
 }
 

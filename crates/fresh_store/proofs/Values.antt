@@ -8,7 +8,8 @@ use lib.ListN.{length, drop, replicate, length-replicate, replicate-append-repli
 use lib.Seq.{drop_at}
 use Rattle.wellformed.specs.Fresh.{fresh_words}
 use Rattle.call.specs.Call.{left, done}
-use Rattle.call.specs.declared.Done.TheVariants.{Accepted, Refused}
+use Rattle.std.proofs.Common.{Ok, Err}
+use Rattle.call.specs.declared.Refusal.TheVariants.{NoStore}
 use Rattle.makers.specs.Makers.{fresh_call}
 
 -- ---- fresh
@@ -26,15 +27,15 @@ zeros_after k n h = ap (λ (m : ℕ). drop k (zeros m)) (sym q) ∙ go
     go = ap (drop k) (sym (replicate-append-replicate k (n - k) 0)) ∙ drop_at (zeros k) (zeros (n - k)) k (length-replicate k 0)
 
 module _ (ws : List ℕ) where
-  pub fresh_short : length ws < 94 → left (done (Refused 1)) ws ≡ fresh_call ws
+  pub fresh_short : length ws < 94 → left (done (Err NoStore)) ws ≡ fresh_call ws
   unfolding fresh_call
   fresh_short h = rw (lt-leb 94 _ h)
 
   module _ (long : 94 ≤ length ws) where
-    pub fresh_long : 1048576 < length ws → left (done (Refused 1)) ws ≡ fresh_call ws
+    pub fresh_long : 1048576 < length ws → left (done (Err NoStore)) ws ≡ fresh_call ws
     unfolding fresh_call
     fresh_long h = rw (le-leb 94 _ long, lt-leb _ 1048576 h)
 
-    pub fresh_filled : length ws ≤ 1048576 → (z d : List ℕ) → z ≡ replicate (length ws) 0 → d ≡ (94 ∷ fresh_words) ++ drop (1 + length fresh_words) z → left (done Accepted) d ≡ fresh_call ws
+    pub fresh_filled : length ws ≤ 1048576 → (z d : List ℕ) → z ≡ replicate (length ws) 0 → d ≡ (94 ∷ fresh_words) ++ drop (1 + length fresh_words) z → left (done (Ok tt)) d ≡ fresh_call ws
     unfolding fresh_call fresh_words
     fresh_filled short z d iz is = rw (le-leb 94 _ long, le-leb _ 1048576 short, is, iz, zeros_after 94 (length ws) long)

@@ -1,5 +1,5 @@
 -- A memory stays right over the end of a call. Assumes nothing.
-use Rattle.std.proofs.Common.{◌≡◌, ℕ, ◌<◌, ◌≤◌, List, [], length, get_or, take, set, refl, ap, ◌∙◌, arith, length-take-le, get_or-set_same}
+use Rattle.std.proofs.Common.{◌≡◌, ℕ, Result, ◌<◌, ◌≤◌, List, [], length, get_or, take, set, refl, ap, ◌∙◌, arith, length-take-le, get_or-set_same}
 use lib.Seq.{take-set-lt}
 use Rattle.words.specs.Made.{Grown}
 use Rattle.words.specs.Ran.{Ran}
@@ -9,7 +9,7 @@ use Rattle.words.specs.declared.Interned.{Interned}
 use Rattle.words.proofs.Extend.{Extends, ext_length}
 use Rattle.words.proofs.Room.{fitted}
 use Rattle.wellformed.specs.Form.{used_words}
-use Rattle.call.specs.declared.Made.{Made}
+use Rattle.call.specs.declared.Refusal.{Refusal}
 use Rattle.call.specs.Call.{Outcome, left, made}
 use Rattle.call.specs.Steps.{finish_in}
 use Rattle.later.proofs.Keeps.{later_set}
@@ -18,7 +18,7 @@ use Rattle.lent_memory.proofs.Laws.{right_later, right_blank}
 use Rattle.memory_steps.specs.Steps.{Forgot}
 
 -- an answer that fitted: the used words after the end are those that the operation left, with their number in word 0
-pub used_then : (ws ws₁ ws₂ : List ℕ) (used : ℕ) (r : Option Interned) (g : Grown) (m : Made) → 0 < used → used ≤ length ws → 0 < length ws₁ → Extends (take used ws) g.words → Ran used g ws ws₁ r → left (made m) ws₂ ≡ finish_in used r ws₁ → (h v : ℕ) → r ≡ interned h v
+pub used_then : (ws ws₁ ws₂ : List ℕ) (used : ℕ) (r : Option Interned) (g : Grown) (m : Result ℕ Refusal) → 0 < used → used ≤ length ws → 0 < length ws₁ → Extends (take used ws) g.words → Ran used g ws ws₁ r → left (made m) ws₂ ≡ finish_in used r ws₁ → (h v : ℕ) → r ≡ interned h v
     → used_words ws₂ ≡ set (take v ws₁) 0 v
 unfolding finish_in
 used_then ws ws₁ ws₂ used r g m some within long x ran e h v k =
@@ -29,7 +29,7 @@ used_then ws ws₁ ws₂ used r g m some within long x ran e h v k =
     let low : 0 < v = omega (arith, n, (fitted used g ws ws₁ r ran h v k).end, ext_length (take used ws) g.words x) in
     rw w (ap (λ (n : ℕ). take n (set ws₁ 0 v)) c ∙ take-set-lt v ws₁ 0 v low)
 
-pub kept_call : (ws ws₁ ws₂ memory memory' : List ℕ) (used : ℕ) (r : Option Interned) (g : Grown) (m : Made) → 0 < used → used ≤ length ws → 0 < length ws₁ → Extends (take used ws) g.words → Ran used g ws ws₁ r → RightThen [] ws₁ r memory → Forgot r memory memory'
+pub kept_call : (ws ws₁ ws₂ memory memory' : List ℕ) (used : ℕ) (r : Option Interned) (g : Grown) (m : Result ℕ Refusal) → 0 < used → used ≤ length ws → 0 < length ws₁ → Extends (take used ws) g.words → Ran used g ws ws₁ r → RightThen [] ws₁ r memory → Forgot r memory memory'
     → left (made m) ws₂ ≡ finish_in used r ws₁ → Right (used_words ws₂) memory'
 kept_call ws ws₁ ws₂ memory memory' used r g m some within long x ran right f e = go r refl
   where

@@ -17,14 +17,14 @@ pub plain_name : (name u : List ℕ) {kept : ℕ} {ws ws' : List ℕ} {r : Optio
 unfolding wrapped
 plain_name name u ran = ran
 
-module _ (sz bits size : ℕ) (is : size ≡ (sz + 64) % 2 ^ 64) where
-  module _ (ok : float_ok (stored_size sz) bits ≡ true) where
-    pub size_known : is_size_word size ≡ true
-    size_known = size_word size bits (rw is ok)
+module _ (sz bits : ℕ) (ok : float_ok (stored_size sz) bits ≡ true) where
+  pub size_known : is_size_word (stored_size sz) ≡ true
+  size_known = size_word (stored_size sz) bits ok
 
-    pub size_fits : (z : ℤ) → z ≡ size_from size → is_size z ≡ true
-    size_fits z e = rw e (size_ok size size_known)
+  module _ (z : ℤ) (is : z ≡ size_from (stored_size sz)) where
+    pub size_fits : is_size z ≡ true
+    size_fits = rw is (size_ok (stored_size sz) size_known)
 
-    pub float_stored : (z : ℤ) → z ≡ size_from size → (u : List ℕ) {kept : ℕ} {ws ws' : List ℕ} {r : Option Interned} → Ran kept (make u (float_entry (word_of z) bits)) ws ws' r
+    pub float_stored : (u : List ℕ) {kept : ℕ} {ws ws' : List ℕ} {r : Option Interned} → Ran kept (make u (float_entry (word_of z) bits)) ws ws' r
         → Ran kept (make u (float_entry (stored_size sz) bits)) ws ws' r
-    float_stored z e u ran = let q : word_of z ≡ stored_size sz = ap word_of e ∙ word_size size size_known ∙ is in rw q at ran
+    float_stored u ran = let q : word_of z ≡ stored_size sz = ap word_of is ∙ word_size (stored_size sz) size_known in rw q at ran

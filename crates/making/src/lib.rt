@@ -2,21 +2,22 @@
 // said of its value; the functions of `types` and `ty` name one each.
 #![tactic(auto)]
 
-ghost use Rattle.std.specs.Prelude.{◌≡◌, true, not, ◌++◌, length, take, ◌≢◌};
+ghost use Rattle.std.specs.Prelude.{◌≡◌, true, not, ◌++◌, length, take, Ok};
 ghost use Rattle.words.specs.Made.{make};
 ghost use Rattle.words.specs.Ran.{Segments, Runs};
 ghost use Rattle.index.specs.Covers.{Covers};
 ghost use Rattle.wellformed.specs.Entry.{most_counted, float_ok};
 ghost use Rattle.wellformed.specs.Form.{used_words};
 ghost use Rattle.call.specs.Call.{left, made, ◌when◌};
-ghost use Rattle.call.specs.Steps.{used_of, Marked};
+ghost use Rattle.call.specs.Refusals.{row_of};
+ghost use Rattle.call.specs.Steps.{row_1, Marked};
 ghost use Rattle.makers.specs.Entries.{stored_size, float_entry};
 ghost use Rattle.lent_memory.specs.Memory.{Right, RightThen};
 ghost use Rattle.every_call.specs.Run.{run, typed};
 ghost use Rattle.every_call.specs.Cleared.{Cleared};
 ghost use Rattle.making.specs.Making.{appended, rows_of, op_of};
 
-use call::Made;
+use call::Refusal;
 use walk_rules::Walk;
 use words::{Interned, kinds, limits};
 
@@ -42,7 +43,7 @@ pub enum Making {
 
 // ---- rows
 
-// The number of the first row that applies, or 0, on a store that row 1 has passed.
+// The rows of each, on a store that row 1 has passed.
 pub fn rows_of(
     words: &[u64],
     used: usize,
@@ -50,12 +51,12 @@ pub fn rows_of(
     making: Making,
     list: &[u64],
     text: &[u8],
-) -> u8
+) -> Result<(), Refusal>
     requires { Marked words.now bits.now used }
-    ensures { result ≡ rows_of making list.now text.now (take used words.now) }
+    ensures { row_of result ≡ rows_of making list.now text.now (take used words.now) }
 {
     match making {
-        Making::MakeInt(_, _) => 0,
+        Making::MakeInt(_, _) => Ok(()),
         Making::MakeFloat(sz, con) => value_rows::float_rows(sz, con),
         Making::GetStr => value_rows::str_rows(text),
         Making::GetTuple => rows::tuple_rows(words, used, bits, list),
@@ -108,7 +109,7 @@ fn float(
     requires covers { Covers (take used (old.now ++ new.old)) index.now }
     ensures { Runs (λ u. make u (float_entry (stored_size sz) bits)) old.now new.old used new.new result }
 {
-    let size = std::num::wrapping_add_u64(sz, wellformed::SIZE_ZERO);
+    let size = sz.wrapping_add(wellformed::SIZE_ZERO);
     let f = type_float::float_of(size, bits);
     makers::float(old, new, used, f, bits, index)
 }
@@ -171,8 +172,8 @@ pub fn append(
     scratch: &mut [u64],
     memory: &mut [u64],
     index: &[u64],
-) -> Made
-    requires used_value { (used ≡ used_of words.old) × (used ≢ 0) }
+) -> Result<u64, Refusal>
+    requires used_value { Ok used ≡ row_1 words.old }
     requires words_value { rows_of making list.now text.now (take used words.old) ≡ 0 }
     requires right { Right (take used words.old) memory.old }
     requires covers { Covers (take used words.old) index.now }

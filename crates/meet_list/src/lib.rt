@@ -4,24 +4,26 @@
 ghost use Rattle.std.specs.Prelude.{◌≡◌, ◌++◌, take};
 ghost use Rattle.words.specs.Ran.{Runs};
 ghost use Rattle.index.specs.Covers.{Covers};
+ghost use Rattle.call.specs.Refusals.{row_of};
 ghost use Rattle.call.specs.Steps.{Marked};
 ghost use Rattle.lent_memory.specs.Memory.{Right, RightThen};
 ghost use Rattle.every_call.specs.Cleared.{Cleared};
 ghost use Rattle.every_call.specs.MeetList.{meet_list_of, meet_list_rows};
 
+use call::Refusal;
 use words::{Interned, fresh};
 
 // The most handles that a list may have.
 pub const LONGEST_LIST: usize = 4096;
 
-// The number of the first row that applies, or 0. All handles are tested on the store as it comes.
+// Its rows. All handles are tested on the store as it comes.
 #[tactic(auto, using(crate::proofs::Rows::over_long, crate::proofs::Rows::not_long))]
-pub fn list_rows(words: &[u64], used: usize, bits: &[u64], types: &[u64]) -> u8
+pub fn list_rows(words: &[u64], used: usize, bits: &[u64], types: &[u64]) -> Result<(), Refusal>
     requires { Marked words.now bits.now used }
-    ensures { result ≡ meet_list_rows types.now (take used words.now) }
+    ensures { row_of result ≡ meet_list_rows types.now (take used words.now) }
 {
     if types.len() > LONGEST_LIST {
-        return 13; // a list that is too long: no handle of it is read
+        return Err(Refusal::LongList); // a list that is too long: no handle of it is read
     }
     rows::types_rows(words, used, bits, types)
 }

@@ -1,6 +1,7 @@
 -- The log sizes of a struct's fields, read one by one, written one by one, and laid out. `u` is the used words, s a struct. Assumes nothing.
 use mathlib.Core.Path.{◌≡◌, refl, sym, ap, ◌∙◌}
-use mathlib.Core.Bool.{true, false}
+use mathlib.Core.Bool.{true, false, ◌&&◌}
+use lib.Dec.{ltb}
 use mathlib.Core.List.{List, ◌++◌, map}
 use Prim.Native.Nat.{ℕ, zero, suc, ◌+◌, ◌-◌, ◌*◌, ◌/◌, ◌≤◌, ◌<◌}
 use native.Mathlib.Omega.{arith}
@@ -10,32 +11,39 @@ use lib.Seq.{length-take-le, take-take, take_at, drop_at, drop-drop}
 use Rattle.words.specs.Columns.{every, word, count_on, field_types_on}
 use Rattle.words.proofs.Copy.{front, front_none, front_more, front_all}
 use Rattle.wellformed.specs.Entry.{all}
-use Rattle.makers.proofs.Fields.{all_at}
-use Rattle.rows.proofs.Apart.{apart_end, apart_stop, apart_on}
+use Rattle.makers.proofs.Fields.{all_at, every_first}
 use Rattle.layout.specs.Layout.{EightAtMost, offsets}
 use Rattle.layout.proofs.Meaning.{laid_out}
 use Rattle.of_types.specs.OfTypes.{log_size, has_log_size}
 use Rattle.of_offsets.specs.OfOffsets.{log_sizes_on, offsets_on, offset_on, ary_scale, unsized_field}
 
--- ---- whether each field has one: a loop with j fields left, the first type of which stands at `at`
+-- ---- whether each field has one: a loop over n fields that has come to the i-th
 
-pub sized_begin : (u : List ℕ) (s w : ℕ) → w ≡ word u s → all (has_log_size u) (field_types_on u s) ≡ all (has_log_size u) (every 3 (w / 65536) (s + 3) u)
-sized_begin u s w e = rw e
+pub sized_begin : (u : List ℕ) (s w : ℕ) → w ≡ word u s → all (has_log_size u) (field_types_on u s) ≡ all (has_log_size u) (every 3 (w / 65536 - 0) (s + 3 + 3 * 0) u)
+sized_begin u s w e =
+    let z : w / 65536 - 0 ≡ w / 65536 = omega arith in
+    let q : s + 3 + 3 * 0 ≡ s + 3 = omega arith in
+    rw (z, q, e)
 
-module _ (u : List ℕ) (s j at : ℕ) (left : all (has_log_size u) (field_types_on u s) ≡ all (has_log_size u) (every 3 j at u)) where
-  pub all_sized : j ≤ 0 → false ≡ unsized_field u s
-  all_sized h = rw (← apart_end (has_log_size u) u 3 (count_on u s) (s + 3) j at left h)
+module _ (u : List ℕ) (s n i : ℕ) (left : all (has_log_size u) (field_types_on u s) ≡ all (has_log_size u) (every 3 (n - i) (s + 3 + 3 * i) u)) where
+  pub all_sized : n ≤ i → false ≡ unsized_field u s
+  unfolding all every
+  all_sized h = let z : n - i ≡ 0 = omega arith in rw (left, z)
 
-  module _ (more : 0 < j) (t : ℕ) (it : t ≡ word u at) (x : ℕ) (ix : x ≡ log_size u t) where
+  module _ (more : i < n) (t : ℕ) (it : t ≡ word u (s + 3 + 3 * i)) (x : ℕ) (ix : x ≡ log_size u t) where
+    first : all (has_log_size u) (field_types_on u s) ≡ (ltb x 4 && all (has_log_size u) (every 3 (n - (i + 1)) (s + 3 + 3 * (i + 1)) u))
+    unfolding all
+    first =
+        let some : 0 < n - i = omega arith in
+        let m : n - i - 1 ≡ n - (i + 1) = omega arith in
+        let q : s + 3 + 3 * i + 3 ≡ s + 3 + 3 * (i + 1) = omega arith in
+        left ∙ rw (every_first 3 (n - i) (s + 3 + 3 * i) u some, m, q, ix, it)
+
     pub one_unsized : 4 ≤ x → true ≡ unsized_field u s
-    one_unsized h =
-        let e : has_log_size u (word u at) ≡ false = rw (← it, ← ix) (le-ltb x 4 h) in
-        rw (← apart_stop (has_log_size u) u 3 (count_on u s) (s + 3) j at left more e)
+    one_unsized h = rw (first, le-ltb x 4 h)
 
-    pub one_sized : x < 4 → all (has_log_size u) (field_types_on u s) ≡ all (has_log_size u) (every 3 (j - 1) (at + 3) u)
-    one_sized h =
-        let e : has_log_size u (word u at) ≡ true = rw (← it, ← ix) (lt-ltb x 4 h) in
-        apart_on (has_log_size u) u 3 (count_on u s) (s + 3) j at left more e
+    pub one_sized : x < 4 → all (has_log_size u) (field_types_on u s) ≡ all (has_log_size u) (every 3 (n - (i + 1)) (s + 3 + 3 * (i + 1)) u)
+    one_sized h = first ∙ rw (lt-ltb x 4 h)
 
 -- ---- the list of them
 

@@ -4,9 +4,11 @@
 ghost use Rattle.std.specs.Prelude.{◌≡◌, false, ◌++◌, ◌≤◌, ◌<◌, length, take, drop};
 ghost use Rattle.words.specs.Columns.{count_on};
 ghost use Rattle.wellformed.specs.Entry.{most_counted};
+ghost use Rattle.call.specs.Refusals.{row_of};
 ghost use Rattle.call.specs.Steps.{Marked};
 ghost use Rattle.of_offsets.specs.OfOffsets.{log_sizes_on, offsets_on, offset_on, ary_scale, unsized_field, offsets_rows, offset_rows, ary_base_rows, ary_scale_rows};
 
+use call::Refusal;
 use words::{columns, kinds};
 
 // Whether a field has no log size. The count of fields may be that of any head.
@@ -15,15 +17,13 @@ fn unsized_field(words: &[u64], used: usize, s: usize) -> bool
     ensures { result ≡ unsized_field (take used words.now) s }
 {
     let none = [0u64; 0];
-    let mut at = s + columns::FIELD_TYPES;
-    let mut j = (words::word(&none, words, used, s) / kinds::COUNT) as usize;
-    while 0 < j {
+    let n = (words::word(&none, words, used, s) / kinds::COUNT) as usize;
+    for i in 0..n {
+        let at = s + columns::FIELD_TYPES + columns::FIELD * i;
         let t = words::word(&none, words, used, at);
         if of_types::log_size(words, used, t) >= of_types::NO_LOG_SIZE {
             return true;
         }
-        at += columns::FIELD;
-        j -= 1;
     }
     false
 }
@@ -34,16 +34,10 @@ fn fill_logs(words: &[u64], used: usize, s: usize, n: usize, output: &mut [u64])
     ensures { output.new ≡ log_sizes_on (take used words.now) s ++ drop n output.old }
 {
     let none = [0u64; 0];
-    let mut i = 0;
-    while i < n {
-        let t = words::word(
-            &none,
-            words,
-            used,
-            s + columns::FIELD_TYPES + columns::FIELD * i,
-        );
+    for i in 0..n {
+        let at = s + columns::FIELD_TYPES + columns::FIELD * i;
+        let t = words::word(&none, words, used, at);
         output[i] = of_types::log_size(words, used, t);
-        i += 1;
     }
 }
 
@@ -85,62 +79,50 @@ pub fn ary_scale(words: &[u64], used: usize, s: usize) -> u64
 
 // ---- rows
 
-pub fn offsets_rows(words: &[u64], used: usize, bits: &[u64], s: u64) -> u8
+pub fn offsets_rows(words: &[u64], used: usize, bits: &[u64], s: u64) -> Result<(), Refusal>
     requires { Marked words.now bits.now used }
-    ensures { result ≡ offsets_rows s (take used words.now) }
+    ensures { row_of result ≡ offsets_rows s (take used words.now) }
 {
-    let no = of_structs::fields_rows(words, used, bits, s);
-    if no != 0 {
-        return no;
-    }
+    of_structs::fields_rows(words, used, bits, s)?;
     if unsized_field(words, used, s as usize) {
-        return 9; // no log size
+        return Err(Refusal::NoLogSize);
     }
-    0
+    Ok(())
 }
 
-pub fn offset_rows(words: &[u64], used: usize, bits: &[u64], s: u64, i: u64) -> u8
+pub fn offset_rows(words: &[u64], used: usize, bits: &[u64], s: u64, i: u64) -> Result<(), Refusal>
     requires { Marked words.now bits.now used }
-    ensures { result ≡ offset_rows s i (take used words.now) }
+    ensures { row_of result ≡ offset_rows s i (take used words.now) }
 {
-    let no = of_structs::fields_rows(words, used, bits, s);
-    if no != 0 {
-        return no;
-    }
+    of_structs::fields_rows(words, used, bits, s)?;
     let none = [0u64; 0];
     if words::word(&none, words, used, s as usize) / kinds::COUNT < i {
-        return 8; // an index above the field count
+        return Err(Refusal::PastFields);
     }
     if unsized_field(words, used, s as usize) {
-        return 9; // no log size
+        return Err(Refusal::NoLogSize);
     }
-    0
+    Ok(())
 }
 
-pub fn ary_base_rows(words: &[u64], used: usize, bits: &[u64], s: u64) -> u8
+pub fn ary_base_rows(words: &[u64], used: usize, bits: &[u64], s: u64) -> Result<(), Refusal>
     requires { Marked words.now bits.now used }
-    ensures { result ≡ ary_base_rows s (take used words.now) }
+    ensures { row_of result ≡ ary_base_rows s (take used words.now) }
 {
-    let no = of_structs::array_rows(words, used, bits, s);
-    if no != 0 {
-        return no;
-    }
+    of_structs::array_rows(words, used, bits, s)?;
     if unsized_field(words, used, s as usize) {
-        return 9; // no log size
+        return Err(Refusal::NoLogSize);
     }
-    0
+    Ok(())
 }
 
-pub fn ary_scale_rows(words: &[u64], used: usize, bits: &[u64], s: u64) -> u8
+pub fn ary_scale_rows(words: &[u64], used: usize, bits: &[u64], s: u64) -> Result<(), Refusal>
     requires { Marked words.now bits.now used }
-    ensures { result ≡ ary_scale_rows s (take used words.now) }
+    ensures { row_of result ≡ ary_scale_rows s (take used words.now) }
 {
-    let no = of_structs::array_rows(words, used, bits, s);
-    if no != 0 {
-        return no;
-    }
+    of_structs::array_rows(words, used, bits, s)?;
     if ary_scale(words, used, s as usize) >= of_types::NO_LOG_SIZE {
-        return 9; // no log size
+        return Err(Refusal::NoLogSize);
     }
-    0
+    Ok(())
 }

@@ -12,7 +12,7 @@ use Rattle.source.specs.Packed.{of_bytes, packed}
 use Rattle.names.specs.Name.{name_entry}
 use Rattle.makers.specs.Makers.{body_name}
 use Rattle.meet_rules.specs.Names.{same_words}
-use Rattle.of_structs.specs.declared.Place.TheVariants.{At, Absent}
+use Rattle.std.proofs.Common.{Some, None}
 use Rattle.of_structs.specs.OfStructs.{lent_fields, field_list, first_match, find_of, find_alias_of, is_ary, fields_rows, find_rows, find_alias_rows, array_rows}
 
 -- behind the count of the words: the names "a" (1), "b" (3), "a" once more (5) and "[]" (7), and Bot (9)
@@ -29,11 +29,11 @@ unfolding lent_fields
 listed = (refl, refl)
 
 -- "first match, or absent", by the name's bytes: both fields are named "a", and the first is found by either handle
-pub found : (find_of u 10 1 ≡ At 0) × (find_of u 10 5 ≡ At 0) × (find_of u 10 3 ≡ Absent) × (find_of u 18 3 ≡ At 0) × (find_of u 18 7 ≡ At 1)
+pub found : (find_of u 10 1 ≡ Some 0) × (find_of u 10 5 ≡ Some 0) × (find_of u 10 3 ≡ None) × (find_of u 18 3 ≡ Some 0) × (find_of u 18 7 ≡ Some 1)
 unfolding first_match every same_words size_of words_after
 found = (refl, refl, refl, refl, refl)
 
-pub found_by_alias : (find_alias_of u 10 7 ≡ At 0) × (find_alias_of u 10 8 ≡ At 1) × (find_alias_of u 10 15 ≡ Absent)
+pub found_by_alias : (find_alias_of u 10 7 ≡ Some 0) × (find_alias_of u 10 8 ≡ Some 1) × (find_alias_of u 10 15 ≡ None)
 unfolding first_match every
 found_by_alias = (refl, refl, refl)
 

@@ -1,5 +1,5 @@
 -- Document 01, "The other calls": what is told of a struct's name and fields. `u` is the used words, s a struct.
-use Rattle.std.specs.Prelude.{Bool, cond, not, ◌&&◌, ◌||◌, List, [], ◌∷◌, ℕ, zero, suc, ◌+◌, eqb}
+use Rattle.std.specs.Prelude.{Bool, cond, not, ◌&&◌, ◌||◌, List, [], ◌∷◌, ℕ, zero, suc, ◌+◌, eqb, Option, Some, None}
 use Rattle.words.specs.Kinds.{Struct, Fref}
 use Rattle.words.specs.Columns.{word, kind_on, count_on, field_names_on, flags_on, first_field, next_field, field_name_at, field_type_at, flags_at, alias_in, final_in}
 use Rattle.wellformed.specs.Entry.{is_name, is_struct, is_alias}
@@ -8,8 +8,6 @@ use Rattle.call.specs.Call.{Reply, number, absent, ◌when◌, ◌otherwise◌}
 use Rattle.call.specs.Handles.{no_entry, wrong_kind}
 use Rattle.makers.specs.Makers.{body_name}
 use Rattle.meet_rules.specs.Names.{same_name}
-use Rattle.of_structs.specs.declared.Place.{Place}
-use Rattle.of_structs.specs.declared.Place.TheVariants.{At, Absent}
 
 -- ---- the field list
 
@@ -24,21 +22,21 @@ field_list u s = lent_fields (count_on u s) (first_field s) u
 -- ---- find, find_alias: "first match, or absent"
 
 -- the place of the first of a list that p takes, counted from i on
-unfoldable pub first_match : (ℕ → Bool) → ℕ → List ℕ → Place
-first_match p i [] = Absent
-first_match p i (x ∷ xs) = cond (p x) (At i) (first_match p (suc i) xs)
+unfoldable pub first_match : (ℕ → Bool) → ℕ → List ℕ → Option ℕ
+first_match p i [] = None
+first_match p i (x ∷ xs) = cond (p x) (Some i) (first_match p (suc i) xs)
 
 -- by the name's bytes
-abbrev pub find_of : List ℕ → ℕ → ℕ → Place
+abbrev pub find_of : List ℕ → ℕ → ℕ → Option ℕ
 find_of u s name = first_match (λ x. same_name u x name) 0 (field_names_on u s)
 
-abbrev pub find_alias_of : List ℕ → ℕ → ℕ → Place
+abbrev pub find_alias_of : List ℕ → ℕ → ℕ → Option ℕ
 find_alias_of u s alias = first_match (λ flags. eqb (alias_in flags) alias) 0 (flags_on u s)
 
 -- the answer that a place is
-abbrev pub placed : Place → Reply
-placed (At i) = number i
-placed Absent = absent
+abbrev pub placed : Option ℕ → Reply
+placed (Some i) = number i
+placed None = absent
 
 -- ---- is_ary: two fields, of which the second is named "[]"
 

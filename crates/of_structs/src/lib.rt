@@ -7,17 +7,12 @@ ghost use Rattle.words.specs.Columns.{count_on, field_names_on, first_field, fie
 ghost use Rattle.wellformed.specs.Entry.{all, most_counted};
 ghost use Rattle.wellformed.specs.Form.{longest_allowed};
 ghost use Rattle.makers.specs.Entries.{lent_size};
+ghost use Rattle.call.specs.Refusals.{row_of};
 ghost use Rattle.call.specs.Steps.{Marked};
 ghost use Rattle.of_structs.specs.OfStructs.{field_list, find_of, find_alias_of, is_ary, is_body_name, is_array, fields_rows, find_rows, find_alias_rows, array_rows};
 
+use call::Refusal;
 use words::{columns, kinds, limits};
-
-// Where a field was found.
-#[derive(Clone, Copy)]
-pub enum Place {
-    At(u64),
-    Absent,
-}
 
 // ---- the field list
 
@@ -29,8 +24,7 @@ pub fn fill_fields(words: &[u64], used: usize, s: usize, output: &mut [u64])
 {
     let none = [0u64; 0];
     let n = (words::word(&none, words, used, s) / kinds::COUNT) as usize;
-    let mut i = 0;
-    while i < n {
+    for i in 0..n {
         let p = s + columns::FIELDS + columns::FIELD * i;
         let name = words::word(&none, words, used, p);
         let field_type = words::word(&none, words, used, p + columns::FIELD_TYPE);
@@ -39,11 +33,10 @@ pub fn fill_fields(words: &[u64], used: usize, s: usize, output: &mut [u64])
             &mut output[columns::LENT_FIELD * i..],
             &[name, field_type, flags / 2, flags % 2],
         );
-        i += 1;
     }
 }
 
-// ---- find, find_alias
+// ---- find, find_alias: the place of the first field that fits
 
 // The name of field i.
 fn field_name(words: &[u64], used: usize, s: usize, i: usize) -> usize
@@ -57,43 +50,37 @@ fn field_name(words: &[u64], used: usize, s: usize, i: usize) -> usize
     words::word(&none, words, used, p) as usize
 }
 
-pub fn find(words: &[u64], used: usize, s: usize, name: usize) -> Place
+pub fn find(words: &[u64], used: usize, s: usize, name: usize) -> Option<u64>
     requires used_in_bounds { (used ≤ length words.now) × (s < used) × (name < used) × (length words.now ≤ longest_allowed) }
     requires s_bound { (count_on (take used words.now) s ≤ most_counted) × (all (λ x. ltb x longest_allowed) (field_names_on (take used words.now) s) ≡ true) }
     ensures { result ≡ find_of (take used words.now) s name }
 {
     let none = [0u64; 0];
     let n = (words::word(&none, words, used, s) / kinds::COUNT) as usize;
-    let mut left = n;
-    while 0 < left {
-        let i = n - left; // the first fields come first
+    for i in 0..n {
         let x = field_name(words, used, s, i);
         if same_names::same_name(&none, words, used, x, name) {
-            return Place::At(i as u64);
+            return Some(i as u64);
         }
-        left -= 1;
     }
-    Place::Absent
+    None
 }
 
-pub fn find_alias(words: &[u64], used: usize, s: usize, alias: u64) -> Place
+pub fn find_alias(words: &[u64], used: usize, s: usize, alias: u64) -> Option<u64>
     requires used_in_bounds { (used ≤ length words.now) × (s < used) × (length words.now ≤ longest_allowed) }
     requires s_bound { count_on (take used words.now) s ≤ most_counted }
     ensures { result ≡ find_alias_of (take used words.now) s alias }
 {
     let none = [0u64; 0];
     let n = (words::word(&none, words, used, s) / kinds::COUNT) as usize;
-    let mut left = n;
-    while 0 < left {
-        let i = n - left;
+    for i in 0..n {
         let p = s + columns::FIELD_FLAGS + columns::FIELD * i;
         let flags = words::word(&none, words, used, p);
         if flags / 2 == alias {
-            return Place::At(i as u64);
+            return Some(i as u64);
         }
-        left -= 1;
     }
-    Place::Absent
+    None
 }
 
 // ---- is_ary
@@ -131,61 +118,61 @@ pub fn is_ary(words: &[u64], used: usize, s: u64) -> bool
 
 // ---- rows
 
-pub fn fields_rows(words: &[u64], used: usize, bits: &[u64], s: u64) -> u8
+pub fn fields_rows(words: &[u64], used: usize, bits: &[u64], s: u64) -> Result<(), Refusal>
     requires { Marked words.now bits.now used }
-    ensures { result ≡ fields_rows s (take used words.now) }
+    ensures { row_of result ≡ fields_rows s (take used words.now) }
 {
     if !call::all_start(bits, &[s]) {
-        return 2; // a handle starts no entry
+        return Err(Refusal::NoEntry);
     }
     let none = [0u64; 0];
     if !call::all_kinds(&none, words, used, &[s], kinds::STRUCT, kinds::FREF) {
-        return 3; // of a kind that the call does not take
+        return Err(Refusal::WrongKind);
     }
     if call::kind_on(&none, words, used, s) == kinds::FREF {
-        return 7; // fields wanted of a forward reference
+        return Err(Refusal::NoFields); // fields wanted of a forward reference
     }
-    0
+    Ok(())
 }
 
-pub fn find_rows(words: &[u64], used: usize, bits: &[u64], s: u64, name: u64) -> u8
+pub fn find_rows(words: &[u64], used: usize, bits: &[u64], s: u64, name: u64) -> Result<(), Refusal>
     requires { Marked words.now bits.now used }
-    ensures { result ≡ find_rows s name (take used words.now) }
+    ensures { row_of result ≡ find_rows s name (take used words.now) }
 {
     if !call::all_start(bits, &[s, name]) {
-        return 2; // a handle starts no entry
+        return Err(Refusal::NoEntry);
     }
     let none = [0u64; 0];
     if !call::all_kinds(&none, words, used, &[s], kinds::STRUCT, kinds::FREF) {
-        return 3; // of a kind that the call does not take
+        return Err(Refusal::WrongKind);
     }
     if !call::all_kinds(&none, words, used, &[name], kinds::NAME, kinds::NAME) {
-        return 3; // of a kind that the call does not take
+        return Err(Refusal::WrongKind);
     }
     if call::kind_on(&none, words, used, s) == kinds::FREF {
-        return 7; // a field wanted of a forward reference
+        return Err(Refusal::NoFields); // a field wanted of a forward reference
     }
-    0
+    Ok(())
 }
 
-pub fn find_alias_rows(words: &[u64], used: usize, bits: &[u64], s: u64, alias: u64) -> u8
+pub fn find_alias_rows(words: &[u64], used: usize, bits: &[u64], s: u64, alias: u64) -> Result<(), Refusal>
     requires { Marked words.now bits.now used }
-    ensures { result ≡ find_alias_rows s alias (take used words.now) }
+    ensures { row_of result ≡ find_alias_rows s alias (take used words.now) }
 {
     if !call::all_start(bits, &[s]) {
-        return 2; // a handle starts no entry
+        return Err(Refusal::NoEntry);
     }
     let none = [0u64; 0];
     if !call::all_kinds(&none, words, used, &[s], kinds::STRUCT, kinds::FREF) {
-        return 3; // of a kind that the call does not take
+        return Err(Refusal::WrongKind);
     }
     if alias > limits::LARGEST_ALIAS {
-        return 4; // a value that the call does not take
+        return Err(Refusal::WrongValue);
     }
     if call::kind_on(&none, words, used, s) == kinds::FREF {
-        return 7; // a field wanted of a forward reference, by its alias
+        return Err(Refusal::NoFields); // a field wanted of a forward reference, by its alias
     }
-    0
+    Ok(())
 }
 
 // Whether s is a struct that is an array.
@@ -200,15 +187,15 @@ fn is_array(words: &[u64], used: usize, s: u64) -> bool
     is_ary(words, used, s)
 }
 
-pub fn array_rows(words: &[u64], used: usize, bits: &[u64], s: u64) -> u8
+pub fn array_rows(words: &[u64], used: usize, bits: &[u64], s: u64) -> Result<(), Refusal>
     requires { Marked words.now bits.now used }
-    ensures { result ≡ array_rows s (take used words.now) }
+    ensures { row_of result ≡ array_rows s (take used words.now) }
 {
     if !call::all_start(bits, &[s]) {
-        return 2; // a handle starts no entry
+        return Err(Refusal::NoEntry);
     }
     if !is_array(words, used, s) {
-        return 3; // no array
+        return Err(Refusal::WrongKind); // no array
     }
-    0
+    Ok(())
 }

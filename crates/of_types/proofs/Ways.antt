@@ -245,17 +245,9 @@ unfolding all
 only v p h k true is ib = rw (← is, ← ib)
 only v p h k false is ib = rw (← is, ← ib)
 
--- rows before others
-pub first_rows : (n a b : ℕ) → n ≡ a → (n ≡ 0 → ⊥) → n ≡ (a otherwise b)
-first_rows zero a b e z = absurd (z refl)
-first_rows (suc n) a b e z = e ∙ rw (← e)
-
-pub next_rows : (n a b c : ℕ) → n ≡ a → n ≡ 0 → c ≡ b → c ≡ (a otherwise b)
-next_rows n a b c e z q = q ∙ rw (← e, z)
-
-module _ (u : List ℕ) (t n : ℕ) (is : n ≡ types_rows (t ∷ []) u) (z : n ≡ 0) (x : ℕ) (ix : x ≡ log_size u t) where
+module _ (u : List ℕ) (t : ℕ) (z : types_rows (t ∷ []) u ≡ 0) (x : ℕ) (ix : x ≡ log_size u t) where
   pub log_9 : 4 ≤ x → 9 ≡ log_size_rows t u
-  log_9 h = rw (← is, z, ← ix, le-ltb x 4 h)
+  log_9 h = rw (z, ← ix, le-ltb x 4 h)
 
   pub log_0 : x < 4 → 0 ≡ log_size_rows t u
-  log_0 h = rw (← is, z, ← ix, lt-ltb x 4 h)
+  log_0 h = rw (z, ← ix, lt-ltb x 4 h)

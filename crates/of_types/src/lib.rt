@@ -3,13 +3,14 @@
 
 ghost use Rattle.std.specs.Prelude.{◌≡◌, ◌||◌, ◌≤◌, ◌<◌, eqb, length, take};
 ghost use Rattle.wellformed.specs.Entry.{kind_in};
-ghost use Rattle.call.specs.Call.{told};
+ghost use Rattle.call.specs.Call.{answered};
+ghost use Rattle.call.specs.Refusals.{row_of};
 ghost use Rattle.call.specs.Steps.{Marked};
 ghost use Rattle.words.specs.Columns.{min_on, max_on, size_on, bits_on};
 ghost use Rattle.of_types.specs.OfTypes.{int_side, float_side, pointer_side, side_of, is_high, is_high_or_constant, is_constant, is_fref, zero_of, has_zero, make_zero_of, make_init_of, int_log_size, float_log_size, log_size, kind_rows, log_size_rows};
 ghost use Rattle.of_types.specs.Tells.{of_type_rows, of_type_told};
 
-use call::Answer;
+use call::{Answer, Refusal};
 use words::{columns, fresh, kinds};
 
 // Where a type stands: on Top's side of the lattice's centre, on the centre, or on Bot's side.
@@ -179,7 +180,7 @@ fn make_init(words: &[u64], used: usize, t: u64) -> u64
 
 // ---- log_size
 
-// What log_size is where a type has none.
+// What log_size is where a type has none. A number, since `tell` and `of_offsets::ary_scale` promise one of any type.
 pub const NO_LOG_SIZE: u64 = 4;
 
 // Whether t is one of two.
@@ -263,18 +264,18 @@ pub fn log_size(words: &[u64], used: usize, t: u64) -> u64
 // ---- rows
 
 // Of a call on one entry, of a kind from low to high.
-pub fn kind_rows(words: &[u64], used: usize, bits: &[u64], h: u64, low: u64, high: u64) -> u8
+pub fn kind_rows(words: &[u64], used: usize, bits: &[u64], h: u64, low: u64, high: u64) -> Result<(), Refusal>
     requires { Marked words.now bits.now used }
-    ensures { result ≡ kind_rows (kind_in low high) h (take used words.now) }
+    ensures { row_of result ≡ kind_rows (kind_in low high) h (take used words.now) }
 {
     if !call::all_start(bits, &[h]) {
-        return 2; // a handle starts no entry
+        return Err(Refusal::NoEntry);
     }
     let none = [0u64; 0];
     if !call::all_kinds(&none, words, used, &[h], low, high) {
-        return 3; // of a kind that the call does not take
+        return Err(Refusal::WrongKind);
     }
-    0
+    Ok(())
 }
 
 fn has_zero(k: u64) -> bool
@@ -289,32 +290,29 @@ fn has_zero(k: u64) -> bool
     k == kinds::MEM_PTR // and a pointer
 }
 
-fn zero_rows(words: &[u64], used: usize, bits: &[u64], h: u64) -> u8
+fn zero_rows(words: &[u64], used: usize, bits: &[u64], h: u64) -> Result<(), Refusal>
     requires { Marked words.now bits.now used }
-    ensures { result ≡ kind_rows has_zero h (take used words.now) }
+    ensures { row_of result ≡ kind_rows has_zero h (take used words.now) }
 {
     if !call::all_start(bits, &[h]) {
-        return 2; // a handle starts no entry
+        return Err(Refusal::NoEntry);
     }
     let none = [0u64; 0];
     if !has_zero(call::kind_on(&none, words, used, h)) {
-        return 3; // of a kind that the call does not take
+        return Err(Refusal::WrongKind);
     }
-    0
+    Ok(())
 }
 
-fn log_size_rows(words: &[u64], used: usize, bits: &[u64], t: u64) -> u8
+fn log_size_rows(words: &[u64], used: usize, bits: &[u64], t: u64) -> Result<(), Refusal>
     requires { Marked words.now bits.now used }
-    ensures { result ≡ log_size_rows t (take used words.now) }
+    ensures { row_of result ≡ log_size_rows t (take used words.now) }
 {
-    let no = rows::types_rows(words, used, bits, &[t]);
-    if no != 0 {
-        return no;
-    }
+    rows::types_rows(words, used, bits, &[t])?;
     if log_size(words, used, t) >= NO_LOG_SIZE {
-        return 9; // no log size
+        return Err(Refusal::NoLogSize);
     }
-    0
+    Ok(())
 }
 
 // ---- the calls
@@ -331,10 +329,10 @@ pub enum OfType {
     LogSize,
 }
 
-// The number of the first row that applies, or 0.
-pub fn rows_of(words: &[u64], used: usize, bits: &[u64], of: OfType, t: u64) -> u8
+// The rows of each.
+pub fn rows_of(words: &[u64], used: usize, bits: &[u64], of: OfType, t: u64) -> Result<(), Refusal>
     requires { Marked words.now bits.now used }
-    ensures { result ≡ of_type_rows of t (take used words.now) }
+    ensures { row_of result ≡ of_type_rows of t (take used words.now) }
 {
     match of {
         OfType::MakeInit => rows::types_rows(words, used, bits, &[t]),
@@ -350,7 +348,7 @@ pub fn rows_of(words: &[u64], used: usize, bits: &[u64], of: OfType, t: u64) -> 
 // The answer where no row applies.
 pub fn tell(words: &[u64], used: usize, of: OfType, t: u64) -> Answer
     requires { used ≤ length words.now }
-    ensures { told result ≡ of_type_told of t (take used words.now) }
+    ensures { answered result ≡ of_type_told of t (take used words.now) }
 {
     match of {
         OfType::MakeInit => Answer::Handle(make_init(words, used, t)),

@@ -5,7 +5,7 @@ ghost use Rattle.std.specs.Prelude.{◌≡◌, true, ◌≤◌, ◌<◌, length,
 ghost use Rattle.std.specs.Float.{binary64};
 ghost use Rattle.std.specs.Float.Ieee.{of_bits};
 ghost use Rattle.words.specs.Columns.{min_on, max_on, size_on, bits_on};
-ghost use Rattle.call.specs.Call.{told};
+ghost use Rattle.call.specs.Call.{answered};
 ghost use Rattle.type_float.specs.Float.{size_from, is_size_word};
 ghost use Rattle.type_float.specs.Single.{is_single};
 ghost use Rattle.meet_rules.specs.Rules.{reading_on};
@@ -38,7 +38,7 @@ fn max(words: &[u64], used: usize, t: usize) -> u64
 // The value of a constant.
 fn value(words: &[u64], used: usize, t: usize) -> Answer
     requires { (used ≤ length words.now) × (t < used) }
-    ensures { told result ≡ int_value (take used words.now) t }
+    ensures { answered result ≡ int_value (take used words.now) t }
 {
     let low = min(words, used, t);
     if low == max(words, used, t) {
@@ -103,7 +103,7 @@ fn read_as(words: &[u64], used: usize, t: usize) -> Reading
 // A reading as an answer. A NaN's bits stand beside its value.
 fn reading_is(r: Reading, bits: u64) -> Answer
     requires { ReadFrom bits r }
-    ensures { told result ≡ reading_is bits r }
+    ensures { answered result ≡ reading_is bits r }
 {
     match r {
         Reading::Constant(x) => Answer::Constant(type_float::bits_of(x, bits)),
@@ -113,7 +113,7 @@ fn reading_is(r: Reading, bits: u64) -> Answer
 
 fn reading(words: &[u64], used: usize, t: usize) -> Answer
     requires { (used ≤ length words.now) × (t < used) × (is_size_word (size_on (take used words.now) t) ≡ true) }
-    ensures { told result ≡ float_reading (take used words.now) t }
+    ensures { answered result ≡ float_reading (take used words.now) t }
 {
     reading_is(read_as(words, used, t), bits(words, used, t))
 }
@@ -121,7 +121,7 @@ fn reading(words: &[u64], used: usize, t: usize) -> Answer
 // The value that was read, as an answer.
 fn value_is(r: Reading, bits: u64) -> Answer
     requires { ReadFrom bits r }
-    ensures { told result ≡ value_is bits r }
+    ensures { answered result ≡ value_is bits r }
 {
     match r {
         Reading::Constant(x) => Answer::Number(type_float::bits_of(x, bits)),
@@ -131,7 +131,7 @@ fn value_is(r: Reading, bits: u64) -> Answer
 
 fn float_value(words: &[u64], used: usize, t: usize) -> Answer
     requires { (used ≤ length words.now) × (t < used) × (is_size_word (size_on (take used words.now) t) ≡ true) }
-    ensures { told result ≡ float_value (take used words.now) t }
+    ensures { answered result ≡ float_value (take used words.now) t }
 {
     value_is(read_as(words, used, t), bits(words, used, t))
 }
@@ -149,7 +149,7 @@ pub enum OfInt {
 
 pub fn tell_int(words: &[u64], used: usize, of: OfInt, t: usize) -> Answer
     requires { (used ≤ length words.now) × (t < used) }
-    ensures { told result ≡ of_int_told of t (take used words.now) }
+    ensures { answered result ≡ of_int_told of t (take used words.now) }
 {
     match of {
         OfInt::Min => Answer::Signed(min(words, used, t)),
@@ -170,7 +170,7 @@ pub enum OfFloat {
 
 pub fn tell_float(words: &[u64], used: usize, of: OfFloat, t: usize) -> Answer
     requires { (used ≤ length words.now) × (t < used) × (is_size_word (size_on (take used words.now) t) ≡ true) }
-    ensures { told result ≡ of_float_told of t (take used words.now) }
+    ensures { answered result ≡ of_float_told of t (take used words.now) }
 {
     match of {
         OfFloat::Sz => Answer::Signed(sz(words, used, t)),

@@ -1,9 +1,8 @@
 -- An opened store: words that row 1 has passed, with an index and a memory of answers that are right for them. As long as nobody else writes any of the three lists, row 1 need
 -- not be tested again: every opened call leaves an opened store.
-use Rattle.std.specs.Prelude.{◌≡◌, true, not, List, ℕ, ltb, length}
+use Rattle.std.specs.Prelude.{◌≡◌, true, not, List, ℕ, ltb, length, ⊤, Result, IsOk, IsErr}
 use Rattle.wellformed.specs.Form.{well_formed, used_words}
-use Rattle.call.specs.declared.Done.{Done}
-use Rattle.call.specs.declared.Done.TheVariants.{Accepted}
+use Rattle.call.specs.declared.Refusal.{Refusal}
 use Rattle.call.specs.Call.{Reply, accepted, ◌when◌, ◌otherwise◌, reply_after}
 use Rattle.lent_memory.specs.Memory.{Right}
 use Rattle.store_index.specs.StoreIndex.{index_size, IndexOf}
@@ -22,6 +21,6 @@ abbrev pub open_reply : List ℕ → ℕ → Reply
 open_reply ws n = reply_after (1 when not (well_formed ws) otherwise 11 when ltb n (index_size (length ws))) accepted
 
 -- an accepted store is open; a refused call changes no word
-pub record Opening (ws index memory index' memory' : List ℕ) (r : Done) : Type 0 where
-  pub opens : r ≡ Accepted → OpenStore ws index' memory'
-  pub kept : (r ≡ Accepted → ⊥) → (index' ≡ index) × (memory' ≡ memory)
+pub record Opening (ws index memory index' memory' : List ℕ) (r : Result ⊤ Refusal) : Type 0 where
+  pub opens : IsOk r → OpenStore ws index' memory'
+  pub kept : IsErr r → (index' ≡ index) × (memory' ≡ memory)

@@ -13,7 +13,7 @@ ghost use Rattle.asking.specs.Asking.{asked_filling, asked, output_of};
 ghost use Rattle.opened.specs.OpenStore.{OpenStore, open_reply, Opening};
 
 use asking::Asking;
-use call::{Answer, Done, Made};
+use call::{Answer, Refusal};
 use making::Making;
 use struct_calls::{Filling, OfStruct};
 
@@ -32,20 +32,20 @@ pub fn build(words: &[u64], index: &mut [u64], memory: &mut [u64])
 }
 
 // Tests row 1, and makes the index and a blank memory.
-pub fn open(words: &[u64], index: &mut [u64], memory: &mut [u64]) -> Done
+pub fn open(words: &[u64], index: &mut [u64], memory: &mut [u64]) -> Result<(), Refusal>
     ensures result_value { done result ≡ open_reply words.now (length index.old) }
     ensures opening { Opening words.now index.old memory.old index.new memory.new result }
 {
     if !wellformed::well_formed(words) {
-        return Done::Refused(1);
+        return Err(Refusal::NoStore);
     }
     let n = words.len();
     // behind the bits the two halves of the chains, a word for each word of the list
     if index.len() < store_index::marks_size(n) + 2 * n {
-        return Done::Refused(11);
+        return Err(Refusal::ShortOutput);
     }
     build(words, index, memory);
-    Done::Accepted
+    Ok(())
 }
 
 // ---- calls
@@ -58,25 +58,21 @@ pub fn append(
     making: Making,
     list: &[u64],
     text: &[u8],
-) -> Made
+) -> Result<u64, Refusal>
     requires { OpenStore words.old index.old memory.old }
     ensures words_after { left (made result) words.new ≡ run (appended making list.now text.now) words.old }
     ensures open_store { OpenStore words.new index.new memory.new }
 {
     let used = words[0] as usize;
     let k = store_index::marks_size(words.len());
-    let no = making::rows_of(words, used, &index[..k], making, list, text);
-    if no != 0 {
-        return Made::Refused(no);
-    }
-    let mut none = [0u64; 0];
+    making::rows_of(words, used, &index[..k], making, list, text)?;
     let r = making::append(
         words,
         used,
         making,
         list,
         text,
-        &mut none,
+        &mut [],
         memory,
         &index[k..],
     );
@@ -85,7 +81,7 @@ pub fn append(
 }
 
 // A call that has neither a list nor a text.
-pub fn make(words: &mut [u64], index: &mut [u64], memory: &mut [u64], making: Making) -> Made
+pub fn make(words: &mut [u64], index: &mut [u64], memory: &mut [u64], making: Making) -> Result<u64, Refusal>
     requires { OpenStore words.old index.old memory.old }
     ensures words_after { left (made result) words.new ≡ run (appended making [] []) words.old }
     ensures open_store { OpenStore words.new index.new memory.new }
@@ -94,19 +90,15 @@ pub fn make(words: &mut [u64], index: &mut [u64], memory: &mut [u64], making: Ma
 }
 
 // A call that only reads.
-pub fn ask(words: &[u64], index: &[u64], memory: &mut [u64], asking: Asking) -> Answer
+pub fn ask(words: &[u64], index: &[u64], memory: &mut [u64], asking: Asking) -> Result<Answer, Refusal>
     requires { OpenStore words.now index.now memory.old }
     ensures words_value { left (told result) words.now ≡ run (asked asking) words.now }
     ensures open_store { OpenStore words.now index.now memory.new }
 {
     let used = words[0] as usize;
     let k = store_index::marks_size(words.len());
-    let no = asking::rows_of(words, used, &index[..k], asking);
-    if no != 0 {
-        return Answer::Refused(no);
-    }
-    let mut none = [0u64; 0];
-    asking::tell(words, used, asking, &mut none, memory, &index[k..])
+    asking::rows_of(words, used, &index[..k], asking)?;
+    Ok(asking::tell(words, used, asking, &mut [], memory, &index[k..]))
 }
 
 // A call that fills a lent output.
@@ -117,7 +109,7 @@ pub fn fill(
     filling: Filling,
     s: u64,
     output: &mut [u64],
-) -> Answer
+) -> Result<Answer, Refusal>
     requires { OpenStore words.now index.now memory.old }
     ensures words_value { left (told result) words.now ≡ run (asked_filling filling s (length output.old)) words.now }
     ensures output_after { output.new ≡ output_of filling s words.now output.old }

@@ -14,8 +14,8 @@ use Rattle.words.specs.declared.Interned.{Interned}
 use Rattle.wellformed.specs.Form.{well_formed, used_words}
 use Rattle.wellformed.proofs.Before.{tests}
 use Rattle.index.specs.Covers.{indexed_to, Opened}
-use Rattle.call.specs.declared.Made.{Made}
-use Rattle.call.specs.declared.Made.TheVariants as Made-variants
+use Rattle.std.proofs.Common.{Result, Ok}
+use Rattle.call.specs.declared.Refusal.{Refusal}
 use Rattle.call.specs.Call.{Outcome, handle, refused, left, made}
 use Rattle.call.specs.Steps.{finish_in}
 use Rattle.call.proofs.Ways.{begun, ended}
@@ -31,7 +31,7 @@ use Rattle.every_call.specs.Run.{meet_list, run}
 use Rattle.store_index.specs.StoreIndex.{marks_size, index_size, chains_of}
 use Rattle.store_index.specs.Steps.{Stale, Unmarked}
 use Rattle.store_index.proofs.Index.{used_long, tail_all, back, back_long, back_front, back_rest}
-use Rattle.store_index.proofs.Store.{used_is, used_some, used_low}
+use Rattle.store_index.proofs.Store.{used_is, used_low}
 use Rattle.opened.specs.OpenStore.{OpenStore}
 use Rattle.opened.proofs.Index.{all_in, covers_later}
 use Rattle.opened.proofs.Store.{after_well, after_stale}
@@ -45,7 +45,7 @@ module _ (ws index memory types : List ℕ) (o : OpenStore ws index memory) (q :
   used = get_or ws 0 0
 
   pub list_ready : Cleared (meet_list_rows types) [] ws used
-  list_ready = whole (meet_list_rows types) ws used (begun ws used (used_is ws o.well) (used_some ws o.well)) q
+  list_ready = whole (meet_list_rows types) ws used (begun ws used (used_is ws o.well)) q
 
   pub lent_opened : Opened (take used ws) (take (length index - k) (drop k index))
   lent_opened = rw (tail_all k index, is) o.whole.chains
@@ -54,10 +54,10 @@ module _ (ws index memory types : List ℕ) (o : OpenStore ws index memory) (q :
   k_fits = omega (arith, is, o.whole.room)
 
   -- what the merge left, and the end
-  module _ (ws₁ : List ℕ) (r : Option Interned) (ran : Runs (meet_list_of types) [] ws used ws₁ r) (same : length ws₁ ≡ length ws) (m : Made) (ws₂ : List ℕ) (e : left (made m) ws₂ ≡ finish_in used r ws₁) (long : length ws₂ ≡ length ws₁)
+  module _ (ws₁ : List ℕ) (r : Option Interned) (ran : Runs (meet_list_of types) [] ws used ws₁ r) (same : length ws₁ ≡ length ws) (m : Result ℕ Refusal) (ws₂ : List ℕ) (e : left (made m) ws₂ ≡ finish_in used r ws₁) (long : length ws₂ ≡ length ws₁)
       (d : List ℕ) (lent : length d ≡ length (take (length index - k) (drop k index))) where
     list_ended : left (made m) ws₂ ≡ run (meet_list types) ws
-    list_ended = ended (meet_list_rows types) (meet_list_of types) ws used (used_is ws o.well) (used_some ws o.well) q ws₁ r same ran (left (made m) ws₂) e
+    list_ended = ended (meet_list_rows types) (meet_list_of types) ws used (used_is ws o.well) q ws₁ r same ran (left (made m) ws₂) e
 
     list_well : well_formed ws₂ ≡ true
     list_well = after_well ws ws₂ (meet_list types) refl o.well (made m) list_ended
@@ -77,7 +77,7 @@ module _ (ws index memory types : List ℕ) (o : OpenStore ws index memory) (q :
       at : r ≡ interned h v
       words : used_words ws₂ ≡ set (take v ws₁) 0 v
 
-    settled : (h : ℕ) → m ≡ Made-variants.Handle h → (v : ℕ) × Set h v
+    settled : (h : ℕ) → m ≡ Ok h → (v : ℕ) × Set h v
     unfolding finish_in
     settled h f = go r refl
       where
@@ -98,7 +98,7 @@ module _ (ws index memory types : List ℕ) (o : OpenStore ws index memory) (q :
             absurd (omega arith)
 
     -- what marking the new entries requires, and the memory then
-    module _ (h : ℕ) (f : m ≡ Made-variants.Handle h) where
+    module _ (h : ℕ) (f : m ≡ Ok h) where
       abbrev v : ℕ
       v = (settled h f).0
 
@@ -130,8 +130,8 @@ module _ (ws index memory types : List ℕ) (o : OpenStore ws index memory) (q :
       pub reply : left (made m) ws₂ ≡ run (meet_list types) ws
       pub well : well_formed ws₂ ≡ true
       pub room : index_size (length ws₂) ≤ length (back k index d k_fits lent)
-      pub unmarked : (h : ℕ) → m ≡ Made-variants.Handle h → OpenedThen ws₁ r d → Unmarked ws₂ used (back k index d k_fits lent)
-      pub right : (h : ℕ) → m ≡ Made-variants.Handle h → (memory₁ : List ℕ) → RightThen [] ws₁ r memory₁ → Right (used_words ws₂) memory₁
+      pub unmarked : (h : ℕ) → m ≡ Ok h → OpenedThen ws₁ r d → Unmarked ws₂ used (back k index d k_fits lent)
+      pub right : (h : ℕ) → m ≡ Ok h → (memory₁ : List ℕ) → RightThen [] ws₁ r memory₁ → Right (used_words ws₂) memory₁
 
     pub list_end : Ended
     list_end = record { reply = list_ended; well = list_well; room = list_room; unmarked = list_unmarked; right = list_right }

@@ -13,7 +13,7 @@ ghost use Rattle.every_call.specs.Run.{run, meet_list};
 ghost use Rattle.opened.specs.OpenStore.{OpenStore};
 ghost use Rattle.opened_lists.specs.Then.{OpenedThen};
 
-use call::Made;
+use call::Refusal;
 use words::{Interned, fresh};
 
 // Top meets the first, their meet the second, and so on, as in `meet_list::meet_list`; `chains` is the index without its bits. Word 0 is left alone.
@@ -51,28 +51,25 @@ fn merge(
     Some(met)
 }
 
-pub fn meet_list(words: &mut [u64], index: &mut [u64], memory: &mut [u64], types: &[u64]) -> Made
+pub fn meet_list(
+    words: &mut [u64],
+    index: &mut [u64],
+    memory: &mut [u64],
+    types: &[u64],
+) -> Result<u64, Refusal>
     requires { OpenStore words.old index.old memory.old }
     ensures words_after { left (made result) words.new ≡ run (meet_list types.now) words.old }
     ensures open_store { OpenStore words.new index.new memory.new }
 {
     let used = words[0] as usize;
     let k = store_index::marks_size(words.len());
-    let no = meet_list::list_rows(words, used, &index[..k], types);
-    if no != 0 {
-        return Made::Refused(no);
-    }
+    meet_list::list_rows(words, used, &index[..k], types)?;
     let r = merge(words, used, types, &mut index[k..], memory);
     let m = call::finish(words, used, r);
     match m {
-        Made::Handle(h) => {
-            store_index::mark_new(words, used, index);
-            Made::Handle(h)
-        }
-        Made::Refused(n) => {
-            // the index and the memory may speak of entries that are gone
-            opened::build(words, index, memory);
-            Made::Refused(n)
-        }
+        Ok(_) => store_index::mark_new(words, used, index),
+        // the index and the memory may speak of entries that are gone
+        Err(_) => opened::build(words, index, memory),
     }
+    m
 }

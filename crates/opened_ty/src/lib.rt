@@ -8,7 +8,7 @@ ghost use Rattle.every_call.specs.Run.{run, meet, meet_list, isa, dual, glb, lub
 ghost use Rattle.opened.specs.OpenStore.{OpenStore};
 
 use asking::Asking;
-use call::{Answer, Made};
+use call::{Answer, Refusal};
 use making::Making;
 use of_types::OfType;
 use of_values::{OfFloat, OfInt};
@@ -16,7 +16,7 @@ use struct_calls::{Filling, OfStruct};
 use walk_rules::Walk;
 
 // The merge of two types: of types that reach no memory type and no forward reference the lowest type above both.
-pub fn meet(words: &mut [u64], index: &mut [u64], memory: &mut [u64], a: u64, b: u64) -> Made
+pub fn meet(words: &mut [u64], index: &mut [u64], memory: &mut [u64], a: u64, b: u64) -> Result<u64, Refusal>
     requires { OpenStore words.old index.old memory.old }
     ensures words_after { left (made result) words.new ≡ run (meet a b) words.old }
     ensures open_store { OpenStore words.new index.new memory.new }
@@ -25,7 +25,7 @@ pub fn meet(words: &mut [u64], index: &mut [u64], memory: &mut [u64], a: u64, b:
 }
 
 // The merge of a lent list, of up to 4,096 types, from left to right, starting at Top. What is made on the way is appended too; a refusal leaves the store as before the first.
-pub fn meet_list(words: &mut [u64], index: &mut [u64], memory: &mut [u64], types: &[u64]) -> Made
+pub fn meet_list(words: &mut [u64], index: &mut [u64], memory: &mut [u64], types: &[u64]) -> Result<u64, Refusal>
     requires { OpenStore words.old index.old memory.old }
     ensures words_after { left (made result) words.new ≡ run (meet_list types.now) words.old }
     ensures open_store { OpenStore words.new index.new memory.new }
@@ -34,7 +34,7 @@ pub fn meet_list(words: &mut [u64], index: &mut [u64], memory: &mut [u64], types
 }
 
 // Whether a isa b: whether their meet would be b.
-pub fn isa(words: &[u64], index: &[u64], memory: &mut [u64], a: u64, b: u64) -> Answer
+pub fn isa(words: &[u64], index: &[u64], memory: &mut [u64], a: u64, b: u64) -> Result<Answer, Refusal>
     requires { OpenStore words.now index.now memory.old }
     ensures words_value { left (told result) words.now ≡ run (isa a b) words.now }
     ensures open_store { OpenStore words.now index.now memory.new }
@@ -43,7 +43,7 @@ pub fn isa(words: &[u64], index: &[u64], memory: &mut [u64], a: u64, b: u64) -> 
 }
 
 // The type turned over: Bot for Top, the ends of an Int changed, and so on through the parts.
-pub fn dual(words: &mut [u64], index: &mut [u64], memory: &mut [u64], a: u64) -> Made
+pub fn dual(words: &mut [u64], index: &mut [u64], memory: &mut [u64], a: u64) -> Result<u64, Refusal>
     requires { OpenStore words.old index.old memory.old }
     ensures words_after { left (made result) words.new ≡ run (dual a) words.old }
     ensures open_store { OpenStore words.new index.new memory.new }
@@ -52,7 +52,7 @@ pub fn dual(words: &mut [u64], index: &mut [u64], memory: &mut [u64], a: u64) ->
 }
 
 // The fixed type that the Rust calls its greatest lower bound, and that stands above it: Bot, the Int of all numbers, and so on through the parts.
-pub fn glb(words: &mut [u64], index: &mut [u64], memory: &mut [u64], a: u64) -> Made
+pub fn glb(words: &mut [u64], index: &mut [u64], memory: &mut [u64], a: u64) -> Result<u64, Refusal>
     requires { OpenStore words.old index.old memory.old }
     ensures words_after { left (made result) words.new ≡ run (glb a) words.old }
     ensures open_store { OpenStore words.new index.new memory.new }
@@ -61,7 +61,7 @@ pub fn glb(words: &mut [u64], index: &mut [u64], memory: &mut [u64], a: u64) -> 
 }
 
 // The fixed type that the Rust calls its least upper bound, and that stands below it: Top, the Int of no number, and so on through the parts.
-pub fn lub(words: &mut [u64], index: &mut [u64], memory: &mut [u64], a: u64) -> Made
+pub fn lub(words: &mut [u64], index: &mut [u64], memory: &mut [u64], a: u64) -> Result<u64, Refusal>
     requires { OpenStore words.old index.old memory.old }
     ensures words_after { left (made result) words.new ≡ run (lub a) words.old }
     ensures open_store { OpenStore words.new index.new memory.new }
@@ -70,7 +70,7 @@ pub fn lub(words: &mut [u64], index: &mut [u64], memory: &mut [u64], a: u64) -> 
 }
 
 // The dual of the meet of the duals: of types that reach no memory type and no forward reference the highest type below both.
-pub fn join(words: &mut [u64], index: &mut [u64], memory: &mut [u64], a: u64, b: u64) -> Made
+pub fn join(words: &mut [u64], index: &mut [u64], memory: &mut [u64], a: u64, b: u64) -> Result<u64, Refusal>
     requires { OpenStore words.old index.old memory.old }
     ensures words_after { left (made result) words.new ≡ run (join a b) words.old }
     ensures open_store { OpenStore words.new index.new memory.new }
@@ -79,7 +79,7 @@ pub fn join(words: &mut [u64], index: &mut [u64], memory: &mut [u64], a: u64, b:
 }
 
 // Whether every field that pointers and fields lead to is final.
-pub fn is_final(words: &[u64], index: &[u64], memory: &mut [u64], a: u64) -> Answer
+pub fn is_final(words: &[u64], index: &[u64], memory: &mut [u64], a: u64) -> Result<Answer, Refusal>
     requires { OpenStore words.now index.now memory.old }
     ensures words_value { left (told result) words.now ≡ run (is_final a) words.now }
     ensures open_store { OpenStore words.now index.now memory.new }
@@ -88,7 +88,7 @@ pub fn is_final(words: &[u64], index: &[u64], memory: &mut [u64], a: u64) -> Ans
 }
 
 // The read-only form: every field of a struct final, and so on through the types of the fields that were not; other types themselves.
-pub fn make_ro(words: &mut [u64], index: &mut [u64], memory: &mut [u64], a: u64) -> Made
+pub fn make_ro(words: &mut [u64], index: &mut [u64], memory: &mut [u64], a: u64) -> Result<u64, Refusal>
     requires { OpenStore words.old index.old memory.old }
     ensures words_after { left (made result) words.new ≡ run (make_ro a) words.old }
     ensures open_store { OpenStore words.new index.new memory.new }
@@ -99,7 +99,7 @@ pub fn make_ro(words: &mut [u64], index: &mut [u64], memory: &mut [u64], a: u64)
 // ---- of a type
 
 // The initial value of a type: 0, 0.0 or null; of a pointer without nil Top; of other types the type itself.
-pub fn make_init(words: &[u64], index: &[u64], memory: &mut [u64], a: u64) -> Answer
+pub fn make_init(words: &[u64], index: &[u64], memory: &mut [u64], a: u64) -> Result<Answer, Refusal>
     requires { OpenStore words.now index.now memory.old }
     ensures words_value { left (told result) words.now ≡ run (make_init a) words.now }
     ensures open_store { OpenStore words.now index.now memory.new }
@@ -108,7 +108,7 @@ pub fn make_init(words: &[u64], index: &[u64], memory: &mut [u64], a: u64) -> An
 }
 
 // The zero of an Int, a Float or a pointer.
-pub fn make_zero(words: &[u64], index: &[u64], memory: &mut [u64], a: u64) -> Answer
+pub fn make_zero(words: &[u64], index: &[u64], memory: &mut [u64], a: u64) -> Result<Answer, Refusal>
     requires { OpenStore words.now index.now memory.old }
     ensures words_value { left (told result) words.now ≡ run (make_zero a) words.now }
     ensures open_store { OpenStore words.now index.now memory.new }
@@ -117,7 +117,7 @@ pub fn make_zero(words: &[u64], index: &[u64], memory: &mut [u64], a: u64) -> An
 }
 
 // The type without zero: an Int whose range begins or ends with 0 is cut there, and 0..0 becomes 1..1; a pointer becomes void; another type its glb.
-pub fn non_zero(words: &mut [u64], index: &mut [u64], memory: &mut [u64], a: u64) -> Made
+pub fn non_zero(words: &mut [u64], index: &mut [u64], memory: &mut [u64], a: u64) -> Result<u64, Refusal>
     requires { OpenStore words.old index.old memory.old }
     ensures words_after { left (made result) words.new ≡ run (non_zero a) words.old }
     ensures open_store { OpenStore words.new index.new memory.new }
@@ -126,7 +126,7 @@ pub fn non_zero(words: &mut [u64], index: &mut [u64], memory: &mut [u64], a: u64
 }
 
 // Whether a type is high: on Top's side of the lattice's centre.
-pub fn is_high(words: &[u64], index: &[u64], memory: &mut [u64], a: u64) -> Answer
+pub fn is_high(words: &[u64], index: &[u64], memory: &mut [u64], a: u64) -> Result<Answer, Refusal>
     requires { OpenStore words.now index.now memory.old }
     ensures words_value { left (told result) words.now ≡ run (is_high_is a) words.now }
     ensures open_store { OpenStore words.now index.now memory.new }
@@ -135,7 +135,7 @@ pub fn is_high(words: &[u64], index: &[u64], memory: &mut [u64], a: u64) -> Answ
 }
 
 // Whether a type is high or a constant.
-pub fn is_high_or_constant(words: &[u64], index: &[u64], memory: &mut [u64], a: u64) -> Answer
+pub fn is_high_or_constant(words: &[u64], index: &[u64], memory: &mut [u64], a: u64) -> Result<Answer, Refusal>
     requires { OpenStore words.now index.now memory.old }
     ensures words_value { left (told result) words.now ≡ run (is_high_or_constant_is a) words.now }
     ensures open_store { OpenStore words.now index.now memory.new }
@@ -149,7 +149,7 @@ pub fn is_high_or_constant(words: &[u64], index: &[u64], memory: &mut [u64], a: 
 }
 
 // Whether a type is a constant: on the lattice's centre.
-pub fn is_constant(words: &[u64], index: &[u64], memory: &mut [u64], a: u64) -> Answer
+pub fn is_constant(words: &[u64], index: &[u64], memory: &mut [u64], a: u64) -> Result<Answer, Refusal>
     requires { OpenStore words.now index.now memory.old }
     ensures words_value { left (told result) words.now ≡ run (is_constant_is a) words.now }
     ensures open_store { OpenStore words.now index.now memory.new }
@@ -158,7 +158,7 @@ pub fn is_constant(words: &[u64], index: &[u64], memory: &mut [u64], a: u64) -> 
 }
 
 // Whether a type is a forward reference, or a pointer to one.
-pub fn is_fref(words: &[u64], index: &[u64], memory: &mut [u64], a: u64) -> Answer
+pub fn is_fref(words: &[u64], index: &[u64], memory: &mut [u64], a: u64) -> Result<Answer, Refusal>
     requires { OpenStore words.now index.now memory.old }
     ensures words_value { left (told result) words.now ≡ run (is_fref_is a) words.now }
     ensures open_store { OpenStore words.now index.now memory.new }
@@ -167,7 +167,7 @@ pub fn is_fref(words: &[u64], index: &[u64], memory: &mut [u64], a: u64) -> Answ
 }
 
 // The number whose power of two is the bytes that a field of this type takes.
-pub fn log_size(words: &[u64], index: &[u64], memory: &mut [u64], a: u64) -> Answer
+pub fn log_size(words: &[u64], index: &[u64], memory: &mut [u64], a: u64) -> Result<Answer, Refusal>
     requires { OpenStore words.now index.now memory.old }
     ensures words_value { left (told result) words.now ≡ run (log_size_is a) words.now }
     ensures open_store { OpenStore words.now index.now memory.new }
@@ -178,7 +178,7 @@ pub fn log_size(words: &[u64], index: &[u64], memory: &mut [u64], a: u64) -> Ans
 // ---- of an Int and of a Float; signed numbers are two's complement words
 
 // The smallest number of an Int.
-pub fn int_min(words: &[u64], index: &[u64], memory: &mut [u64], a: u64) -> Answer
+pub fn int_min(words: &[u64], index: &[u64], memory: &mut [u64], a: u64) -> Result<Answer, Refusal>
     requires { OpenStore words.now index.now memory.old }
     ensures words_value { left (told result) words.now ≡ run (int_min a) words.now }
     ensures open_store { OpenStore words.now index.now memory.new }
@@ -187,7 +187,7 @@ pub fn int_min(words: &[u64], index: &[u64], memory: &mut [u64], a: u64) -> Answ
 }
 
 // The largest number of an Int.
-pub fn int_max(words: &[u64], index: &[u64], memory: &mut [u64], a: u64) -> Answer
+pub fn int_max(words: &[u64], index: &[u64], memory: &mut [u64], a: u64) -> Result<Answer, Refusal>
     requires { OpenStore words.now index.now memory.old }
     ensures words_value { left (told result) words.now ≡ run (int_max a) words.now }
     ensures open_store { OpenStore words.now index.now memory.new }
@@ -196,7 +196,7 @@ pub fn int_max(words: &[u64], index: &[u64], memory: &mut [u64], a: u64) -> Answ
 }
 
 // The value of an Int that is a constant, or absent.
-pub fn int_value(words: &[u64], index: &[u64], memory: &mut [u64], a: u64) -> Answer
+pub fn int_value(words: &[u64], index: &[u64], memory: &mut [u64], a: u64) -> Result<Answer, Refusal>
     requires { OpenStore words.now index.now memory.old }
     ensures words_value { left (told result) words.now ≡ run (int_value_is a) words.now }
     ensures open_store { OpenStore words.now index.now memory.new }
@@ -205,7 +205,7 @@ pub fn int_value(words: &[u64], index: &[u64], memory: &mut [u64], a: u64) -> An
 }
 
 // The bits that some number of an Int has.
-pub fn int_mask(words: &[u64], index: &[u64], memory: &mut [u64], a: u64) -> Answer
+pub fn int_mask(words: &[u64], index: &[u64], memory: &mut [u64], a: u64) -> Result<Answer, Refusal>
     requires { OpenStore words.now index.now memory.old }
     ensures words_value { left (told result) words.now ≡ run (int_mask a) words.now }
     ensures open_store { OpenStore words.now index.now memory.new }
@@ -214,7 +214,7 @@ pub fn int_mask(words: &[u64], index: &[u64], memory: &mut [u64], a: u64) -> Ans
 }
 
 // The size of a Float.
-pub fn float_sz(words: &[u64], index: &[u64], memory: &mut [u64], a: u64) -> Answer
+pub fn float_sz(words: &[u64], index: &[u64], memory: &mut [u64], a: u64) -> Result<Answer, Refusal>
     requires { OpenStore words.now index.now memory.old }
     ensures words_value { left (told result) words.now ≡ run (float_sz a) words.now }
     ensures open_store { OpenStore words.now index.now memory.new }
@@ -223,7 +223,7 @@ pub fn float_sz(words: &[u64], index: &[u64], memory: &mut [u64], a: u64) -> Ans
 }
 
 // Whether the constant of a Float is single precision; of a size alone yes.
-pub fn float_is_f32(words: &[u64], index: &[u64], memory: &mut [u64], a: u64) -> Answer
+pub fn float_is_f32(words: &[u64], index: &[u64], memory: &mut [u64], a: u64) -> Result<Answer, Refusal>
     requires { OpenStore words.now index.now memory.old }
     ensures words_value { left (told result) words.now ≡ run (float_is_f32 a) words.now }
     ensures open_store { OpenStore words.now index.now memory.new }
@@ -232,7 +232,7 @@ pub fn float_is_f32(words: &[u64], index: &[u64], memory: &mut [u64], a: u64) ->
 }
 
 // The bits of a Float that is a constant, or absent.
-pub fn float_value(words: &[u64], index: &[u64], memory: &mut [u64], a: u64) -> Answer
+pub fn float_value(words: &[u64], index: &[u64], memory: &mut [u64], a: u64) -> Result<Answer, Refusal>
     requires { OpenStore words.now index.now memory.old }
     ensures words_value { left (told result) words.now ≡ run (float_value a) words.now }
     ensures open_store { OpenStore words.now index.now memory.new }
@@ -241,7 +241,7 @@ pub fn float_value(words: &[u64], index: &[u64], memory: &mut [u64], a: u64) -> 
 }
 
 // A Float as a constant with its bits, or a size alone.
-pub fn float_reading(words: &[u64], index: &[u64], memory: &mut [u64], a: u64) -> Answer
+pub fn float_reading(words: &[u64], index: &[u64], memory: &mut [u64], a: u64) -> Result<Answer, Refusal>
     requires { OpenStore words.now index.now memory.old }
     ensures words_value { left (told result) words.now ≡ run (float_reading_is a) words.now }
     ensures open_store { OpenStore words.now index.now memory.new }
@@ -252,7 +252,7 @@ pub fn float_reading(words: &[u64], index: &[u64], memory: &mut [u64], a: u64) -
 // ---- of a struct
 
 // The name of a struct or of a forward reference.
-pub fn struct_name(words: &[u64], index: &[u64], memory: &mut [u64], s: u64) -> Answer
+pub fn struct_name(words: &[u64], index: &[u64], memory: &mut [u64], s: u64) -> Result<Answer, Refusal>
     requires { OpenStore words.now index.now memory.old }
     ensures words_value { left (told result) words.now ≡ run (struct_name s) words.now }
     ensures open_store { OpenStore words.now index.now memory.new }
@@ -267,7 +267,7 @@ pub fn struct_fields(
     memory: &mut [u64],
     s: u64,
     output: &mut [u64],
-) -> Answer
+) -> Result<Answer, Refusal>
     requires { OpenStore words.now index.now memory.old }
     ensures words_value { left (told result) words.now ≡ run (struct_fields s (length output.old)) words.now }
     ensures output_after { output.new ≡ struct_fields_output s words.now output.old }
@@ -277,7 +277,7 @@ pub fn struct_fields(
 }
 
 // The first field of this name, or absent.
-pub fn find(words: &[u64], index: &[u64], memory: &mut [u64], s: u64, name: u64) -> Answer
+pub fn find(words: &[u64], index: &[u64], memory: &mut [u64], s: u64, name: u64) -> Result<Answer, Refusal>
     requires { OpenStore words.now index.now memory.old }
     ensures words_value { left (told result) words.now ≡ run (find s name) words.now }
     ensures open_store { OpenStore words.now index.now memory.new }
@@ -291,7 +291,7 @@ pub fn find(words: &[u64], index: &[u64], memory: &mut [u64], s: u64, name: u64)
 }
 
 // The first field of this alias, or absent.
-pub fn find_alias(words: &[u64], index: &[u64], memory: &mut [u64], s: u64, alias: u64) -> Answer
+pub fn find_alias(words: &[u64], index: &[u64], memory: &mut [u64], s: u64, alias: u64) -> Result<Answer, Refusal>
     requires { OpenStore words.now index.now memory.old }
     ensures words_value { left (told result) words.now ≡ run (find_alias s alias) words.now }
     ensures open_store { OpenStore words.now index.now memory.new }
@@ -305,7 +305,7 @@ pub fn find_alias(words: &[u64], index: &[u64], memory: &mut [u64], s: u64, alia
 }
 
 // Whether a struct is an array: two fields, the second of them named "[]".
-pub fn is_ary(words: &[u64], index: &[u64], memory: &mut [u64], s: u64) -> Answer
+pub fn is_ary(words: &[u64], index: &[u64], memory: &mut [u64], s: u64) -> Result<Answer, Refusal>
     requires { OpenStore words.now index.now memory.old }
     ensures words_value { left (told result) words.now ≡ run (is_ary_is s) words.now }
     ensures open_store { OpenStore words.now index.now memory.new }
@@ -314,7 +314,7 @@ pub fn is_ary(words: &[u64], index: &[u64], memory: &mut [u64], s: u64) -> Answe
 }
 
 // The offset of a field, in bytes; at the field count the end.
-pub fn offset(words: &[u64], index: &[u64], memory: &mut [u64], s: u64, i: u64) -> Answer
+pub fn offset(words: &[u64], index: &[u64], memory: &mut [u64], s: u64, i: u64) -> Result<Answer, Refusal>
     requires { OpenStore words.now index.now memory.old }
     ensures words_value { left (told result) words.now ≡ run (offset s i) words.now }
     ensures open_store { OpenStore words.now index.now memory.new }
@@ -329,7 +329,7 @@ pub fn offsets(
     memory: &mut [u64],
     s: u64,
     output: &mut [u64],
-) -> Answer
+) -> Result<Answer, Refusal>
     requires { OpenStore words.now index.now memory.old }
     ensures words_value { left (told result) words.now ≡ run (offsets s (length output.old)) words.now }
     ensures output_after { output.new ≡ offsets_output s words.now output.old }
@@ -339,7 +339,7 @@ pub fn offsets(
 }
 
 // Where an array's body begins, in bytes.
-pub fn ary_base(words: &[u64], index: &[u64], memory: &mut [u64], s: u64) -> Answer
+pub fn ary_base(words: &[u64], index: &[u64], memory: &mut [u64], s: u64) -> Result<Answer, Refusal>
     requires { OpenStore words.now index.now memory.old }
     ensures words_value { left (told result) words.now ≡ run (ary_base_is s) words.now }
     ensures open_store { OpenStore words.now index.now memory.new }
@@ -348,7 +348,7 @@ pub fn ary_base(words: &[u64], index: &[u64], memory: &mut [u64], s: u64) -> Ans
 }
 
 // The log size of an array's element.
-pub fn ary_scale(words: &[u64], index: &[u64], memory: &mut [u64], s: u64) -> Answer
+pub fn ary_scale(words: &[u64], index: &[u64], memory: &mut [u64], s: u64) -> Result<Answer, Refusal>
     requires { OpenStore words.now index.now memory.old }
     ensures words_value { left (told result) words.now ≡ run (ary_scale_is s) words.now }
     ensures open_store { OpenStore words.now index.now memory.new }

@@ -8,11 +8,11 @@ ghost use Rattle.every_call.specs.Run.{run, kind, get_bool, get_int, make_int, g
 ghost use Rattle.opened.specs.OpenStore.{OpenStore};
 
 use asking::Asking;
-use call::{Answer, Made};
+use call::{Answer, Refusal};
 use making::Making;
 
 // The kind of a type, which stands for the Rust's casts.
-pub fn kind(words: &[u64], index: &[u64], memory: &mut [u64], h: u64) -> Answer
+pub fn kind(words: &[u64], index: &[u64], memory: &mut [u64], h: u64) -> Result<Answer, Refusal>
     requires { OpenStore words.now index.now memory.old }
     ensures words_value { left (told result) words.now ≡ run (kind h) words.now }
     ensures open_store { OpenStore words.now index.now memory.new }
@@ -21,7 +21,7 @@ pub fn kind(words: &[u64], index: &[u64], memory: &mut [u64], h: u64) -> Answer
 }
 
 // The Int 0..0 or 1..1, for a flag.
-pub fn get_bool(words: &[u64], index: &[u64], memory: &mut [u64], value: u64) -> Answer
+pub fn get_bool(words: &[u64], index: &[u64], memory: &mut [u64], value: u64) -> Result<Answer, Refusal>
     requires { OpenStore words.now index.now memory.old }
     ensures words_value { left (told result) words.now ≡ run (get_bool value) words.now }
     ensures open_store { OpenStore words.now index.now memory.new }
@@ -30,7 +30,7 @@ pub fn get_bool(words: &[u64], index: &[u64], memory: &mut [u64], value: u64) ->
 }
 
 // The Int of one value.
-pub fn get_int(words: &mut [u64], index: &mut [u64], memory: &mut [u64], value: u64) -> Made
+pub fn get_int(words: &mut [u64], index: &mut [u64], memory: &mut [u64], value: u64) -> Result<u64, Refusal>
     requires { OpenStore words.old index.old memory.old }
     ensures words_after { left (made result) words.new ≡ run (get_int value) words.old }
     ensures open_store { OpenStore words.new index.new memory.new }
@@ -45,7 +45,7 @@ pub fn make_int(
     memory: &mut [u64],
     min: u64,
     max: u64,
-) -> Made
+) -> Result<u64, Refusal>
     requires { OpenStore words.old index.old memory.old }
     ensures words_after { left (made result) words.new ≡ run (make_int min max) words.old }
     ensures open_store { OpenStore words.new index.new memory.new }
@@ -54,7 +54,7 @@ pub fn make_int(
 }
 
 // The Float of a constant, by its bits.
-pub fn get_float(words: &mut [u64], index: &mut [u64], memory: &mut [u64], bits: u64) -> Made
+pub fn get_float(words: &mut [u64], index: &mut [u64], memory: &mut [u64], bits: u64) -> Result<u64, Refusal>
     requires { OpenStore words.old index.old memory.old }
     ensures words_after { left (made result) words.new ≡ run (get_float bits) words.old }
     ensures open_store { OpenStore words.new index.new memory.new }
@@ -69,7 +69,7 @@ pub fn make_float(
     memory: &mut [u64],
     sz: u64,
     bits: u64,
-) -> Made
+) -> Result<u64, Refusal>
     requires { OpenStore words.old index.old memory.old }
     ensures words_after { left (made result) words.new ≡ run (make_float sz bits) words.old }
     ensures open_store { OpenStore words.new index.new memory.new }
@@ -78,7 +78,7 @@ pub fn make_float(
 }
 
 // A tuple of the types whose handles are lent.
-pub fn get_tuple(words: &mut [u64], index: &mut [u64], memory: &mut [u64], types: &[u64]) -> Made
+pub fn get_tuple(words: &mut [u64], index: &mut [u64], memory: &mut [u64], types: &[u64]) -> Result<u64, Refusal>
     requires { OpenStore words.old index.old memory.old }
     ensures words_after { left (made result) words.new ≡ run (get_tuple types.now) words.old }
     ensures open_store { OpenStore words.new index.new memory.new }
@@ -87,7 +87,7 @@ pub fn get_tuple(words: &mut [u64], index: &mut [u64], memory: &mut [u64], types
 }
 
 // A name of lent bytes.
-pub fn get_str(words: &mut [u64], index: &mut [u64], memory: &mut [u64], name: &[u8]) -> Made
+pub fn get_str(words: &mut [u64], index: &mut [u64], memory: &mut [u64], name: &[u8]) -> Result<u64, Refusal>
     requires { OpenStore words.old index.old memory.old }
     ensures words_after { left (made result) words.new ≡ run (get_str name.now) words.old }
     ensures open_store { OpenStore words.new index.new memory.new }
@@ -102,7 +102,7 @@ pub fn get_struct(
     memory: &mut [u64],
     name: u64,
     fields: &[u64],
-) -> Made
+) -> Result<u64, Refusal>
     requires { OpenStore words.old index.old memory.old }
     ensures words_after { left (made result) words.new ≡ run (get_struct name fields.now) words.old }
     ensures open_store { OpenStore words.new index.new memory.new }
@@ -120,7 +120,7 @@ pub fn make_ary(
     body: u64,
     body_alias: u64,
     text: &[u8],
-) -> Made
+) -> Result<u64, Refusal>
     requires { OpenStore words.old index.old memory.old }
     ensures words_after { left (made result) words.new ≡ run (make_ary_is len len_alias body body_alias text.now) words.old }
     ensures open_store { OpenStore words.new index.new memory.new }
@@ -136,7 +136,7 @@ pub fn make_ary(
 }
 
 // The forward reference of a name.
-pub fn make_struct_fref(words: &mut [u64], index: &mut [u64], memory: &mut [u64], name: u64) -> Made
+pub fn make_struct_fref(words: &mut [u64], index: &mut [u64], memory: &mut [u64], name: u64) -> Result<u64, Refusal>
     requires { OpenStore words.old index.old memory.old }
     ensures words_after { left (made result) words.new ≡ run (make_struct_fref name) words.old }
     ensures open_store { OpenStore words.new index.new memory.new }
@@ -151,7 +151,7 @@ pub fn get_mem_ptr(
     memory: &mut [u64],
     to: u64,
     nil: u64,
-) -> Made
+) -> Result<u64, Refusal>
     requires { OpenStore words.old index.old memory.old }
     ensures words_after { left (made result) words.new ≡ run (get_mem_ptr to nil) words.old }
     ensures open_store { OpenStore words.new index.new memory.new }
@@ -160,7 +160,7 @@ pub fn get_mem_ptr(
 }
 
 // A memory of an alias and a type.
-pub fn get_mem(words: &mut [u64], index: &mut [u64], memory: &mut [u64], alias: u64, t: u64) -> Made
+pub fn get_mem(words: &mut [u64], index: &mut [u64], memory: &mut [u64], alias: u64, t: u64) -> Result<u64, Refusal>
     requires { OpenStore words.old index.old memory.old }
     ensures words_after { left (made result) words.new ≡ run (get_mem alias t) words.old }
     ensures open_store { OpenStore words.new index.new memory.new }

@@ -12,7 +12,9 @@ use Rattle.bitset.specs.Bitset.{bit_at}
 use Rattle.wellformed.specs.Form.{well_formed, used_words}
 use Rattle.wellformed.proofs.Before.{tests}
 use Rattle.index.specs.Covers.{indexed_to, Covers}
-use Rattle.call.specs.Steps.{used_of}
+use Rattle.std.proofs.Common.{Ok}
+use Rattle.call.specs.Steps.{row_1}
+use Rattle.call.proofs.Ways.{row_passed}
 use Rattle.call.proofs.Keep.{well_sound}
 use Rattle.store_index.specs.StoreIndex.{marks_size, chains_of}
 use Rattle.store_index.specs.Steps.{Stale, Unmarked}
@@ -27,12 +29,8 @@ module _ (ws : List ℕ) (ok : well_formed ws ≡ true) where
   pub few_words : length ws ≤ 1048576
   few_words = (tests ws ok).most
 
-  pub used_is : get_or ws 0 0 ≡ used_of ws
-  unfolding used_of
-  used_is = rw ok
-
-  pub used_some : get_or ws 0 0 ≡ 0 → ⊥
-  used_some z = omega (arith, (tests ws ok).enough)
+  pub used_is : Ok (get_or ws 0 0) ≡ row_1 ws
+  used_is = row_passed ws ok
 
   pub used_low : 1 ≤ get_or ws 0 0
   used_low = omega (arith, (tests ws ok).enough)

@@ -9,11 +9,9 @@ use lib.Dec.{ltb}
 use lib.ListN.{length, take}
 use Rattle.words.specs.Columns.{word, count_on, field_names_on}
 use Rattle.wellformed.specs.Entry.{all}
-use Rattle.call.specs.Call.{Reply, number, absent, ◌when◌, ◌otherwise◌, output_rows}
+use Rattle.call.specs.Call.{◌when◌, ◌otherwise◌, output_rows}
 use Rattle.kept.proofs.Rows.{off}
-use Rattle.of_structs.specs.OfStructs.{field_list, placed, fields_rows, find_rows, find_alias_rows, array_rows}
-use Rattle.of_structs.specs.declared.Place.{Place}
-use Rattle.of_structs.specs.declared.Place.TheVariants.{At, Absent}
+use Rattle.of_structs.specs.OfStructs.{field_list, fields_rows, find_rows, find_alias_rows, array_rows}
 use Rattle.of_structs.proofs.Callers.{StructHandle, fields_passed, find_passed, alias_passed, handle_used, struct_used, struct_few, struct_names}
 use Rattle.of_structs.proofs.Lent.{lent_length}
 use Rattle.of_offsets.specs.OfOffsets.{offsets_on, unsized_field, offsets_rows, offset_rows, ary_base_rows, ary_scale_rows}
@@ -30,12 +28,12 @@ module _ (rows : List ℕ → ℕ) (answer : List ℕ → List ℕ) (n : ℕ) (u
       let x = rows_off (rows u) (11 when ltb n (length (answer u))) q in
       (x.0, ltb-false n (length (answer u)) (off 10 (ltb n (length (answer u))) x.1))
 
-  module _ (k : ℕ) (is : k ≡ rows u) (z : k ≡ 0) (w : ℕ) (iw : w ≡ length (answer u)) where
+  module _ (z : rows u ≡ 0) (w : ℕ) (iw : w ≡ length (answer u)) where
     pub fill_11 : n < w → 11 ≡ output_rows rows answer n u
-    fill_11 h = rw (← is, z, ← iw, lt-ltb n w h)
+    fill_11 h = rw (z, ← iw, lt-ltb n w h)
 
     pub fill_0 : w ≤ n → 0 ≡ output_rows rows answer n u
-    fill_0 h = rw (← is, z, ← iw, le-ltb n w h)
+    fill_0 h = rw (z, ← iw, le-ltb n w h)
 
 -- ---- how many words are filled in
 
@@ -93,11 +91,3 @@ module _ (ws : List ℕ) (used s : ℕ) where
       let x = output_passed (offsets_rows s) (λ v. offsets_on v s) n u c.passed in
       let p = offsets_passed u s x.0 in
       ((within c, here c p.0, few c p.0, omega (arith, x.1, offsets_length u s)), p.1)
-
--- ---- an answer that is a place
-
-pub at_place : (p : Place) (i : ℕ) → p ≡ At i → number i ≡ placed p
-at_place p i e = rw e
-
-pub no_place : (p : Place) → p ≡ Absent → absent ≡ placed p
-no_place p e = rw e

@@ -2,14 +2,14 @@
 #![tactic(auto)]
 
 ghost use Rattle.std.specs.Prelude.{◌≡◌, [], ◌++◌, ◌≤◌, ◌<◌, length, take, drop};
-ghost use Rattle.call.specs.Call.{told, output_rows};
+ghost use Rattle.call.specs.Refusals.{row_of};
+ghost use Rattle.call.specs.Call.{answered, output_rows};
 ghost use Rattle.call.specs.Steps.{Marked};
 ghost use Rattle.every_call.specs.Cleared.{Cleared};
 ghost use Rattle.of_structs.specs.OfStructs.{placed};
 ghost use Rattle.struct_calls.specs.Tells.{filling_rows, filled_words, of_struct_rows, of_struct_told};
 
-use call::Answer;
-use of_structs::Place;
+use call::{Answer, Refusal};
 use words::{columns, kinds};
 
 // A call that fills a lent output.
@@ -34,9 +34,9 @@ pub enum OfStruct {
 
 // ---- rows
 
-fn filling_rows(words: &[u64], used: usize, bits: &[u64], filling: Filling, s: u64) -> u8
+fn filling_rows(words: &[u64], used: usize, bits: &[u64], filling: Filling, s: u64) -> Result<(), Refusal>
     requires { Marked words.now bits.now used }
-    ensures { result ≡ filling_rows filling s (take used words.now) }
+    ensures { row_of result ≡ filling_rows filling s (take used words.now) }
 {
     match filling {
         Filling::Fields => of_structs::fields_rows(words, used, bits, s),
@@ -57,24 +57,21 @@ fn filled(words: &[u64], used: usize, filling: Filling, s: usize) -> u64
     }
 }
 
-fn fill_rows(words: &[u64], used: usize, bits: &[u64], filling: Filling, n: u64, s: u64) -> u8
+fn fill_rows(words: &[u64], used: usize, bits: &[u64], filling: Filling, n: u64, s: u64) -> Result<(), Refusal>
     requires { Marked words.now bits.now used }
-    ensures { result ≡ output_rows (filling_rows filling s) (filled_words filling s) n (take used words.now) }
+    ensures { row_of result ≡ output_rows (filling_rows filling s) (filled_words filling s) n (take used words.now) }
 {
-    let no = filling_rows(words, used, bits, filling, s);
-    if no != 0 {
-        return no;
-    }
+    filling_rows(words, used, bits, filling, s)?;
     if n < filled(words, used, filling, s as usize) {
-        return 11; // an output that is shorter than the answer
+        return Err(Refusal::ShortOutput);
     }
-    0
+    Ok(())
 }
 
-// The number of the first row that applies, or 0.
-pub fn rows_of(words: &[u64], used: usize, bits: &[u64], of: OfStruct, s: u64) -> u8
+// The rows of each.
+pub fn rows_of(words: &[u64], used: usize, bits: &[u64], of: OfStruct, s: u64) -> Result<(), Refusal>
     requires { Marked words.now bits.now used }
-    ensures { result ≡ of_struct_rows of s (take used words.now) }
+    ensures { row_of result ≡ of_struct_rows of s (take used words.now) }
 {
     match of {
         OfStruct::Name => { of_types::kind_rows(words, used, bits, s, kinds::STRUCT, kinds::FREF) }
@@ -90,19 +87,19 @@ pub fn rows_of(words: &[u64], used: usize, bits: &[u64], of: OfStruct, s: u64) -
 
 // ---- answers
 
-fn place(p: Place) -> Answer
-    ensures { told result ≡ placed p }
+fn place(p: Option<u64>) -> Answer
+    ensures { answered result ≡ placed p }
 {
     match p {
-        Place::At(i) => Answer::Number(i),
-        Place::Absent => Answer::Absent,
+        Some(i) => Answer::Number(i),
+        None => Answer::Absent,
     }
 }
 
 // The answer where no row applies.
 pub fn tell(words: &[u64], used: usize, of: OfStruct, s: u64) -> Answer
     requires { Cleared (of_struct_rows of s) [] words.now used }
-    ensures { told result ≡ of_struct_told of s (take used words.now) }
+    ensures { answered result ≡ of_struct_told of s (take used words.now) }
 {
     let none = [0u64; 0];
     match of {

@@ -9,74 +9,74 @@ ghost use Rattle.makers.specs.Makers.{fresh_call};
 ghost use Rattle.every_call.specs.Run.{run, kind, get_bool, get_int, make_int, get_float, make_float, get_tuple, get_str, get_struct, make_ary_is, make_struct_fref, get_mem_ptr, get_mem};
 
 use asking::Asking;
-use call::{Answer, Done, Made};
+use call::{Answer, Refusal};
 use making::Making;
 
 // Writes a fresh store into the list and zeroes the rest.
-pub fn fresh(words: &mut [u64]) -> Done
+pub fn fresh(words: &mut [u64]) -> Result<(), Refusal>
     ensures { left (done result) words.new ≡ fresh_call words.old }
 {
     fresh_store::fresh(words)
 }
 
 // The kind of a type, which stands for the Rust's casts.
-pub fn kind(words: &[u64], h: u64) -> Answer
+pub fn kind(words: &[u64], h: u64) -> Result<Answer, Refusal>
     ensures { left (told result) words.now ≡ run (kind h) words.now }
 {
     plain::ask(words, Asking::Kind(h))
 }
 
 // The Int 0..0 or 1..1, for a flag.
-pub fn get_bool(words: &[u64], value: u64) -> Answer
+pub fn get_bool(words: &[u64], value: u64) -> Result<Answer, Refusal>
     ensures { left (told result) words.now ≡ run (get_bool value) words.now }
 {
     plain::ask(words, Asking::GetBool(value))
 }
 
 // The Int of one value.
-pub fn get_int(words: &mut [u64], value: u64) -> Made
+pub fn get_int(words: &mut [u64], value: u64) -> Result<u64, Refusal>
     ensures { left (made result) words.new ≡ run (get_int value) words.old }
 {
     plain::make(words, Making::MakeInt(value, value))
 }
 
 // The Int of a range, high ones included.
-pub fn make_int(words: &mut [u64], min: u64, max: u64) -> Made
+pub fn make_int(words: &mut [u64], min: u64, max: u64) -> Result<u64, Refusal>
     ensures { left (made result) words.new ≡ run (make_int min max) words.old }
 {
     plain::make(words, Making::MakeInt(min, max))
 }
 
 // The Float of a constant, by its bits.
-pub fn get_float(words: &mut [u64], bits: u64) -> Made
+pub fn get_float(words: &mut [u64], bits: u64) -> Result<u64, Refusal>
     ensures { left (made result) words.new ≡ run (get_float bits) words.old }
 {
     plain::make(words, Making::MakeFloat(0, bits))
 }
 
 // The Float of a size, or of a constant (size 0), by its bits.
-pub fn make_float(words: &mut [u64], sz: u64, bits: u64) -> Made
+pub fn make_float(words: &mut [u64], sz: u64, bits: u64) -> Result<u64, Refusal>
     ensures { left (made result) words.new ≡ run (make_float sz bits) words.old }
 {
     plain::make(words, Making::MakeFloat(sz, bits))
 }
 
 // A tuple of the types whose handles are lent.
-pub fn get_tuple(words: &mut [u64], types: &[u64]) -> Made
+pub fn get_tuple(words: &mut [u64], types: &[u64]) -> Result<u64, Refusal>
     ensures { left (made result) words.new ≡ run (get_tuple types.now) words.old }
 {
     plain::append(words, Making::GetTuple, types, b"")
 }
 
 // A name of lent bytes.
-pub fn get_str(words: &mut [u64], name: &[u8]) -> Made
+pub fn get_str(words: &mut [u64], name: &[u8]) -> Result<u64, Refusal>
     ensures { left (made result) words.new ≡ run (get_str name.now) words.old }
 {
     plain::append(words, Making::GetStr, &[], name)
 }
 
 // A struct of a name and lent fields, four words a field: name, type, alias, final.
-pub fn get_struct(words: &mut [u64], name: u64, fields: &[u64]) -> Made
+pub fn get_struct(words: &mut [u64], name: u64, fields: &[u64]) -> Result<u64, Refusal>
     ensures { left (made result) words.new ≡ run (get_struct name fields.now) words.old }
 {
     plain::append(words, Making::GetStruct(name), fields, b"")
@@ -90,7 +90,7 @@ pub fn make_ary(
     body: u64,
     body_alias: u64,
     text: &[u8],
-) -> Made
+) -> Result<u64, Refusal>
     ensures { left (made result) words.new ≡ run (make_ary_is len len_alias body body_alias text.now) words.old }
 {
     plain::append(
@@ -102,21 +102,21 @@ pub fn make_ary(
 }
 
 // The forward reference of a name.
-pub fn make_struct_fref(words: &mut [u64], name: u64) -> Made
+pub fn make_struct_fref(words: &mut [u64], name: u64) -> Result<u64, Refusal>
     ensures { left (made result) words.new ≡ run (make_struct_fref name) words.old }
 {
     plain::make(words, Making::MakeStructFref(name))
 }
 
 // A pointer to a struct or a forward reference; `nil` is a flag.
-pub fn get_mem_ptr(words: &mut [u64], to: u64, nil: u64) -> Made
+pub fn get_mem_ptr(words: &mut [u64], to: u64, nil: u64) -> Result<u64, Refusal>
     ensures { left (made result) words.new ≡ run (get_mem_ptr to nil) words.old }
 {
     plain::make(words, Making::GetMemPtr(to, nil))
 }
 
 // A memory of an alias and a type.
-pub fn get_mem(words: &mut [u64], alias: u64, t: u64) -> Made
+pub fn get_mem(words: &mut [u64], alias: u64, t: u64) -> Result<u64, Refusal>
     ensures { left (made result) words.new ≡ run (get_mem alias t) words.old }
 {
     plain::make(words, Making::GetMem(alias, t))

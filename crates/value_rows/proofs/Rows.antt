@@ -1,23 +1,14 @@
 -- The rows of values, by the tests. Assumes nothing.
 use Rattle.std.proofs.Common.{◌≡◌, ℕ, ◌+◌, ◌%◌, ◌^◌, ◌<◌, ◌≤◌, Bool, true, false, not, ltb, sym, ◌∙◌, le-ltb, lt-ltb, le-leb}
-use borrow.Author.Tests.{lt-leb, not-true, not-false}
-use Rattle.wellformed.specs.Entry.{is_flag, float_ok}
+use borrow.Author.Tests.{lt-leb}
+use Rattle.wellformed.specs.Entry.{is_flag}
 use Rattle.call.specs.Call.{◌when◌}
-use Rattle.makers.specs.Entries.{stored_size}
 
 pub long_name : (n : ℕ) → 255 < n → 5 ≡ (5 when ltb 255 n)
 long_name n h = rw (lt-ltb _ _ h)
 
 pub short_name : (n : ℕ) → n ≤ 255 → 0 ≡ (5 when ltb 255 n)
 short_name n h = rw (le-ltb _ _ h)
-
-module _ (sz bits size : ℕ) (is : size ≡ (sz + 64) % 2 ^ 64) where
-  module _ (t : Bool) (it : t ≡ float_ok size bits) where
-    pub no_float : not t ≡ true → 4 ≡ (4 when not (float_ok (stored_size sz) bits))
-    no_float n = rw (← is, sym it ∙ not-true t n)
-
-    pub a_float : not t ≡ false → 0 ≡ (4 when not (float_ok (stored_size sz) bits))
-    a_float y = rw (← is, sym it ∙ not-false t y)
 
 module _ (v : ℕ) where
   pub no_flag : 1 < v → 4 ≡ (4 when not (is_flag v))
