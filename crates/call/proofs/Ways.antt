@@ -12,7 +12,6 @@ use borrow.Rule.Slice.PartMut.{put_mid}
 use Rattle.words.specs.Made.{Grown}
 use Rattle.words.specs.Ran.{Segments, Ran}
 use Rattle.std.specs.Prelude.{Option, Some, None}
-use Rattle.words.specs.Ran.{interned}
 use Rattle.words.specs.declared.Interned.{Interned}
 use Rattle.words.proofs.Room.{fitted, overflowed}
 use Rattle.index.specs.Covers.{Covers}
@@ -34,9 +33,9 @@ use Rattle.call.proofs.Zeros.{all_zero_is}
 -- ---- the end
 
 module _ (used : ℕ) (ws : List ℕ) (r : Option Interned) where
-  pub fin_at : (h end : ℕ) → r ≡ interned h end → left (made (Ok h)) (set ws 0 end) ≡ finish_in used r ws
+  pub fin_at : (m : Interned) → r ≡ Some m → left (made (Ok m.handle)) (set ws 0 m.used) ≡ finish_in used r ws
   unfolding finish_in
-  fin_at h end is = rw is
+  fin_at m is = rw is
 
   pub fin_full : r ≡ None → (d : List ℕ) → d ≡ replicate (length (take (length ws - used) (drop used ws))) 0 → left (made (Err NoRoom)) (put_mid used (length ws - used) ws d) ≡ finish_in used r ws
   unfolding finish_in

@@ -93,10 +93,7 @@ pub fn begin(words: &[u64], bits: &mut [u64]) -> Result<usize, Refusal>
 // ---- the end
 
 // Writes word 0, once; or zeroes the words past `used`, and refuses.
-#[tactic(
-    auto,
-    using(crate::proofs::Ways::fin_at, crate::proofs::Ways::fin_full)
-)]
+#[tactic(auto, using(crate::proofs::Ways::fin_full))]
 pub fn finish(words: &mut [u64], used: usize, r: Option<Interned>) -> Result<u64, Refusal>
     requires { (0 < length words.old) × (used ≤ length words.old) }
     ensures { left (made result) words.new ≡ finish_in used r words.old }
