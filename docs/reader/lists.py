@@ -55,7 +55,7 @@ def contracts(model, listing):
 def contract(model, listing, function):
     lines = listing.lines(model.contracts.function(function).lines, function.line, False)
     where = place(f"{function.path}, ", function.line, model.naming(function))
-    return tag("div", f"<h4>{function.crate}::{function.name}</h4>{where}{lines}", id=function_id(function), class_="entry")
+    return tag("div", f"<h4>{function.crate}::{function.title}</h4>{where}{lines}", id=function_id(function), class_="entry")
 
 
 # ---- theorems

@@ -177,7 +177,7 @@ def contract_tokens(model):
 
 def contracts(model, failures):
     lost = [(function, token) for function, token in contract_tokens(model) if token.role == "unresolved"]
-    failures.none([f"{function.path}: {token.text}, in the contract of {function.name}, leads nowhere" for function, token in lost])
+    failures.none([f"{function.path}: {token.text}, in the contract of {function.title}, leads nowhere" for function, token in lost])
 
 
 def tools(model, page, failures):
