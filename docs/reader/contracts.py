@@ -77,6 +77,10 @@ class Contracts:
         bound = {} if entry.owner is None else {SELF: Bound(scope.kind(entry.owner))}
         return Shown(entry, self.function_lines(scope, entry.lines, bound))
 
+    def trait_of(self, entry):
+        """The trait of the repository that has the contract of a method, if one has."""
+        return self.scope(self.source_of(entry.crate, entry.path)).types.get(entry.trait)
+
     def function_lines(self, scope, lines, bound):
         """The same for lines. bound has what the clauses may name besides."""
         generic = type_parameters(scope, lines)

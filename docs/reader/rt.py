@@ -5,7 +5,7 @@ import repo
 
 DECLARED = re.compile(r"^(?:pub )?(enum|struct|trait) (\w+)(?:<[^>]*>)?(?:: \w+)? ?[{(].*$")
 FUNCTION = re.compile(r'^(?:    )?(?:pub )?(?:extern "C" )?fn (\w+)')
-IMPL = re.compile(r"^impl(?:<.*?>)? (?:.+ for )?(\w+)(?:<.*>)? \{$")
+IMPL = re.compile(r"^impl(?:<.*?>)? (?:(.+) for )?(\w+)(?:<.*>)? \{$")
 CONSTANT = re.compile(r"^(?:pub )?const (\w+): .*;$")
 CASE = re.compile(r"^    (?:pub )?(\w+)(\(|,|:)")
 GHOST = re.compile(r"^    ghost (\w+)( =|:)")
@@ -19,10 +19,11 @@ class Declared:
 
 
 class Function:
-    """A function's comment, signature and contract, as they stand; of a method they begin where a line does. owner is the type whose method it is."""
+    """A function's comment, signature and contract, as they stand; of a method they begin where a line does. owner is the type whose method it is,
+    trait the trait that it is of, which then has its contract."""
 
-    def __init__(self, name, crate, path, line, lines, owner):
-        self.name, self.crate, self.path, self.line, self.lines, self.owner = name, crate, path, line, lines, owner
+    def __init__(self, name, crate, path, line, lines, trait, owner):
+        self.name, self.crate, self.path, self.line, self.lines, self.trait, self.owner = name, crate, path, line, lines, trait, owner
 
     @property
     def title(self):
@@ -39,16 +40,16 @@ class Source:
         self.uses = [pair for line in lines if line.startswith("use ") for pair in used(line[len("use ") :].rstrip(";"))]
         self.constants = {CONSTANT.match(line)[1]: line for line in lines if CONSTANT.match(line)}
         self.declared, self.functions = [], []
-        owner = None
+        trait, owner = None, None
         for place, line in enumerate(lines):
             if line == "}":
-                owner = None
+                trait, owner = None, None
             if IMPL.match(line):
-                owner = IMPL.match(line)[1]
+                trait, owner = IMPL.match(line).groups()
             elif DECLARED.match(line):
                 self.declared.append(declared_at(path, lines, place))
             elif FUNCTION.match(line) and (owner or not line.startswith(" ")):
-                self.functions.append(function_at(crate, path, lines, place, owner))
+                self.functions.append(function_at(crate, path, lines, place, trait, owner))
 
 
 def used(path):
@@ -82,14 +83,14 @@ def declared_at(path, lines, place):
     return Declared(kind, name, path, start + 1, lines[start : end + 1], members)
 
 
-def function_at(crate, path, lines, place, owner):
+def function_at(crate, path, lines, place, trait, owner):
     start = comment_start(lines, place)
     end = place
     while lines[end].lstrip() != "{" and not lines[end].endswith(" {"):
         end += 1
     shown = lines[start:end] if lines[end].lstrip() == "{" else lines[start:end] + [lines[end][: -len(" {")]]
     inset = len("    ") if owner else 0
-    return Function(FUNCTION.match(lines[place])[1], crate, path, start + 1, [line[inset:] for line in shown], owner)
+    return Function(FUNCTION.match(lines[place])[1], crate, path, start + 1, [line[inset:] for line in shown], trait, owner)
 
 
 def sources():
