@@ -84,14 +84,15 @@ class Contracts:
     def function_lines(self, scope, lines, bound):
         """The same for lines. bound has what the clauses may name besides."""
         generic = type_parameters(scope, lines)
-        found = [self.code_line(scope, line, None, generic) for line in lines if not is_clause(line)]
+        attributes = attribute_lines(lines)
+        found = [self.code_line(scope, line, None, generic, at in attributes) for at, line in enumerate(lines) if not is_clause(line)]
         parameters, result = typed_names(scope, [token for line in found for token in line if token.kind in ("name", "punct")], bound)
         parameters = {**bound, **generic, **parameters}
         return found + [self.clause(scope, line, parameters, result) for line in lines if is_clause(line)]
 
-    def code_line(self, scope, line, member=None, generic=()):
+    def code_line(self, scope, line, member=None, generic=(), is_attribute=False):
         """A line outside the clauses; member is the case or field that it declares."""
-        found = rattle_tokens(line)
+        found = [Token("comment", line, 0, 0)] if is_attribute else rattle_tokens(line)
         solid = [token for token in found if token.kind != "space"]
         for place, token in enumerate(solid):
             around = [solid[at].text if 0 <= at < len(solid) else "" for at in (place - 2, place - 1, place + 1)]
@@ -188,6 +189,17 @@ class Contracts:
                         token.target = made
                 lines.append(found)
         return lines
+
+
+def attribute_lines(lines):
+    """The places of the lines of attributes, which may take several."""
+    found, open_one = set(), False
+    for at, line in enumerate(lines):
+        open_one = open_one or line.lstrip().startswith("#[")
+        if open_one:
+            found.add(at)
+            open_one = not line.endswith("]")
+    return found
 
 
 def type_parameters(scope, lines):

@@ -7,7 +7,7 @@ DECLARED = re.compile(r"^(?:pub )?(enum|struct|trait) (\w+)(?:<[^>]*>)?(?:: \w+)
 FUNCTION = re.compile(r'^(?:    )?(?:pub )?(?:extern "C" )?fn (\w+)')
 IMPL = re.compile(r"^impl(?:<.*?>)? (?:(.+) for )?(\w+)(?:<.*>)? \{$")
 CONSTANT = re.compile(r"^(?:pub )?const (\w+): .*;$")
-CASE = re.compile(r"^    (?:pub )?(\w+)(\(|,|:)")
+CASE = re.compile(r"^    (?:pub )?(\w+)(\(|,|:| =)")
 GHOST = re.compile(r"^    ghost (\w+)( =|:)")
 
 
@@ -59,14 +59,16 @@ def used(path):
 
 
 def comment_start(lines, place):
-    """Where the comment right above a line begins."""
+    """Where the comment right above a line begins, with attributes, which may take several lines."""
     while place > 0 and belongs(lines[place - 1].lstrip()):
         place -= 1
+        while not lines[place].lstrip().startswith(("//", "#[")):
+            place -= 1
     return place
 
 
 def belongs(line):
-    return line.startswith("// ") and not line.startswith("// ----") or line.startswith("#[")
+    return line.startswith("// ") and not line.startswith("// ----") or line.startswith("#[") or line == ")]"
 
 
 def declared_at(path, lines, place):
