@@ -82,7 +82,7 @@ def calls(text, problems):
     found = []
     for block in re.finditer(r"^```calls\n(.*?)^```", text, re.MULTILINE | re.DOTALL):
         above = []  # how far in a line stands, and its last function
-        for line in re.finditer(r"^( *)(\w+::\w+(?: → \w+::\w+)*)?.*$", block.group(1), re.MULTILINE):
+        for line in re.finditer(r"^( *)(\w+(?:::\w+)+(?: → \w+(?:::\w+)+)*)?.*$", block.group(1), re.MULTILINE):
             if not line.group(2):
                 continue
             while above and above[-1][0] >= len(line.group(1)):
@@ -97,7 +97,9 @@ def calls(text, problems):
 
 
 def is_called(caller, callee):
-    crate, name = callee.split("::")
+    """CRATE::NAME stands in the caller's body, or CRATE::TYPE::NAME behind a value's dot; of a function with parameters in <> also with what it is given for them."""
+    crate, *of, name = callee.split("::")
     own = caller.split("::")[0] == crate
-    body = function(*caller.split("::")).partition("{\n")[2]
-    return re.search(rf"(?<![\w:]){name}\(" if own else rf"\b{crate}::{name}\(", body) is not None
+    place = r"\." if of else r"(?<![\w:.])" if own else rf"\b{crate}::"
+    body = function(caller.split("::")[0], caller.split("::")[-1]).partition("{\n")[2]
+    return re.search(rf"{place}{name}(?:::<[^>]*>)?\(", body) is not None

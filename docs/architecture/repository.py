@@ -71,10 +71,13 @@ def has_code(name):
 
 
 def function(crate, name):
-    """The text of a function, or nothing."""
-    found = re.search(rf'^(?:pub )?(?:extern "C" )?fn {name}\b.*?^}}', source(crate), re.MULTILINE | re.DOTALL)
-    return found.group(0) if found else ""
+    """The text of a function, or of a method where no other function has the name; or nothing."""
+    for inset in ("", "    "):
+        found = re.search(rf'^{inset}(?:pub )?(?:extern "C" )?fn {name}\b.*?^{inset}}}', source(crate), re.MULTILINE | re.DOTALL)
+        if found:
+            return found.group(0)
+    return ""
 
 
 def has_item(crate, name):
-    return re.search(rf"\b(?:fn|enum|struct|const|mod) {name}\b", source(crate)) is not None
+    return re.search(rf"\b(?:fn|enum|struct|trait|const|mod) {name}\b", source(crate)) is not None

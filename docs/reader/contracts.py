@@ -1,14 +1,22 @@
 """The functions' signatures and contracts as tokens with roles. The clauses are antt, over the file's `ghost use` lines; the rest is Rattle's own notation."""
 import re
 
-from lex import Token, grouped, significant, tokens
+from lex import Token, grouped, is_text, significant, tokens
 from terms import Bound, mark_words, set_role
 
-WORDS = {"pub", "fn", "extern", "mut", "enum", "struct", "requires", "ensures", "const"}
-CLAUSE = re.compile(r"    (requires|ensures)( \w+)? \{")
-RESULT = "result"
+WORDS = {"pub", "fn", "extern", "mut", "enum", "struct", "trait", "ghost", "requires", "ensures", "const", "self", "Self"}
+CLAUSE = re.compile(r" +(requires|ensures)( \w+)? \{")
+GHOST = re.compile(r" +ghost (\w+): \{")
+GENERIC = re.compile(r"fn \w+<(.*?)>\(")
+FUNCTION_LINE = re.compile(r" +fn \w+")
+RESULT, SELF = "result", "self"
 PRIMITIVE = {"u8", "u16", "u32", "u64", "usize", "i8", "i64", "bool", "f64"}
-RATTLE = re.compile(r"(?P<space>\s+)|(?P<comment>//.*|#\[.*)|(?P<text>b?\"[^\"]*\")|(?P<number>\d\w*)|(?P<name>\w+)|(?P<punct>::|->|.)")
+# what code has of the toolchain's libraries without a `use` line: these are words there; of the others the contracts speak, as definitions do
+LIBRARY = {"Vec", "Copy", "Fn", "FnMut", "FnOnce"}
+PRELUDE, SHARED = "Rattle.std.specs.Prelude", ("Option", "Some", "None", "Result", "Ok", "Err")
+RATTLE = re.compile(
+    r"(?P<space>\s+)|(?P<comment>//.*|#\[.*)|(?P<text>b?\"[^\"]*\")|(?P<number>\d\w*)|(?P<name>\w+)|(?P<punct>::|->|'\w+(?!')|.)"
+)
 
 
 class CodeScope:
@@ -16,10 +24,12 @@ class CodeScope:
 
     def __init__(self, world, source):
         self.path, self.crate = source.path, source.crate
-        self.exports, self.scope, self.aliases, self.operators = {}, {}, {}, {}
+        self.exports, self.aliases, self.operators = {}, {}, {}
+        self.scope = {name: world.tools.used(PRELUDE, name) for name in SHARED}
         world.fill(self, [significant(tokens(line)) for line in source.ghost])
         self.constants = {name: line for other in world.sources[source.crate] for name, line in other.constants.items()}
-        self.types = dict(world.declared[source.crate])
+        self.types = {name: self.scope[name] for name in ("Option", "Result")}
+        self.types.update(world.declared[source.crate])
         for module, name in source.uses:
             crate = module.split("::")[0]
             if name in world.declared.get(crate, {}):
@@ -62,19 +72,32 @@ class Contracts:
         return next(source for source in self.world.sources[crate] if source.path == path)
 
     def function(self, entry):
-        """A function's lines, with the parameters as names bound nearby."""
+        """A function's lines, with the parameters as names bound nearby, and its type parameters."""
         scope = self.scope(self.source_of(entry.crate, entry.path))
-        found = [self.code_line(scope, line) for line in entry.lines if not is_clause(line)]
-        parameters, result = typed_names(scope, [token for line in found for token in line if token.kind in ("name", "punct")])
-        clauses = [self.clause(scope, line, parameters, result) for line in entry.lines if is_clause(line)]
-        return Shown(entry, found + clauses)
+        bound = {} if entry.owner is None else {SELF: Bound(scope.kind(entry.owner))}
+        return Shown(entry, self.function_lines(scope, entry.lines, bound))
 
-    def code_line(self, scope, line, member=None):
+    def trait_of(self, entry):
+        """The trait of the repository that has the contract of a method, if one has."""
+        return self.scope(self.source_of(entry.crate, entry.path)).types.get(entry.trait)
+
+    def function_lines(self, scope, lines, bound):
+        """The same for lines. bound has what the clauses may name besides."""
+        generic = type_parameters(scope, lines)
+        attributes = attribute_lines(lines)
+        found = [self.code_line(scope, line, None, generic, at in attributes) for at, line in enumerate(lines) if not is_clause(line)]
+        parameters, result = typed_names(scope, [token for line in found for token in line if token.kind in ("name", "punct")], bound)
+        parameters = {**bound, **generic, **parameters}
+        return found + [self.clause(scope, line, parameters, result) for line in lines if is_clause(line)]
+
+    def code_line(self, scope, line, member=None, generic=(), is_attribute=False):
         """A line outside the clauses; member is the case or field that it declares."""
-        found = rattle_tokens(line)
+        found = [Token("comment", line, 0, 0)] if is_attribute else rattle_tokens(line)
         solid = [token for token in found if token.kind != "space"]
         for place, token in enumerate(solid):
             around = [solid[at].text if 0 <= at < len(solid) else "" for at in (place - 2, place - 1, place + 1)]
+            if token.text in generic:
+                set_role(token, "local")
             self.code_role(scope, token, around, member)
         for token in found:
             set_role(token, token.kind if token.kind != "name" else "unresolved")
@@ -85,9 +108,9 @@ class Contracts:
         types = self.world.declared.get(path, scope.types) if before == "::" else scope.types
         if token.kind != "name":
             return
-        if token.text in WORDS or token.text in PRIMITIVE or after == "::":
+        if token.text in WORDS or token.text in PRIMITIVE or token.text in LIBRARY or after == "::":
             set_role(token, "key")
-        elif before in ("fn", "enum", "struct") or (token.text == member and before in ("", "pub")):
+        elif before in ("fn", "enum", "struct", "trait") or (token.text == member and before in ("", "pub", "ghost")):
             set_role(token, "def")
         elif after == ":":
             set_role(token, "local")
@@ -101,13 +124,14 @@ class Contracts:
         found = tokens(line)
         solid = significant(found)
         set_role(solid[0], "key")
-        *named, group = grouped(solid)[1:]
+        *named, group = [item for item in grouped(solid)[1:] if not is_text(item, ";")]
         for name in named:
             set_role(name, "def")
         mark_words(solid)
         bound = dict(parameters)
         if solid[0].text == "ensures":
-            bound[RESULT] = Bound(result, self.world.tools.built_in(RESULT))
+            result.made = self.world.tools.built_in(RESULT)
+            bound[RESULT] = result
         self.resolver.walk(scope, group.items, bound)
         for token in found:
             set_role(token, token.kind if token.kind != "name" else "unresolved")
@@ -117,27 +141,87 @@ class Contracts:
         """An enum or struct of the code; its name and its members are definitions."""
         entry = made.site
         scope = self.scope(self.source_of(made.home.crate, entry.path))
+        if made.kind == "trait":
+            return Shown(entry, self.trait_lines(scope, made))
         lines = []
         for place, line in enumerate(entry.lines):
             member = next((name for name, at in entry.members.items() if at == place), None)
-            found = self.code_line(scope, line, member)
+            found = self.fact(scope, line, made) if GHOST.match(line) else self.code_line(scope, line, member)
             for token in found:
-                if token.role == "def":
+                if token.role == "def" and token.target is None and not GHOST.match(line):
                     token.target = made.members[member] if member else made
             lines.append(found)
         return Shown(entry, lines)
 
+    def fact(self, scope, line, made):
+        """ghost NAME: { .. }: of a struct, what is true of its fields; of a trait, a value that it asks for."""
+        name, bracket, fact = line.partition("{")
+        found = self.code_line(scope, name, GHOST.match(line)[1])
+        for token in found:
+            if token.role == "def":
+                token.target = made.members.get(token.text)
+        told = tokens(bracket + fact)
+        solid = significant(told)
+        mark_words(solid)
+        bound = {name: Bound(None, member) for name, member in made.members.items()} if made.kind == "struct" else {}
+        bound["Self"] = Bound(None, made)
+        self.resolver.walk(scope, grouped(solid)[0].items, bound)
+        for token in told:
+            set_role(token, token.kind if token.kind != "name" else "unresolved")
+        return found + told
 
-def typed_names(scope, found):
-    """The parameters with their types, and the type of the result."""
-    parameters, result = {}, None
+    def trait_lines(self, scope, made):
+        """A trait: its ghost values, and its functions with their contracts, each as it stands."""
+        lines, function = [], []
+        bound = {SELF: Bound(None)}
+        bound.update({name: Bound(None, member) for name, member in made.members.items()})
+        for line in made.site.lines:
+            starts = FUNCTION_LINE.match(line)
+            if function and not (is_clause(line) or starts is None and function[-1].endswith((",", "("))):
+                lines += self.function_lines(scope, function, bound)
+                function = []
+            if starts or function:
+                function.append(line)
+            else:
+                found = self.fact(scope, line, made) if GHOST.match(line) else self.code_line(scope, line)
+                for token in found:
+                    if token.role == "def" and token.target is None:
+                        token.target = made
+                lines.append(found)
+        return lines
+
+
+def attribute_lines(lines):
+    """The places of the lines of attributes, which may take several."""
+    found, open_one = set(), False
+    for at, line in enumerate(lines):
+        open_one = open_one or line.lstrip().startswith("#[")
+        if open_one:
+            found.add(at)
+            open_one = not line.endswith("]")
+    return found
+
+
+def type_parameters(scope, lines):
+    """The names of `fn f<A: Trait, ..>(` with their traits."""
+    found = next((GENERIC.search(line)[1] for line in lines if GENERIC.search(line)), "")
+    pairs = [part.partition(":") for part in found.split(", ") if part and not part.startswith("'")]
+    return {name: Bound(scope.kind(trait.strip())) for name, _, trait in pairs}
+
+
+def typed_names(scope, found, bound):
+    """The parameters with their types, and the result with its. `self` is lent where it stands behind a &."""
+    parameters, result = {}, Bound()
     for place, token in enumerate(found):
-        after = found[place + 2 : place + 5]
-        if token.role == "local":
-            kind = scope.kind(next(name.text for name in after if name.text not in ("&", "mut")))
-            parameters[token.text] = Bound(kind, None, after[0].text == "&")
+        after = [name.text for name in found[place + 2 : place + 6]]
+        if token.role == "local" and found[place + 1].text == ":":
+            kind = scope.kind(next(name for name in after if name not in ("&", "mut") and not name.startswith("'")))
+            parameters[token.text] = Bound(kind, None, after[0] == "&")
+        elif token.text == SELF and SELF in bound:
+            parameters[SELF] = Bound(bound[SELF].kind, None, "&" in [before.text for before in found[max(0, place - 2) : place]])
         elif token.text == "->":
-            result = scope.kind(found[place + 1].text)
+            lent = found[place + 1].text == "&"
+            result = Bound(scope.kind(found[place + 1 + lent].text), None, lent)
     return parameters, result
 
 

@@ -74,20 +74,20 @@ def type_of(made):
 
 
 def record_of(kind):
-    """The record, or struct of the code, that a type is."""
+    """The record, struct of the code or trait that a type is."""
     if kind is None:
         return None
     taken, result = arguments(kind)
     made, _ = named(result)
-    return made if not taken and made is not None and made.kind in ("record", "struct") else None
+    return made if not taken and made is not None and made.kind in ("record", "struct", "trait") else None
 
 
-def element(kind):
-    """Of List A, the type A."""
+def element(kind, of=("List",), place=0):
+    """Of List A, the type A; of a type of another name, the type at that place behind it."""
     if kind is None:
         return None
     made, rest = named(arguments(kind)[1])
-    return (rest, kind[1]) if made is not None and made.name == "List" else None
+    return (rest[place : place + 1], kind[1]) if made is not None and made.name in of and len(rest) > place else None
 
 
 def is_operator(item, file):

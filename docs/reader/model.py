@@ -76,17 +76,17 @@ class Model:
 
     def read_functions(self):
         """The functions that are shown: the calls, and those that docs/TRACE.md names, crate by crate."""
-        chosen = {(function.crate, function.name): function for function in self.references.named_functions}
+        chosen = {(function.crate, function.title): function for function in self.references.named_functions}
         for crate in CALLS:
             for source in self.world.sources[crate]:
-                chosen.update({(crate, function.name): function for function in source.functions})
+                chosen.update({(crate, function.title): function for function in source.functions})
         crates = list(CALLS) + sorted({crate for crate, _ in chosen} - set(CALLS))
         self.functions = [
             function
             for crate in crates
             for source in self.world.sources[crate]
             for function in source.functions
-            if chosen.get((crate, function.name)) is function
+            if chosen.get((crate, function.title)) is function
         ]
 
     def read_proofs(self):

@@ -7,7 +7,7 @@ PLACE = "◌"  # the place of an argument, in an operator's name
 
 
 class Definition:
-    """kind: function, record, data, constructor, field, enum, case, struct. type is its tree (None where there is none to look at), body the right side
+    """kind: function, record, data, constructor, field, enum, case, struct, trait. type is its tree (None where there is none to look at), body the right side
     of a definition without arguments, members the fields or constructors."""
 
     def __init__(self, kind, name, home, site=None, tree=None, owner=None):

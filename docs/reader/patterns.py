@@ -3,6 +3,9 @@ from kinds import arguments, element, is_operator, type_of
 from lex import Group, Token, is_text
 from terms import Terms, set_role
 
+# the toolchain's constructors around one value: the types that have them, and where the value's type stands behind such a type's name
+OF_ONE = {"Some": (("Option",), 0), "Ok": (("Result",), 0), "Err": (("Result",), 1)}
+
 
 class Patterns(Terms):
     def left(self, file, items, current, scope):
@@ -29,7 +32,7 @@ class Patterns(Terms):
         elif len(atoms) == 1 and not self.builder(file, atoms[0]):
             self.bind(atoms[0], kind, scope)
         else:
-            self.prefix_pattern(file, atoms, scope)
+            self.prefix_pattern(file, atoms, kind, scope)
 
     def builder(self, file, atom):
         """The constructor that a token is, in a pattern: any other name is bound."""
@@ -46,13 +49,13 @@ class Patterns(Terms):
         self.pattern(file, atoms[:place], taken[0], scope)
         self.pattern(file, atoms[place + 1 :], taken[1], scope)
 
-    def prefix_pattern(self, file, atoms, scope):
+    def prefix_pattern(self, file, atoms, kind, scope):
         made = self.builder(file, atoms[0])
         if made is None:
             self.problems.append(f"{file.path}:{atoms[0].line}: {atoms[0].text} is no constructor")
             return
         set_role(atoms[0], "ref", made)
-        taken = self.taken_by(made)
+        taken = [element(kind, *OF_ONE[made.name])] if made.kind == "tool" and made.name in OF_ONE else self.taken_by(made)
         for at, atom in enumerate(atoms[1:]):
             self.pattern(file, [atom], taken[at] if at < len(taken) else None, scope)
 

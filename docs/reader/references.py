@@ -39,11 +39,7 @@ class References:
 
     def __init__(self, world):
         self.world, self.problems = world, []
-        self.functions = {}
-        for crate, sources in world.sources.items():
-            for source in sources:
-                for function in source.functions:
-                    self.functions[crate, function.name] = function
+        self.functions = {crate: functions_by_name(sources) for crate, sources in world.sources.items()}
         self.tests, self.named_functions, self.named_proofs = {}, [], []
 
     def paragraph(self, text, line):
@@ -184,9 +180,9 @@ class References:
         return ("definition", made) if made is not None and made.kind in ("case", "enum", "struct", "tool") else None
 
     def in_crate(self, name, crate):
-        if (crate, name) in self.functions:
-            self.named_functions.append(self.functions[crate, name])
-            return "function", self.functions[crate, name]
+        if name in self.functions[crate]:
+            self.named_functions.append(self.functions[crate][name])
+            return "function", self.functions[crate][name]
         for made in self.world.declared[crate].values():
             if name == made.name or name in made.members:
                 return "definition", made if name == made.name else made.members[name]
@@ -197,6 +193,18 @@ class References:
         if found:
             self.named_proofs.append(found)
         return ("proof", (found.home.path, found)) if found else None
+
+
+def functions_by_name(sources):
+    """The functions of a crate: by their names those that no type has, methods by TYPE::NAME and, where one alone has the name, by that."""
+    found = {}
+    functions = [function for source in sources for function in source.functions]
+    for name in {function.name for function in functions} | {function.title for function in functions}:
+        free = [function for function in functions if function.title == name]
+        named = free or [function for function in functions if function.name == name]
+        if len(named) == 1:
+            found[name] = named[0]
+    return found
 
 
 def script_line(script, number):

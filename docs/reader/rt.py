@@ -1,26 +1,33 @@
-"""Rattle sources (crates/CRATE/src): enums and structs, constants, and functions with their contracts, each with the comment above it. Bodies are not read."""
+"""Rattle sources (crates/CRATE/src): enums, structs and traits, constants, and functions with their contracts, each with the comment above it. Bodies are not read."""
 import re
 
 import repo
 
-DECLARED = re.compile(r"^(?:pub )?(enum|struct) (\w+) \{$")
-FUNCTION = re.compile(r'^(?:pub )?(?:extern "C" )?fn (\w+)')
+DECLARED = re.compile(r"^(?:pub )?(enum|struct|trait) (\w+)(?:<[^>]*>)?(?:: \w+)? ?[{(].*$")
+FUNCTION = re.compile(r'^(?:    )?(?:pub )?(?:extern "C" )?fn (\w+)')
+IMPL = re.compile(r"^impl(?:<.*?>)? (?:(.+) for )?(\w+)(?:<.*>)? \{$")
 CONSTANT = re.compile(r"^(?:pub )?const (\w+): .*;$")
-CASE = re.compile(r"^    (?:pub )?(\w+)(\(|,|:)")
+CASE = re.compile(r"^    (?:pub )?(\w+)(\(|,|:| =)")
+GHOST = re.compile(r"^    ghost (\w+)( =|:)")
 
 
 class Declared:
-    """An enum or struct. members are its cases or fields, each with the place of its line."""
+    """An enum, a struct or a trait. members are its cases, its fields or, of a trait, the ghost values that it asks for, each with the place of its line."""
 
     def __init__(self, kind, name, path, line, lines, members):
         self.kind, self.name, self.path, self.line, self.lines, self.members = kind, name, path, line, lines, members
 
 
 class Function:
-    """A function's comment, signature and contract, as they stand."""
+    """A function's comment, signature and contract, as they stand; of a method they begin where a line does. owner is the type whose method it is,
+    trait the trait that it is of, which then has its contract."""
 
-    def __init__(self, name, crate, path, line, lines):
-        self.name, self.crate, self.path, self.line, self.lines = name, crate, path, line, lines
+    def __init__(self, name, crate, path, line, lines, trait, owner):
+        self.name, self.crate, self.path, self.line, self.lines, self.trait, self.owner = name, crate, path, line, lines, trait, owner
+
+    @property
+    def title(self):
+        return f"{self.owner}::{self.name}" if self.owner else self.name
 
 
 class Source:
@@ -33,11 +40,16 @@ class Source:
         self.uses = [pair for line in lines if line.startswith("use ") for pair in used(line[len("use ") :].rstrip(";"))]
         self.constants = {CONSTANT.match(line)[1]: line for line in lines if CONSTANT.match(line)}
         self.declared, self.functions = [], []
+        trait, owner = None, None
         for place, line in enumerate(lines):
-            if DECLARED.match(line):
+            if line == "}":
+                trait, owner = None, None
+            if IMPL.match(line):
+                trait, owner = IMPL.match(line).groups()
+            elif DECLARED.match(line):
                 self.declared.append(declared_at(path, lines, place))
-            elif FUNCTION.match(line):
-                self.functions.append(function_at(crate, path, lines, place))
+            elif FUNCTION.match(line) and (owner or not line.startswith(" ")):
+                self.functions.append(function_at(crate, path, lines, place, trait, owner))
 
 
 def used(path):
@@ -47,33 +59,40 @@ def used(path):
 
 
 def comment_start(lines, place):
-    """Where the comment right above a line begins."""
-    while place > 0 and (lines[place - 1].startswith("// ") and not lines[place - 1].startswith("// ----") or lines[place - 1].startswith("#[")):
+    """Where the comment right above a line begins, with attributes, which may take several lines."""
+    while place > 0 and belongs(lines[place - 1].lstrip()):
         place -= 1
+        while not lines[place].lstrip().startswith(("//", "#[")):
+            place -= 1
     return place
+
+
+def belongs(line):
+    return line.startswith("// ") and not line.startswith("// ----") or line.startswith("#[") or line == ")]"
 
 
 def declared_at(path, lines, place):
     end = place
-    while lines[end] != "}":
+    while lines[end] != "}" and not lines[end].endswith(");"):
         end += 1
     start = comment_start(lines, place)
     kind, name = DECLARED.match(lines[place]).groups()
     members = {}
     for at in range(place + 1, end):
-        match = CASE.match(lines[at])
+        match = (GHOST if kind == "trait" else CASE).match(lines[at])
         if match:
             members[match[1]] = at - start
     return Declared(kind, name, path, start + 1, lines[start : end + 1], members)
 
 
-def function_at(crate, path, lines, place):
+def function_at(crate, path, lines, place, trait, owner):
     start = comment_start(lines, place)
     end = place
-    while lines[end] != "{" and not lines[end].endswith(" {"):
+    while lines[end].lstrip() != "{" and not lines[end].endswith(" {"):
         end += 1
-    shown = lines[start:end] if lines[end] == "{" else lines[start:end] + [lines[end][: -len(" {")]]
-    return Function(FUNCTION.match(lines[place])[1], crate, path, start + 1, shown)
+    shown = lines[start:end] if lines[end].lstrip() == "{" else lines[start:end] + [lines[end][: -len(" {")]]
+    inset = len("    ") if owner else 0
+    return Function(FUNCTION.match(lines[place])[1], crate, path, start + 1, [line[inset:] for line in shown], trait, owner)
 
 
 def sources():

@@ -19,7 +19,7 @@ def test_id(script, line):
 
 
 def function_id(function):
-    return slug(f"fn.{function.crate}.{function.name}")
+    return slug(f"fn.{function.crate}.{function.title}")
 
 
 def plain(text):

@@ -190,22 +190,26 @@ class Terms:
             yield from (made for made in types.values() if made.kind == "struct")
 
     def projection(self, file, token, spine, scope):
-        """.f behind a term: the field of the term's record, or of a reference what it lends. What stands for the whole afterwards is the field's token."""
+        """.f behind a term: the field of the term's record, or of a reference what it lends, also of one that is a field. What stands for the whole afterwards is the
+        field's token."""
         kind = self.inferred(file, spine, scope)
+        built_in = self.world.tools.built_in("." + token.text)
         if self.is_lent(spine, scope):
-            built_in = self.world.tools.built_in("." + token.text)
             set_role(token, "ref" if built_in else "unresolved", built_in)
             token.type = kind
             return token
         record = record_of(kind) or self.only_record(token.text)
         if record is not None and token.text in record.members:
             set_role(token, "ref", record.members[token.text])
+        elif built_in:
+            set_role(token, "ref", built_in)
+            token.type = kind
         set_role(token, "number" if token.kind == "number" else "unresolved")
         return token
 
     def is_lent(self, spine, scope):
-        """Whether a term is a parameter of the code that is a reference."""
-        return len(spine) == 1 and isinstance(spine[0], Token) and spine[0].role == "local" and spine[0].text in scope and scope[spine[0].text].lent
+        """Whether a term is a parameter of the code, or its result, that is a reference."""
+        return len(spine) == 1 and isinstance(spine[0], Token) and spine[0].text in scope and scope[spine[0].text].lent
 
     def only_record(self, name):
         found = [made for made in self.records() if name in made.members]

@@ -16,7 +16,7 @@ from trace_md import Heading, fragments, quoted
 SIGNS = set("→ λ = : _ | ∣ [ ]".split())
 SMALL = """-- a small file
 use mathlib.Core.List.{List, [], ◌∷◌}
-use Rattle.std.specs.Prelude.{ℕ, max, ◌+◌}
+use Rattle.std.specs.Prelude.{ℕ, max, ◌+◌, Option, Some, None}
 
 pub record Pair : Type 0 where
   pub left : ℕ
@@ -37,6 +37,10 @@ lefts f (x ∷ xs) = let total = x in total.left ∷ lefts (λ max. record { lef
 
 abbrev pub sum : Op → Other → Pair → ℕ
 sum f left right = max left.left right.left + (f right.left).left
+
+abbrev pub lone : Option Other → ℕ
+lone (Some left) = left.left
+lone None = 0
 """
 # line, text, which of them in the line, role, target
 EXPECTED = [
@@ -58,6 +62,10 @@ EXPECTED = [
     (23, "right", 1, "local", None),
     (23, "left", 3, "ref", "small.Small.Pair.left"),
     (23, "left", 5, "ref", "small.Small.Pair.left"),
+    (26, "Some", 0, "ref", "Some"),
+    (26, "left", 1, "local", None),
+    (26, "left", 2, "ref", "small.Small.Other.left"),
+    (27, "None", 0, "ref", "None"),
 ]
 
 
@@ -177,7 +185,10 @@ def contract_tokens(model):
 
 def contracts(model, failures):
     lost = [(function, token) for function, token in contract_tokens(model) if token.role == "unresolved"]
-    failures.none([f"{function.path}: {token.text}, in the contract of {function.name}, leads nowhere" for function, token in lost])
+    failures.none([f"{function.path}: {token.text}, in the contract of {function.title}, leads nowhere" for function, token in lost])
+    for made in [made for types in model.world.declared.values() for made in types.values()]:
+        lost = [token.text for line in model.contracts.declared(made).lines for token in line if token.role == "unresolved"]
+        failures.none([f"{made.home.path}: {name}, in {made.kind} {made.name}, leads nowhere" for name in lost])
 
 
 def tools(model, page, failures):

@@ -107,7 +107,7 @@ class World:
 
 
 def declared_of(sources):
-    """crate: name: the definition of each enum and struct of the code."""
+    """crate: name: the definition of each enum, struct and trait of the code."""
     found = {}
     for crate, files in sources.items():
         found[crate] = {}

@@ -18,38 +18,37 @@ fn main(rt: HostRuntime) -> io::Result<()> {
     let mut session = Session::new(alloc)?;
     // Nothing says that the input ends, so the loop counts its turns, up to a number that no run uses up.
     for _ in 0..u64::MAX {
-        if !read_line(&mut input, &mut line) {
-            break;
+        match turn(&mut input, &mut out, &mut line, &mut session) {
+            Ok(true) => {}
+            _ => break,
         }
-        // A write that fails is let go: the run goes on without what was not written.
-        let _ = run(&mut session, &mut input, &mut out, &line);
     }
     let _ = out.flush();
     Ok(())
 }
 
-// Reads a line, its end included, or as much of one as a line has at most: nothing at the end of the input, or where a read fails.
-fn read_line<R: BufRead>(input: &mut R, line: &mut Vec<u8>) -> bool {
-    line.clear();
-    let _ = input.take(LINE as u64).read_until(b'\n', line);
-    !line.is_empty()
-}
-
-// Runs a line, and writes what it answers. One that is too long is written as far as it was read, and the rest is passed over.
-fn run<R: BufRead, W: Write>(
-    session: &mut Session,
+// Reads a line, its end included, and writes what it answers: `false` at the end of the input. A line that is too long is no call: it is written as far as it was read,
+// and the rest is passed over. A read that fails ends the run, and a write that fails is let go.
+fn turn<R: BufRead, W: Write>(
     input: &mut R,
     out: &mut W,
-    line: &[u8],
-) -> io::Result<()> {
-    let said = match line {
+    line: &mut Vec<u8>,
+    session: &mut Session,
+) -> io::Result<bool> {
+    line.clear();
+    let read = input.take(LINE as u64).read_until(b'\n', line);
+    let said = match line.as_slice() {
+        [] => return Ok(false),
         [said @ .., b'\n'] => said,
-        _ if line.len() < LINE => line,
-        _ => {
+        start if start.len() == LINE => {
+            let _ = output::echo(out, start);
             input.skip_until(b'\n')?;
-            return output::echo(out, line);
+            return Ok(true);
         }
+        said => said,
     };
     let reply = session.line(said);
-    output::put(out, reply, said, session)
+    let _ = output::put(out, reply, said, session);
+    read?;
+    Ok(true)
 }

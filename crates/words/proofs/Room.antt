@@ -92,7 +92,7 @@ module _ (g : Grown) (ws ws₁ : List ℕ) (h used₁ : ℕ) (one : Fit g ws ws�
       let q : length g.words + m ≡ n = omega arith in
       rw one.words (ap (λ (k : ℕ). drop k (g.words ++ drop (length g.words) ws)) (sym q) ∙ drop-append-add g.words (drop (length g.words) ws) m ∙ lib.Seq.drop-drop m (length g.words) ws ∙ ap (λ (k : ℕ). drop k ws) q)
 
-  -- At, then At or Full: what the second leaves is what both leave. `used` words stood before the first, and it has kept them.
+  -- Some, then Some or None: what the second leaves is what both leave. `used` words stood before the first, and it has kept them.
   pub then : (used : ℕ) → Extends (take used ws) g.words → used ≤ length ws → (g₂ : Grown) (ws₂ : List ℕ) (r : Option Interned) → Extends g.words g₂.words → Ran used₁ g₂ ws₁ ws₂ r → Ran used g₂ ws ws₂ r
   then used ext low g₂ ws₂ r ext₂ two =
       let le = ext_length g.words g₂.words ext₂ in
@@ -106,7 +106,7 @@ module _ (g : Grown) (ws ws₁ : List ℕ) (h used₁ : ℕ) (one : Fit g ws ws�
             ∙ ap (λ (k : ℕ). take k g.words) (sym len) ∙ ext_take (take used ws) g.words ext;
       }
 
--- Full: there is no second, and both together do not fit either
+-- None: there is no second, and both together do not fit either
 pub stop : (used : ℕ) (g g₂ : Grown) (ws ws₁ : List ℕ) → Extends g.words g₂.words → Ran used g ws ws₁ None → Ran used g₂ ws ws₁ None
 stop used g g₂ ws ws₁ ext one =
     let more = overflowed used g ws ws₁ None one refl in
