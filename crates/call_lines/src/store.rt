@@ -4,7 +4,7 @@ ghost use Rattle.call_lines.specs.OpenIf.{OpenIf};
 
 use crate::{Line, OUTPUT, line_of, list_of};
 use asking::Asking;
-use call::{Answer, Done, Made};
+use call::{Answer, Refusal};
 use making::Making;
 use replies::Reply;
 use std::alloc::{AllocError, Global};
@@ -60,9 +60,9 @@ impl Store {
     }
 
     // Opens the list, or closes it where that is refused.
-    pub fn open(&mut self) -> Done {
+    pub fn open(&mut self) -> Result<(), Refusal> {
         let answer = opened::open(&self.words, &mut self.index, &mut self.memory);
-        self.opened = matches!(answer, Done::Accepted);
+        self.opened = answer.is_ok();
         answer
     }
 
@@ -83,7 +83,7 @@ impl Store {
         }
     }
 
-    fn append(&mut self, making: Making, list: &[u64], text: &[u8]) -> Made {
+    fn append(&mut self, making: Making, list: &[u64], text: &[u8]) -> Result<u64, Refusal> {
         if self.opened {
             let (index, memory) = (&mut self.index, &mut self.memory);
             opened::append(&mut self.words, index, memory, making, list, text)
@@ -92,7 +92,7 @@ impl Store {
         }
     }
 
-    fn meet_list(&mut self, list: &[u64]) -> Made {
+    fn meet_list(&mut self, list: &[u64]) -> Result<u64, Refusal> {
         if self.opened {
             let (index, memory) = (&mut self.index, &mut self.memory);
             opened_lists::meet_list(&mut self.words, index, memory, list)
@@ -101,7 +101,7 @@ impl Store {
         }
     }
 
-    fn ask(&mut self, asking: Asking) -> Answer {
+    fn ask(&mut self, asking: Asking) -> Result<Answer, Refusal> {
         if self.opened {
             opened::ask(&self.words, &self.index, &mut self.memory, asking)
         } else {
@@ -124,7 +124,7 @@ impl Store {
             plain::fill(&self.words, filling, s, output)
         };
         Some(match answer {
-            Answer::Number(k) => Reply::Output(k),
+            Ok(Answer::Number(k)) => Reply::Output(k),
             _ => answer.into(),
         })
     }

@@ -75,7 +75,7 @@ impl Files {
         self.saved.clear();
         self.saved.resize(n, BLANK).ok()?;
         let answer = catalogue::save(words, text, &mut self.saved);
-        if let call::Answer::Number(n) = answer {
+        if let Ok(call::Answer::Number(n)) = answer {
             self.keep(n as usize)?;
             return Some(Reply::Saved(n));
         }

@@ -117,6 +117,6 @@ pub fn read(reading: Reading, a: &[u64], words: &[u64], kept: &mut Vec<u64>) -> 
             Some(Answer::Accepted.into())
         }
         Reading::Kept => Some((words == kept.as_slice()).into()),
-        Reading::FindEntry => Some(Reply::Search(entry_search::find_entry(words, a))),
+        Reading::FindEntry => Some(entry_search::find_entry(words, a).into()),
     }
 }

@@ -6,7 +6,7 @@ ghost use Rattle.std.specs.Prelude.{◌≤◌, length};
 use dispatch::Session;
 use entry_search::EntrySearch;
 use replies::Reply;
-use script::{Answer, Hex};
+use script::Hex;
 use std::io::Write;
 use std::{fmt, io};
 
@@ -30,9 +30,8 @@ pub fn put<W: Write>(
             let filled = Words(&session.output);
             writeln!(out, "{n} :{}{filled}", space(!session.output.is_empty()))
         }
-        Reply::Search(EntrySearch::Found(h, n)) => writeln!(out, "{h} {n}"),
-        Reply::Search(EntrySearch::Absent(n)) => writeln!(out, "absent {n}"),
-        Reply::Search(EntrySearch::Refused(n)) => writeln!(out, "{}", Answer::Refused(n)),
+        Reply::Search(EntrySearch { found: Some(h), count }) => writeln!(out, "{h} {count}"),
+        Reply::Search(EntrySearch { found: None, count }) => writeln!(out, "absent {count}"),
         Reply::Saved(n) => {
             let saved = Hex(&session.files.saved);
             writeln!(

@@ -1,7 +1,7 @@
 // What lines answer, and how the answers of calls are told.
 #![tactic(auto)]
 
-use call::{Done, Made};
+use call::Refusal;
 use entry_search::EntrySearch;
 use script::Answer;
 
@@ -37,34 +37,48 @@ impl From<bool> for Reply {
     }
 }
 
-impl From<Done> for Reply {
-    fn from(answer: Done) -> Reply {
-        Reply::Short(match answer {
-            Done::Accepted => Answer::Accepted,
-            Done::Refused(n) => Answer::Refused(n),
-        })
+impl From<()> for Reply {
+    fn from(_accepted: ()) -> Reply {
+        Reply::Short(Answer::Accepted)
     }
 }
 
-impl From<Made> for Reply {
-    fn from(answer: Made) -> Reply {
-        Reply::Short(match answer {
-            Made::Handle(h) => Answer::Number(h),
-            Made::Refused(n) => Answer::Refused(n),
-        })
+impl From<u64> for Reply {
+    fn from(n: u64) -> Reply {
+        Reply::Short(Answer::Number(n))
+    }
+}
+
+impl From<EntrySearch> for Reply {
+    fn from(search: EntrySearch) -> Reply {
+        Reply::Search(search)
     }
 }
 
 impl From<call::Answer> for Reply {
     fn from(answer: call::Answer) -> Reply {
         match answer {
-            call::Answer::Handle(n) | call::Answer::Number(n) => Answer::Number(n).into(),
+            call::Answer::Handle(n) | call::Answer::Number(n) => n.into(),
             call::Answer::Flag(yes) => yes.into(),
-            call::Answer::Refused(n) => Answer::Refused(n).into(),
             call::Answer::Signed(w) => Answer::Signed(w).into(),
             call::Answer::Absent => Answer::Absent.into(),
             call::Answer::Constant(bits) => Answer::Constant(bits).into(),
             call::Answer::Size(w) => Answer::Size(w).into(),
+        }
+    }
+}
+
+impl From<Refusal> for Reply {
+    fn from(e: Refusal) -> Reply {
+        Reply::Short(Answer::Refused(e.into()))
+    }
+}
+
+impl<T: Into<Reply>> From<Result<T, Refusal>> for Reply {
+    fn from(answer: Result<T, Refusal>) -> Reply {
+        match answer {
+            Ok(told) => told.into(),
+            Err(e) => e.into(),
         }
     }
 }
