@@ -1,20 +1,33 @@
--- A name's word, which is made of eight bytes. Assumes nothing.
-use Rattle.std.proofs.Common.{◌≡◌, ℕ, suc, ◌+◌, ◌<◌, List, get_or, take, drop, ap, ◌∙◌, arith}
-use Rattle.std.specs.Int.{w64, from_le_bytes}
+-- A name's word, which is made byte by byte, from the last of eight on. Assumes nothing.
+use Rattle.std.proofs.Common.{◌≡◌, ℕ, suc, ◌+◌, ◌-◌, ◌*◌, ◌^◌, ◌≤◌, ◌<◌, List, get_or, take, drop, ap, arith}
+use lib.Pow.{pow_mono}
 use Rattle.source.specs.Packed.{of_bytes}
-use Rattle.source.proofs.Number.{step}
+use Rattle.source.proofs.Number.{step, wider}
 
--- eight bytes that are those of a text from a position on, 0 past its end
-pub eight_bytes : (bs t : List ℕ) (at : ℕ) → ((k : ℕ) → k < 8 → get_or bs k 0 ≡ get_or t (at + k) 0) → from_le_bytes w64 bs ≡ of_bytes (take 8 (drop at t))
+-- w is the number of the last k of the eight bytes from `at` on
+pub record Last (t : List ℕ) (at k w : ℕ) : Type 0 where
+  pub small : w < 2 ^ (8 * k)
+  pub is : w ≡ of_bytes (take k (drop (at + (8 - k)) t))
+
+pub last_none : (t : List ℕ) (at : ℕ) → Last t at 0 0
 unfolding of_bytes
-eight_bytes bs t at is =
-    let same : (k m : ℕ) → k < 8 → at + k ≡ m → get_or bs k 0 ≡ get_or t m 0 = λ k m h e. is k h ∙ ap (λ (n : ℕ). get_or t n 0) e in
-    let b0 : get_or bs 0 0 ≡ get_or t at 0 = same 0 at (omega arith) (omega arith) in
-    let b1 : get_or bs 1 0 ≡ get_or t (suc at) 0 = same 1 _ (omega arith) (omega arith) in
-    let b2 : get_or bs 2 0 ≡ get_or t (suc (suc at)) 0 = same 2 _ (omega arith) (omega arith) in
-    let b3 : get_or bs 3 0 ≡ get_or t (suc (suc (suc at))) 0 = same 3 _ (omega arith) (omega arith) in
-    let b4 : get_or bs 4 0 ≡ get_or t (suc (suc (suc (suc at)))) 0 = same 4 _ (omega arith) (omega arith) in
-    let b5 : get_or bs 5 0 ≡ get_or t (suc (suc (suc (suc (suc at))))) 0 = same 5 _ (omega arith) (omega arith) in
-    let b6 : get_or bs 6 0 ≡ get_or t (suc (suc (suc (suc (suc (suc at)))))) 0 = same 6 _ (omega arith) (omega arith) in
-    let b7 : get_or bs 7 0 ≡ get_or t (suc (suc (suc (suc (suc (suc (suc at))))))) 0 = same 7 _ (omega arith) (omega arith) in
-    omega (arith, step t 7 at, step t 6 (suc at), step t 5 (suc (suc at)), step t 4 (suc (suc (suc at))), step t 3 (suc (suc (suc (suc at)))), step t 2 (suc (suc (suc (suc (suc at))))), step t 1 (suc (suc (suc (suc (suc (suc at)))))), step t 0 (suc (suc (suc (suc (suc (suc (suc at))))))))
+last_none t at = record { small = omega arith; is = omega arith }
+
+module _ (t : List ℕ) (at k w : ℕ) (l : Last t at k w) where
+  -- while a byte of eight is still to come, the word has room for it
+  pub last_room : k < 8 → w < 2 ^ 56
+  last_room more = let h : 8 * k ≤ 56 = omega arith in omega (arith, l.small, pow_mono h)
+
+  pub last_more : (b : ℕ) → k < 8 → b < 256 → b ≡ get_or t (at + 7 - k) 0 → Last t at (k + 1) (b + 256 * w)
+  last_more b more small it =
+      let j = at + (8 - (k + 1)) in
+      let n : suc k ≡ k + 1 = omega arith in
+      let p : at + 7 - k ≡ j = omega arith in
+      let q : suc j ≡ at + (8 - k) = omega arith in
+      let here : get_or t (at + 7 - k) 0 ≡ get_or t j 0 = ap (λ (i : ℕ). get_or t i 0) p in
+      let all : of_bytes (take (suc k) (drop j t)) ≡ of_bytes (take (k + 1) (drop j t)) = ap (λ (m : ℕ). of_bytes (take m (drop j t))) n in
+      let rest : of_bytes (take k (drop (suc j) t)) ≡ of_bytes (take k (drop (at + (8 - k)) t)) = ap (λ (i : ℕ). of_bytes (take k (drop i t))) q in
+      record { small = rw n at (wider w b k l.small small); is = omega (arith, step t k j, l.is) }
+
+  pub last_all : k ≡ 8 → w ≡ of_bytes (take 8 (drop at t))
+  last_all end = let z : at + (8 - 8) ≡ at = omega arith in rw (end, z) at l.is

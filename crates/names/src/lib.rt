@@ -62,7 +62,22 @@ impl Name<'_> {
         text_at(self.text, i - 1)
     }
 
-    // Eight of its bytes, from a position on, as a word.
+    // Eight of its bytes, from a position on, as a word, one by one. Told to be rare, so that the search around it keeps its registers: it was slower without.
+    #[cold]
+    #[inline(never)]
+    fn last_eight(&self, at: usize) -> u64
+        requires { at ≤ longest_text + 1 }
+        ensures { result ≡ of_bytes (take 8 (drop at (wrapped self.now.wrap self.now.text.now))) }
+    {
+        let mut w = 0;
+        for k in 0..8 {
+            w = u64::from(self.byte_at(at + 7 - k)) + 256 * w;
+        }
+        w
+    }
+
+    // The same, at once where the text has them.
+    #[tactic(auto, using(crate::proofs::Bytes::plain_word))]
     fn eight(&self, at: usize) -> u64
         requires { at ≤ longest_text + 1 }
         ensures { result ≡ of_bytes (take 8 (drop at (wrapped self.now.wrap self.now.text.now))) }
@@ -70,11 +85,7 @@ impl Name<'_> {
         if !self.wrap && at + 8 <= self.text.len() {
             return source::eight(self.text, at);
         }
-        let mut bytes = [0; 8];
-        for j in 0..8 {
-            bytes[j] = self.byte_at(at + j);
-        }
-        u64::from_le_bytes(bytes)
+        self.last_eight(at)
     }
 }
 
@@ -82,39 +93,21 @@ impl Wanted for Name<'_> {
     ghost entry = { λ n. name_entry (wrapped n.wrap n.text.now) };
 
     #[tactic(auto, using(crate::proofs::Bytes::length_most, crate::proofs::NameEntry::name_length))]
-    fn size(self) -> usize {
+    fn size(&self) -> usize {
         1 + (self.len() + 7) / 8
     }
 
     #[tactic(auto, using(crate::proofs::Bytes::length_most, crate::proofs::NameEntry::head_word))]
-    fn head(self) -> u64 {
+    fn head(&self) -> u64 {
         kinds::COUNT * self.len() as u64
     }
 
     #[tactic(auto, using(crate::proofs::NameEntry::name_most, crate::proofs::NameEntry::later_word))]
-    fn word(self, i: usize) -> u64 {
+    fn word(&self, i: usize) -> u64 {
         if i == 0 {
             return self.head();
         }
         self.eight(8 * (i - 1))
-    }
-
-    fn same(self, words: &[u64]) -> bool {
-        if words.len() != self.size() {
-            return false;
-        }
-        for i in 0..words.len() {
-            if words[i] != self.word(i) {
-                return false;
-            }
-        }
-        true
-    }
-
-    fn write(self, dst: &mut [u64]) {
-        for i in 0..self.size() {
-            dst[i] = self.word(i);
-        }
     }
 }
 

@@ -102,49 +102,61 @@ pub trait Wanted: Copy {
     ghost entry: { Self → List ℕ };
 
     // How many they are.
-    fn size(self) -> usize
-        ensures { result ≡ length (entry self) };
+    fn size(&self) -> usize
+        ensures { result ≡ length (entry self.now) };
 
     // The first, its head; 0 where it has none.
-    fn head(self) -> u64
-        ensures { result ≡ get_or (entry self) 0 0 };
+    fn head(&self) -> u64
+        ensures { result ≡ get_or (entry self.now) 0 0 };
 
     // One of them.
-    fn word(self, i: usize) -> u64
-        requires { i < length (entry self) }
-        ensures { result ≡ get_or (entry self) i 0 };
+    fn word(&self, i: usize) -> u64
+        requires { i < length (entry self.now) }
+        ensures { result ≡ get_or (entry self.now) i 0 };
 
-    // Whether a list of words is the same.
-    fn same(self, words: &[u64]) -> bool
-        ensures { result ≡ eqs words.now (entry self) };
+    // Whether a list of words is the same. Word by word: most lists that are compared in a search are short and differ at the second, where `==` of slices is slower.
+    fn same(&self, words: &[u64]) -> bool
+        ensures { result ≡ eqs words.now (entry self.now) }
+    {
+        if words.len() != self.size() {
+            return false;
+        }
+        for i in 0..words.len() {
+            if words[i] != self.word(i) {
+                return false;
+            }
+        }
+        true
+    }
 
     // Fills the first words of `dst` with them.
-    fn write(self, dst: &mut [u64])
-        requires { length (entry self) ≤ length dst.old }
-        ensures { dst.new ≡ entry self ++ drop (length (entry self)) dst.old };
+    fn write(&self, dst: &mut [u64])
+        requires { length (entry self.now) ≤ length dst.old }
+        ensures { dst.new ≡ entry self.now ++ drop (length (entry self.now)) dst.old }
+    {
+        for i in 0..self.size() {
+            dst[i] = self.word(i);
+        }
+    }
 }
 
 impl Wanted for &[u64] {
     ghost entry = { λ s. s.now };
 
-    fn size(self) -> usize {
+    fn size(&self) -> usize {
         self.len()
     }
 
-    fn head(self) -> u64 {
+    fn head(&self) -> u64 {
         self.first().copied().unwrap_or(0)
     }
 
-    fn word(self, i: usize) -> u64 {
+    fn word(&self, i: usize) -> u64 {
         self[i]
     }
 
-    fn same(self, words: &[u64]) -> bool {
-        same(words, self)
-    }
-
-    fn write(self, dst: &mut [u64]) {
-        write(dst, self);
+    fn write(&self, dst: &mut [u64]) {
+        write(dst, *self);
     }
 }
 
