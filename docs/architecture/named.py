@@ -97,7 +97,7 @@ def calls(text, problems):
 
 
 def is_called(caller, callee):
-    """CRATE::NAME stands in the caller's body, or CRATE::TYPE::NAME behind a value's dot; of a function with parameters in <> also with what it is given for them."""
+    """CRATE::NAME stands in the caller's body, or, of CRATE::TYPE::NAME, NAME behind a dot; either with what stands in ::<> behind it."""
     crate, *of, name = callee.split("::")
     own = caller.split("::")[0] == crate
     place = r"\." if of else r"(?<![\w:.])" if own else rf"\b{crate}::"

@@ -138,7 +138,7 @@ class Contracts:
         return found
 
     def declared(self, made):
-        """An enum or struct of the code; its name and its members are definitions."""
+        """An enum, struct or trait of the code; its name and its members are definitions."""
         entry = made.site
         scope = self.scope(self.source_of(made.home.crate, entry.path))
         if made.kind == "trait":
@@ -205,7 +205,7 @@ def attribute_lines(lines):
 def type_parameters(scope, lines):
     """The names of `fn f<A: Trait, ..>(` with their traits."""
     found = next((GENERIC.search(line)[1] for line in lines if GENERIC.search(line)), "")
-    pairs = [part.partition(":") for part in found.split(", ") if part and not part.startswith("'")]
+    pairs = [part.removeprefix("const ").partition(":") for part in found.split(", ") if part and not part.startswith("'")]
     return {name: Bound(scope.kind(trait.strip())) for name, _, trait in pairs}
 
 

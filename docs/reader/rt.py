@@ -1,4 +1,4 @@
-"""Rattle sources (crates/CRATE/src): enums, structs and traits, constants, and functions with their contracts, each with the comment above it. Bodies are not read."""
+"""Rattle sources (crates/CRATE/src): enums, structs, traits, constants, and functions with their contracts, each with the comment above it; no bodies."""
 import re
 
 import repo
