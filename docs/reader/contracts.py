@@ -74,8 +74,14 @@ class Contracts:
     def function(self, entry):
         """A function's lines, with the parameters as names bound nearby, and its type parameters."""
         scope = self.scope(self.source_of(entry.crate, entry.path))
-        bound = {} if entry.owner is None else {SELF: Bound(scope.kind(entry.owner))}
+        bound = {} if entry.owner is None else self.bound_by(scope.types.get(entry.owner), scope.kind(entry.owner))
         return Shown(entry, self.function_lines(scope, entry.lines, bound))
+
+    def bound_by(self, owner, kind):
+        """What the contract of a method may name besides its parameters: `self`, and of a trait's the values that it asks for."""
+        if owner is None or owner.kind != "trait":
+            return {SELF: Bound(kind)}
+        return {SELF: Bound(), **{name: Bound(None, member) for name, member in owner.members.items()}}
 
     def trait_of(self, entry):
         """The trait of the repository that has the contract of a method, if one has."""
@@ -171,16 +177,20 @@ class Contracts:
         return found + told
 
     def trait_lines(self, scope, made):
-        """A trait: its ghost values, and its functions with their contracts, each as it stands."""
-        lines, function = [], []
-        bound = {SELF: Bound(None)}
-        bound.update({name: Bound(None, member) for name, member in made.members.items()})
+        """A trait: its ghost values, and its functions with their contracts, each as it stands; a body has no links."""
+        lines, function, is_body = [], [], False
+        bound = self.bound_by(made, None)
         for line in made.site.lines:
             starts = FUNCTION_LINE.match(line)
             if function and not (is_clause(line) or starts is None and function[-1].endswith((",", "("))):
                 lines += self.function_lines(scope, function, bound)
                 function = []
-            if starts or function:
+            is_body = is_body or line == "    {"
+            if is_body:
+                lines.append([Token("text", line, 0, 0)])
+                set_role(lines[-1][0], "text")
+                is_body = line != "    }"
+            elif starts or function:
                 function.append(line)
             else:
                 found = self.fact(scope, line, made) if GHOST.match(line) else self.code_line(scope, line)

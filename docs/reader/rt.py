@@ -19,8 +19,8 @@ class Declared:
 
 
 class Function:
-    """A function's comment, signature and contract, as they stand; of a method they begin where a line does. owner is the type whose method it is,
-    trait the trait that it is of, which then has its contract."""
+    """A function's comment, signature and contract, as they stand; of a method they begin where a line does. owner is the type, or trait, whose
+    method it is, trait the trait that it is of, which then has its contract."""
 
     def __init__(self, name, crate, path, line, lines, trait, owner):
         self.name, self.crate, self.path, self.line, self.lines, self.trait, self.owner = name, crate, path, line, lines, trait, owner
@@ -48,6 +48,7 @@ class Source:
                 trait, owner = IMPL.match(line).groups()
             elif DECLARED.match(line):
                 self.declared.append(declared_at(path, lines, place))
+                owner = self.declared[-1].name if self.declared[-1].kind == "trait" else None
             elif FUNCTION.match(line) and (owner or not line.startswith(" ")):
                 self.functions.append(function_at(crate, path, lines, place, trait, owner))
 
@@ -88,9 +89,10 @@ def declared_at(path, lines, place):
 def function_at(crate, path, lines, place, trait, owner):
     start = comment_start(lines, place)
     end = place
-    while lines[end].lstrip() != "{" and not lines[end].endswith(" {"):
+    while lines[end].lstrip() != "{" and not lines[end].endswith((" {", ";")):
         end += 1
-    shown = lines[start:end] if lines[end].lstrip() == "{" else lines[start:end] + [lines[end][: -len(" {")]]
+    last = lines[end].removesuffix("{").removesuffix(";").rstrip()
+    shown = lines[start:end] + ([last] if last else [])
     inset = len("    ") if owner else 0
     return Function(FUNCTION.match(lines[place])[1], crate, path, start + 1, [line[inset:] for line in shown], trait, owner)
 
