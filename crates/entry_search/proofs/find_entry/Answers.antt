@@ -13,8 +13,8 @@ bounds-words-0 c = search first_word
 pub find-s-requires : goal.find-s-requires
 find-s-requires c = to_find _ c.args.entry.now _ c.well_formed-2.ensures (ap not c.if-not-well_formed.false)
 
-pub returns-in-At : goal.returns-in-At
-returns-in-At c = search found_there
+pub returns-in-Some : goal.returns-in-Some
+returns-in-Some c = search found_there
 
-pub returns-in-Nothing : goal.returns-in-Nothing
-returns-in-Nothing c = search found_nowhere
+pub returns-in-None : goal.returns-in-None
+returns-in-None c = search found_nowhere
