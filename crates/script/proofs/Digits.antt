@@ -143,7 +143,7 @@ module _ (word : List ℕ) where
   without m x = rw (ne_eqb _ _ m) (go (eqb (get_or word 0 0) 48) refl (eqb (get_or word 1 0) 120) refl)
     where
       go : (s : Bool) → eqb (get_or word 0 0) 48 ≡ s → (t : Bool) → eqb (get_or word 1 0) 120 ≡ t
-        → unsigned_of 10 20 word ≡ cond (s && t) (unsigned_of 16 16 (drop 2 word)) (unsigned_of 10 20 word)
+          → unsigned_of 10 20 word ≡ cond (s && t) (unsigned_of 16 16 (drop 2 word)) (unsigned_of 10 20 word)
       go false _ t _ = refl
       go true _ false _ = refl
       go true e true f = absurd (x (eqb-true _ _ e) (eqb-true _ _ f))

@@ -10,4 +10,3 @@ returns-in_err-m-clause-runs c = rw c.from_residual.ensures (meet_full _ _ _ _ _
 
 pub returns : goal.returns
 returns c = record { runs = meet_dualled _ _ _ _ _ c.requires.ready _ _ c.meet_type.ensures.met _ _ c.in_ok-m.was _ _ c.walk_type.ensures.walked; remembered = meet_remembered _ _ _ _ _ c.requires.ready _ _ c.meet_type.ensures.met _ _ c.in_ok-m.was c.requires.remembers c.meet_type.auto.memo c.meet_type.ensures.remembered c.walk_type.auto.memo c.walk_type.ensures.walked c.walk_type.ensures.remembered }
-

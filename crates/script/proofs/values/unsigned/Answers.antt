@@ -6,8 +6,9 @@ use Rattle.script.proofs.values.unsigned.Goals.{then-is_empty-via-then-is_empty,
 
 pub returns-then-is_empty : goal.returns-then-is_empty
 returns-then-is_empty c = elim c.then-is_empty.branch [
-    then-is_empty-via-then-is_empty w ↦ none _ _ _ (search rules)
-  | then-is_empty-via-else-is_empty+then-most-word w ↦ too_many _ _ _ (omega arith) ]
+  | then-is_empty-via-then-is_empty w ↦ none _ _ _ (search rules)
+  | then-is_empty-via-else-is_empty+then-most-word w ↦ too_many _ _ _ (omega arith)
+]
 
 pub loop-b-init : goal.loop-b-init
 loop-b-init c = (search rules, begin _ _ _ (search rules) (omega arith))
@@ -30,9 +31,11 @@ returns-in_err-sum c =
     c.in_ok-digit.digit (search rules) (search rules) _ _ _ c.from-in-loop-b.ensures (search rules) c.from-in-loop-b-2.ensures (c.in_err-sum.ensures)
 
 pub loop-b-preserved : goal.loop-b-preserved
-loop-b-preserved c =
-    (search rules, one_digit _ _ _ _ _ c.loop-b.invariant.1 (omega arith) _ c.from.ensures (omega arith)
-    c.in_ok-digit.digit (search rules) (search rules) _ c.in_ok-checked_mul.field-0 _ c.from-in-loop-b.ensures (search rules) c.from-in-loop-b-2.ensures _ (search rules))
+loop-b-preserved c = (
+  search rules,
+  one_digit _ _ _ _ _ c.loop-b.invariant.1 (omega arith) _ c.from.ensures (omega arith)
+      c.in_ok-digit.digit (search rules) (search rules) _ c.in_ok-checked_mul.field-0 _ c.from-in-loop-b.ensures (search rules) c.from-in-loop-b-2.ensures _ (search rules),
+)
 
 pub returns : goal.returns
 returns c = all_taken _ _ _ _ _ c.loop-b.invariant.1 c.loop-b-test.false c.loop-b.invariant.0
