@@ -14,7 +14,7 @@ use Rattle.words.proofs.Zeros.{zeros}
 use Rattle.parts.specs.Parts.{Good, Part}
 use Rattle.parts.proofs.Good.{part_below}
 use Rattle.later.specs.Later.{Later}
-use Rattle.later.proofs.Later.{later_same, later_then}
+use Rattle.later.proofs.Later.{later_then}
 use Rattle.finals.specs.Final.{is_final_within}
 use Rattle.finals.specs.Known.{Knows, Kept, Finals}
 use Rattle.finals.proofs.Stays.{final_later}
@@ -37,9 +37,6 @@ knows_blank u n = knows_none u (replicate n 0) (none (replicate n 0) (zeros n))
 
 -- ---- what `kept` does
 
-pub kept_none : (bits : List ℕ) (a : ℕ) (r : Bool) → Kept bits a r bits
-kept_none bits a r = record { all = λ h b. inl b }
-
 pub kept_one : (bits bits' : List ℕ) (a : ℕ) (r : Bool) → not r ≡ false → bit_at bits' ≡ also a (bit_at bits) → Kept bits a r bits'
 unfolding also
 kept_one bits bits' a r y e = record { all = λ h b. go h (eqb a h) refl (sym (ap (λ (t : ℕ → Bool). t h) e) ∙ b) }
@@ -49,10 +46,6 @@ kept_one bits bits' a r y e = record { all = λ h b. go h (eqb a h) refl (sym (a
     go h false q b = inl b
 
 -- ---- the ways through is_final
-
--- a type that is known
-pub known_final : {u bits : List ℕ} (a : ℕ) → Knows u bits → bit_at bits a ≡ true → Finals u a true
-known_final {u} a k b = record { is = λ n l. sym (k.final a b u (later_same u) n l) }
 
 -- a type that is kept as it was answered
 pub knows_kept : {u bits bits' : List ℕ} {k d a : ℕ} {r : Bool} → Good u → Part u k d 1 11 a → Knows u bits → Finals u a r → Kept bits a r bits' → Knows u bits'

@@ -17,10 +17,9 @@ fn kept(known: &mut [u64], a: usize, r: bool) -> bool
     if !r {
         return r;
     }
-    if known.len() <= a / bitset::WORD_BITS {
-        return r;
+    if a / bitset::WORD_BITS < known.len() {
+        bitset::mark(known, a);
     }
-    bitset::mark(known, a);
     r
 }
 
@@ -44,8 +43,7 @@ pub fn is_final(old: &[u64], new: &[u64], used: usize, a: usize, known: &mut [u6
         return true;
     }
     let n = (head / kinds::COUNT) as usize;
-    let mut i: usize = 0;
-    while i < n {
+    for i in 0..n {
         let p = a + columns::FIELD_TYPES + columns::FIELD * i;
         let flag = words::word(old, new, used, p + columns::FLAGS_BEHIND_TYPE) % 2;
         if flag != 1 {
@@ -55,7 +53,6 @@ pub fn is_final(old: &[u64], new: &[u64], used: usize, a: usize, known: &mut [u6
         if !is_final(old, new, used, t, known) {
             return false;
         }
-        i += 1;
     }
     kept(known, a, true)
 }

@@ -1,23 +1,18 @@
 -- An entry that is built in a local array is the maker's. Assumes nothing.
-use mathlib.Core.Path.{◌≡◌, sym, ap, ◌∙◌}
+use mathlib.Core.Path.{◌≡◌, sym, ◌∙◌}
 use mathlib.Core.List.{List, [], ◌∷◌, ◌++◌}
 use Prim.Native.Nat.{ℕ, suc, ◌+◌, ◌*◌, max}
 use native.Mathlib.Omega.{arith}
 use lib.ListN.{length, take}
 use lib.Seq.{take_at}
-use lib.IntN.{ℤ}
-use mir.Syntax.{w8}
-use mir.Val.{SFits, to_z, of_z}
-use mir.Facts.{to_z-of_z}
 use Rattle.words.specs.Words.{depth_of}
-use Rattle.type_float.specs.Float.{word_of}
 use Rattle.words.specs.Made.{make}
 use Rattle.words.specs.Ran.{Ran}
 use Rattle.std.specs.Prelude.{Option}
 use Rattle.words.specs.declared.Interned.{Interned}
 use Rattle.wellformed.specs.Entry.{deepest}
 use Rattle.words.specs.Columns.{word}
-use Rattle.makers.specs.Entries.{float_entry, tuple_entry, pointer_entry, memory_entry}
+use Rattle.makers.specs.Entries.{tuple_entry, pointer_entry, memory_entry}
 
 pub front_of : (l x a : List ℕ) → a ≡ l ++ x → (n : ℕ) → n ≡ length l → take n a ≡ l
 front_of l x a is n len = rw is (take_at l x n (sym len))
@@ -41,10 +36,3 @@ module _ (kept : ℕ) (u ws ws' : List ℕ) (r : Option Interned) where
   pub memory_made : (alias t d : ℕ) → d ≡ depth_of (word u t) → Ran kept (make u ((11 + 256 * (1 + d)) ∷ alias ∷ t ∷ [])) ws ws' r → Ran kept (make u (memory_entry alias t u)) ws ws' r
   unfolding deepest
   memory_made alias t d is ran = rw (around 11 t d is) at ran
-
-  pub float_made : (size bits s b : ℕ) → s ≡ size → b ≡ bits → Ran kept (make u (262 ∷ s ∷ b ∷ [])) ws ws' r → Ran kept (make u (float_entry size bits)) ws ws' r
-  float_made size bits s b p q ran = rw (p, q) at ran
-
--- a signed number that is passed on is the same
-pub passed_on : (sz : ℤ) → SFits w8 sz → (n : ℕ) → n ≡ word_of (to_z w8 (of_z w8 sz)) → n ≡ word_of sz
-passed_on sz fits n e = e ∙ ap word_of (to_z-of_z fits)

@@ -4,10 +4,9 @@ use mathlib.Core.Bool.{Bool, true}
 use mathlib.Core.List.{List, [], ◌∷◌, ◌++◌, append-nil}
 use Prim.Native.Nat.{ℕ, zero, suc, ◌+◌, ◌-◌, ◌*◌, ◌/◌, ◌≤◌, ◌<◌, max}
 use native.Mathlib.Omega.{arith}
-use native.Mathlib.Nat.{sub-zero}
 use borrow.Author.Tests.{leb-true}
 use borrow.Rule.Slice.PartMut.{put_mid}
-use lib.ListN.{length, take, drop, get_or, set, length-drop, drop_of_length-le}
+use lib.ListN.{length, take, drop, get_or, length-drop, drop_of_length-le}
 use lib.Seq.{take_all}
 use Rattle.words.specs.Words.{depth_of}
 use Rattle.words.proofs.Written.{written_on, written_all}
@@ -48,21 +47,23 @@ all_at t s (suc n) p l a (suc i) h =
     let q : p + s * suc i ≡ p + s + s * i = omega arith in
     rw q (all_at t s n (p + s) l (and_right (t (get_or l p 0)) (all t (every s n (p + s) l)) a) i (omega arith))
 
--- a loop that looks for the deepest of such words
-module _ (heads : ℕ → ℕ) (l : List ℕ) (s n p d j at : ℕ) (left : deepest heads (every s n p l) ≡ max d (deepest heads (every s j at l))) where
-  pub apart_end : j ≤ 0 → d ≡ deepest heads (every s n p l)
+-- a loop that looks for the deepest of such words, when it has looked at i of n
+module _ (heads : ℕ → ℕ) (l : List ℕ) (n p d i : ℕ) (left : deepest heads (every 4 n p l) ≡ max d (deepest heads (every 4 (n - i) (p + 4 * i) l))) where
+  pub apart_end : n ≤ i → d ≡ deepest heads (every 4 n p l)
   unfolding deepest every
   apart_end h =
-      let z : j ≡ 0 = omega arith in
+      let z : n - i ≡ 0 = omega arith in
       let m : max d 0 ≡ d = omega arith in
       sym (left ∙ rw (z, m))
 
-  pub apart_on : 0 < j → (x y : ℕ) → x ≡ depth_of (heads (get_or l at 0)) → y ≡ max d x → deepest heads (every s n p l) ≡ max y (deepest heads (every s (j - 1) (at + s) l))
+  pub apart_on : i < n → (x y : ℕ) → x ≡ depth_of (heads (get_or l (p + 4 * i) 0)) → y ≡ max x d → deepest heads (every 4 n p l) ≡ max y (deepest heads (every 4 (n - (i + 1)) (p + 4 * (i + 1)) l))
   unfolding deepest
   apart_on more x y is e =
-      let D = deepest heads (every s (j - 1) (at + s) l) in
-      let m : max d (max (depth_of (heads (get_or l at 0))) D) ≡ max y D = omega arith in
-      left ∙ rw (every_first s j at l more, m)
+      let D = deepest heads (every 4 (n - i - 1) (p + 4 * i + 4) l) in
+      let m : max d (max (depth_of (heads (get_or l (p + 4 * i) 0))) D) ≡ max y D = omega arith in
+      let j : n - i - 1 ≡ n - (i + 1) = omega arith in
+      let q : p + 4 * i + 4 ≡ p + 4 * (i + 1) = omega arith in
+      left ∙ rw (every_first 4 (n - i) (p + 4 * i) l (omega arith), m, j, q)
 
 -- ---- the words of the fields
 
@@ -96,9 +97,6 @@ put_at w e x a q =
 abbrev pub fields_left : ℕ → List ℕ → ℕ → List ℕ
 fields_left n fs i = field_words (n - i) (4 * i) fs
 
-pub fields_begin : (n : ℕ) (fs : List ℕ) → fields_left n fs 0 ≡ field_words n 0 fs
-fields_begin n fs = rw (sub-zero n)
-
 module _ (n : ℕ) (fs d₀ d : List ℕ) (i : ℕ) (sum : take (3 * i) d ++ fields_left n fs i ≡ field_words n 0 fs) (rest : drop (3 * i) d ≡ drop (3 * i) d₀) where
   pub fields_on : i < n → 3 * n ≤ length d₀ → length d ≡ length d₀ → (e : List ℕ) → e ≡ third (4 * i) fs ++ drop 3 (take (length d - 3 * i) (drop (3 * i) d))
       → (take (3 * (i + 1)) (put_mid (3 * i) (length d - 3 * i) d e) ++ fields_left n fs (i + 1) ≡ field_words n 0 fs)
@@ -120,21 +118,6 @@ module _ (n : ℕ) (fs d₀ d : List ℕ) (i : ℕ) (sum : take (3 * i) d ++ fie
       let z : n - i ≡ 0 = omega arith in
       let none : fields_left n fs i ≡ [] = rw z in
       written_all d₀ d _ _ (3 * i) sum rest none (3 * n) q
-
--- the head and the name before them
-struct_all : (dst list d : List ℕ) (head name n : ℕ) → n ≡ length list → 2 + n ≤ length dst → d ≡ list ++ drop n (take (length dst - 2) (drop 2 dst))
-    → set (set (put_mid 2 (length dst - 2) dst d) 1 name) 0 head ≡ (head ∷ name ∷ list) ++ drop (2 + n) dst
-struct_all [] list d head name n len h e = absurd (omega arith)
-struct_all (x ∷ []) list d head name n len h e = absurd (omega arith)
-struct_all (x ∷ (y ∷ dst)) list d head name n len h e =
-    let q : suc (suc (length dst)) - 2 ≡ length dst = omega arith in
-    let m : 2 + n ≡ suc (suc n) = omega arith in
-    let k : length dst ≤ length dst = omega arith in
-    rw (e, q, m, take_all (length dst) dst k, drop_of_length-le dst k, append-nil)
-
-pub struct_built : (dst fs d : List ℕ) (head name : ℕ) → 2 + 3 * (length fs / 4) ≤ length dst → d ≡ field_words (length fs / 4) 0 fs ++ drop (3 * (length fs / 4)) (take (length dst - 2) (drop 2 dst))
-    → set (set (put_mid 2 (length dst - 2) dst d) 1 name) 0 head ≡ (head ∷ name ∷ field_words (length fs / 4) 0 fs) ++ drop (2 + 3 * (length fs / 4)) dst
-struct_built dst fs d head name h e = struct_all dst (field_words (length fs / 4) 0 fs) d head name (3 * (length fs / 4)) (sym (fields_length (length fs / 4) 0 fs)) h e
 
 pub struct_made : (kept : ℕ) (u ws ws' : List ℕ) (r : Option Interned) (name : ℕ) (fs a x : List ℕ) (d : ℕ) → d ≡ deepest (word u) (field_types fs)
     → a ≡ ((8 + 256 * (1 + d) + 65536 * (length fs / 4)) ∷ name ∷ field_words (length fs / 4) 0 fs) ++ x

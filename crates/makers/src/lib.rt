@@ -64,24 +64,24 @@ pub fn float(
     index::intern(old, new, used, &[kinds::FLOAT_HEAD, size, con], index)
 }
 
-// A tuple, whose entry is built in the first words of `e`.
-fn tuple_in(
+// A tuple, whose entry is built in the first of some words.
+fn tuple_in<const WORDS: usize>(
     old: &[u64],
     new: &mut [u64],
     used: usize,
     types: &[u64],
-    e: &mut [u64],
     index: &[u64],
 ) -> Option<Interned>
     requires segments { Segments old.now new.old used }
-    requires types_len_bound { (length types.now ≤ most_counted) × (1 + length types.now ≤ length e.old) }
+    requires types_len_bound { (length types.now ≤ most_counted) × (1 + length types.now ≤ WORDS) × (WORDS ≤ 65536) }
     requires covers { Covers (take used (old.now ++ new.old)) index.now }
     ensures { Runs (λ u. make u (tuple_entry types.now u)) old.now new.old used new.new result }
 {
     let d = call::deep(old, new, used, types);
     let n = types.len();
+    let mut e = [0u64; WORDS];
     words::headed(
-        e,
+        &mut e,
         kinds::TUPLE + kinds::DEPTH * (1 + d) + kinds::COUNT * (n as u64),
         types,
     );
@@ -102,11 +102,9 @@ pub fn tuple(
     ensures { Runs (λ u. make u (tuple_entry types.now u)) old.now new.old used new.new result }
 {
     if types.len() <= FEW_ELEMENTS {
-        let mut few = [0u64; SHORT_TUPLE];
-        return tuple_in(old, new, used, types, &mut few, index);
+        return tuple_in::<SHORT_TUPLE>(old, new, used, types, index);
     }
-    let mut many = [0u64; LONGEST_TUPLE];
-    tuple_in(old, new, used, types, &mut many, index)
+    tuple_in::<LONGEST_TUPLE>(old, new, used, types, index)
 }
 
 pub fn fref(old: &[u64], new: &mut [u64], used: usize, name: u64, index: &[u64]) -> Option<Interned>
@@ -166,13 +164,10 @@ pub fn fields_deep(old: &[u64], new: &[u64], used: usize, fields: &[u64]) -> u64
     requires { (length old.now ≤ used) × (used ≤ length old.now + length new.now) }
     ensures { (result ≡ deepest (word (take used (old.now ++ new.now))) (field_types fields.now)) × (result < 256) }
 {
-    let mut d: u64 = 0;
-    let mut at = columns::LENT_TYPE;
-    let mut j = fields.len() / columns::LENT_FIELD;
-    while 0 < j {
-        d = wellformed::larger(d, call::depth_on(old, new, used, fields[at]));
-        at += columns::LENT_FIELD;
-        j -= 1;
+    let mut d = 0;
+    for i in 0..fields.len() / columns::LENT_FIELD {
+        let t = fields[columns::LENT_TYPE + columns::LENT_FIELD * i];
+        d = call::depth_on(old, new, used, t).max(d);
     }
     d
 }
@@ -183,16 +178,13 @@ fn field_words(dst: &mut [u64], fields: &[u64])
     requires values_fit { ValuesFit fields.now }
     ensures { dst.new ≡ field_words (field_count fields.now) 0 fields.now ++ drop (field_size * field_count fields.now) dst.old }
 {
-    let n = fields.len() / columns::LENT_FIELD;
-    let mut i = 0;
-    while i < n {
+    for i in 0..fields.len() / columns::LENT_FIELD {
         let at = columns::LENT_FIELD * i;
         let flags = 2 * fields[at + columns::LENT_ALIAS] + fields[at + columns::LENT_FINAL];
         words::write(
             &mut dst[columns::FIELD * i..],
             &[fields[at], fields[at + columns::LENT_TYPE], flags],
         );
-        i += 1;
     }
 }
 
@@ -207,25 +199,25 @@ fn struct_words(e: &mut [u64], head: u64, name: u64, fields: &[u64])
     e[0] = head;
 }
 
-// A struct, whose entry is built in the first words of `e`.
-fn structure_in(
+// A struct, whose entry is built in the first of some words.
+fn structure_in<const WORDS: usize>(
     old: &[u64],
     new: &mut [u64],
     used: usize,
     name: u64,
     fields: &[u64],
-    e: &mut [u64],
     index: &[u64],
 ) -> Option<Interned>
     requires segments { Segments old.now new.old used }
-    requires fields_bound { (field_count fields.now ≤ most_counted) × (struct_size (field_count fields.now) ≤ length e.old) × ValuesFit fields.now }
+    requires fields_bound { (field_count fields.now ≤ most_counted) × (struct_size (field_count fields.now) ≤ WORDS) × (WORDS ≤ 65536) × ValuesFit fields.now }
     requires covers { Covers (take used (old.now ++ new.old)) index.now }
     ensures { Runs (λ u. make u (struct_entry name fields.now u)) old.now new.old used new.new result }
 {
     let d = fields_deep(old, new, used, fields);
     let n = fields.len() / columns::LENT_FIELD;
+    let mut e = [0u64; WORDS];
     struct_words(
-        e,
+        &mut e,
         kinds::STRUCT + kinds::DEPTH * (1 + d) + kinds::COUNT * (n as u64),
         name,
         fields,
@@ -254,9 +246,7 @@ pub fn structure(
     ensures { Runs (λ u. make u (struct_entry name fields.now u)) old.now new.old used new.new result }
 {
     if fields.len() / columns::LENT_FIELD <= FEW_FIELDS {
-        let mut few = [0u64; SHORT_STRUCT];
-        return structure_in(old, new, used, name, fields, &mut few, index);
+        return structure_in::<SHORT_STRUCT>(old, new, used, name, fields, index);
     }
-    let mut many = [0u64; LONGEST_STRUCT];
-    structure_in(old, new, used, name, fields, &mut many, index)
+    structure_in::<LONGEST_STRUCT>(old, new, used, name, fields, index)
 }

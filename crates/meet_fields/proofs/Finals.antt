@@ -4,7 +4,6 @@ use mathlib.Core.Bool.{true}
 use mathlib.Core.List.{List, [], ◌∷◌, ◌++◌}
 use Prim.Native.Nat.{ℕ, zero, suc, ◌+◌, ◌-◌, ◌*◌, ◌%◌, ◌≤◌, ◌<◌, max}
 use native.Mathlib.Omega.{arith}
-use native.Mathlib.Nat.{add-zero, sub-zero}
 use native.Mathlib.Numerals.{add-one}
 use borrow.Author.Tests.{le-leb}
 use lib.ListN.{length, take, drop, set}
@@ -48,9 +47,6 @@ finals_length : (u : List ℕ) (n p q : ℕ) → length (finals u n p q) ≡ n
 finals_length u n p q = either_length (every 3 n p u) (every 3 n q u) (every_length 3 n p u ∙ sym (every_length 3 n q u)) ∙ every_length 3 n p u
 
 -- ---- a loop that writes them
-
-pub either_begin : (u : List ℕ) (n p q : ℕ) → finals u (n - 0) (p + 3 * 0) (q + 3 * 0) ≡ finals u n p q
-either_begin u n p q = rw (sub-zero n, add-zero p, add-zero q)
 
 module _ (u d₀ d : List ℕ) (n p q i : ℕ) (sum : take i d ++ finals u (n - i) (p + 3 * i) (q + 3 * i) ≡ finals u n p q) (rest : drop i d ≡ drop i d₀) where
   pub either_on : n ≤ length d₀ → length d ≡ length d₀ → i < n → (x y v : ℕ) → x ≡ word u (p + 3 * i) → y ≡ word u (q + 3 * i) → v ≡ max (x % 2) (y % 2)

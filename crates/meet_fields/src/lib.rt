@@ -18,43 +18,11 @@ fn either_final(dst: &mut [u8], old: &[u64], new: &[u64], used: usize, n: usize,
     requires n_in_bounds { (n ≤ length dst.old) × (n ≤ most_counted) × (p ≤ first_flags longest_allowed) × (q ≤ first_flags longest_allowed) }
     ensures { dst.new ≡ either_final (every field_size n p (take used (old.now ++ new.now))) (every field_size n q (take used (old.now ++ new.now))) ++ drop n dst.old }
 {
-    let mut i = 0;
-    while i < n {
+    for i in 0..n {
         let f = words::word(old, new, used, p + columns::FIELD * i) % 2;
         let g = words::word(old, new, used, q + columns::FIELD * i) % 2;
-        dst[i] = wellformed::larger(f, g) as u8;
-        i += 1;
+        dst[i] = f.max(g) as u8;
     }
-}
-
-// The struct that the structs at a and b meet in, its finals in the first bytes of `finals`.
-fn meet_fields_in(
-    old: &[u64],
-    new: &mut [u64],
-    used: usize,
-    a: usize,
-    b: usize,
-    types: &[u32],
-    finals: &mut [u8],
-    index: &[u64],
-) -> Option<Interned>
-    requires segments { Segments old.now new.old used }
-    requires types_len_bound { (length types.now ≤ most_counted) × (length types.now ≤ length finals.old) × (a < longest_allowed) × (b < longest_allowed) }
-    requires a_value { all is_alias_final (first_flags_on (take used (old.now ++ new.old)) (length types.now) a) ≡ true }
-    requires covers { Covers (take used (old.now ++ new.old)) index.now }
-    ensures { Runs (meet_fields a b types.now) old.now new.old used new.new result }
-{
-    let n = types.len();
-    either_final(
-        finals,
-        old,
-        new,
-        used,
-        n,
-        a + columns::FIELD_FLAGS,
-        b + columns::FIELD_FLAGS,
-    );
-    structs::made_again(old, new, used, a, types, &finals[..n], index)
 }
 
 // Makes the struct that the structs at a and b meet in, with these types.
@@ -72,6 +40,16 @@ pub fn meet_fields(
     requires covers { Covers (take used (old.now ++ new.old)) index.now }
     ensures { Runs (meet_fields a b types.now) old.now new.old used new.new result }
 {
+    let n = types.len();
     let mut finals = [0u8; limits::MOST_COUNTED];
-    meet_fields_in(old, new, used, a, b, types, &mut finals, index)
+    either_final(
+        &mut finals,
+        old,
+        new,
+        used,
+        n,
+        a + columns::FIELD_FLAGS,
+        b + columns::FIELD_FLAGS,
+    );
+    structs::made_again(old, new, used, a, types, &finals[..n], index)
 }

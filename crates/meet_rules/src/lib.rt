@@ -32,94 +32,50 @@ pub enum StructRule {
 
 // ---- types
 
+#[tactic(auto, using(std::proofs::lemmas::Bool::Decides::nat_tests))]
 fn mem_rule(a: usize, b: usize) -> Rule
     ensures { result ≡ mem_rule a b }
 {
-    if a == fresh::MEM_BOT {
-        return Rule::First;
+    match (a, b) {
+        (fresh::MEM_BOT, _) => Rule::First,
+        (_, fresh::MEM_BOT) => Rule::Second,
+        (fresh::MEM_TOP, _) => Rule::Second,
+        (_, fresh::MEM_TOP) => Rule::First,
+        _ => Rule::Memories,
     }
-    if b == fresh::MEM_BOT {
-        return Rule::Second;
-    }
-    if a == fresh::MEM_TOP {
-        return Rule::Second;
-    }
-    if b == fresh::MEM_TOP {
-        return Rule::First;
-    }
-    Rule::Memories
 }
 
-fn is_struct(k: u64) -> bool
-    ensures { result ≡ is_struct k }
-{
-    if k < kinds::STRUCT {
-        return false;
-    }
-    k <= kinds::FREF
-}
-
-fn both_structs(j: u64, k: u64) -> bool
-    ensures { result ≡ (is_struct j && is_struct k) }
-{
-    if is_struct(j) {
-        return is_struct(k);
-    }
-    false
-}
-
+#[tactic(auto, using(std::proofs::lemmas::Bool::Decides::nat_tests), unfolding(crate::specs::Rules::pair_rule))]
 fn pair_rule(a: usize, b: usize, j: u64, k: u64, m: u64, n: u64) -> Rule
     ensures { result ≡ pair_rule a b j k m n }
 {
-    if rules::both(j, k, kinds::INT, kinds::INT) {
-        return Rule::Ints;
+    match (j, k) {
+        (kinds::INT, kinds::INT) => Rule::Ints,
+        (kinds::FLOAT, kinds::FLOAT) => Rule::Floats,
+        (kinds::TUPLE, kinds::TUPLE) if m == n => Rule::Tuples,
+        (kinds::STRUCT | kinds::FREF, kinds::STRUCT | kinds::FREF) => Rule::Structs,
+        (kinds::MEM_PTR, kinds::MEM_PTR) => Rule::Pointers,
+        (kinds::MEM, kinds::MEM) => mem_rule(a, b),
+        _ => Rule::Bottom,
     }
-    if rules::both(j, k, kinds::FLOAT, kinds::FLOAT) {
-        return Rule::Floats;
-    }
-    if rules::both(j, k, kinds::TUPLE, kinds::TUPLE) {
-        if m == n {
-            return Rule::Tuples;
-        }
-        return Rule::Bottom;
-    }
-    if both_structs(j, k) {
-        return Rule::Structs;
-    }
-    if rules::both(j, k, kinds::MEM_PTR, kinds::MEM_PTR) {
-        return Rule::Pointers;
-    }
-    if rules::both(j, k, kinds::MEM, kinds::MEM) {
-        return mem_rule(a, b);
-    }
-    Rule::Bottom
 }
 
+#[tactic(auto, using(std::proofs::lemmas::Bool::Decides::nat_tests), unfolding(crate::specs::Rules::rule_for))]
 fn rule_for(a: usize, b: usize, j: u64, k: u64, m: u64, n: u64) -> Rule
     ensures { result ≡ rule_for a b j k m n }
 {
     if a == b {
         return Rule::First;
     }
-    if j == kinds::BOT {
-        return Rule::First;
+    match (j, k) {
+        (kinds::BOT, _) => Rule::First,
+        (_, kinds::BOT) => Rule::Second,
+        (_, kinds::TOP) => Rule::First,
+        (kinds::TOP, _) => Rule::Second,
+        (kinds::CTRL, kinds::XCTRL) => Rule::First,
+        (kinds::XCTRL, kinds::CTRL) => Rule::Second,
+        _ => pair_rule(a, b, j, k, m, n),
     }
-    if k == kinds::BOT {
-        return Rule::Second;
-    }
-    if k == kinds::TOP {
-        return Rule::First;
-    }
-    if j == kinds::TOP {
-        return Rule::Second;
-    }
-    if rules::both(j, k, kinds::CTRL, kinds::XCTRL) {
-        return Rule::First;
-    }
-    if rules::both(j, k, kinds::XCTRL, kinds::CTRL) {
-        return Rule::Second;
-    }
-    pair_rule(a, b, j, k, m, n)
 }
 
 // The rule for the types at a and b.
@@ -137,6 +93,7 @@ pub fn type_rule(old: &[u64], new: &[u64], used: usize, a: usize, b: usize) -> R
 // ---- aliases
 
 // The alias that two memories share, or the largest.
+#[tactic(auto, using(std::proofs::lemmas::Bool::Decides::nat_tests))]
 pub fn shared_alias(x: u64, y: u64) -> u64
     ensures { result ≡ shared_alias x y }
 {

@@ -36,10 +36,7 @@ fn home(lines: usize, key: u64) -> usize
 fn probes(lines: usize) -> usize
     ensures { result ≤ lines }
 {
-    if lines < LOOKED_AT {
-        return lines;
-    }
-    LOOKED_AT
+    lines.min(LOOKED_AT)
 }
 
 // The line behind line i.
@@ -54,19 +51,16 @@ fn after(lines: usize, i: usize) -> usize
 }
 
 // The answer to a key, if one of its lines has it.
+#[tactic(auto, using(crate::proofs::Lines::tells_nothing, crate::proofs::Lines::tells_line))]
 pub fn recall(memo: &[u64], key: u64) -> Option<u64>
     ensures { Tells memo.now key result }
 {
     let lines = memo.len();
-    if lines == 0 {
-        return None;
-    }
-    if key == 0 {
+    if lines == 0 || key == 0 {
         return None;
     }
     let mut i = home(lines, key);
-    let mut n = probes(lines);
-    while 0 < n {
+    for _ in 0..probes(lines) {
         let line = memo[i];
         if line == 0 {
             return None;
@@ -75,7 +69,6 @@ pub fn recall(memo: &[u64], key: u64) -> Option<u64>
             return Some(line % ANSWERS);
         }
         i = after(lines, i);
-        n -= 1;
     }
     None
 }
@@ -87,32 +80,22 @@ fn free(memo: &[u64], key: u64) -> usize
 {
     let lines = memo.len();
     let mut i = home(lines, key);
-    let mut n = probes(lines);
-    while 0 < n {
+    for _ in 0..probes(lines) {
         let line = memo[i];
         if line == 0 || line / ANSWERS == key {
             return i;
         }
         i = after(lines, i);
-        n -= 1;
     }
     home(lines, key)
 }
 
 // From now on a line has the key, where the key and the answer fit in one.
+#[tactic(auto, using(crate::proofs::Lines::noted_none, crate::proofs::Lines::noted_line))]
 pub fn note(memo: &mut [u64], key: u64, answer: u64)
     ensures { Noted memo.old key answer memo.new }
 {
-    if memo.len() == 0 {
-        return;
-    }
-    if key == 0 {
-        return;
-    }
-    if KEYS <= key {
-        return;
-    }
-    if ANSWERS <= answer {
+    if memo.is_empty() || key == 0 || KEYS <= key || ANSWERS <= answer {
         return;
     }
     let i = free(memo, key);
@@ -120,6 +103,7 @@ pub fn note(memo: &mut [u64], key: u64, answer: u64)
 }
 
 // The same for the handle that an operation answers, on the answer's way through.
+#[tactic(auto, using(crate::proofs::Lines::learned_none, crate::proofs::Lines::learned_at))]
 pub fn noted(memo: &mut [u64], key: u64, r: Option<Interned>) -> Option<Interned>
     ensures value { result ≡ r }
     ensures learned { Learned memo.old key r memo.new }

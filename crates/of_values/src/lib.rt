@@ -23,19 +23,18 @@ fn min(words: &[u64], used: usize, t: usize) -> u64
     requires { (used ≤ length words.now) × (t < used) }
     ensures { result ≡ min_on (take used words.now) t }
 {
-    let none = [0u64; 0];
-    words::word(&none, words, used, t + columns::MIN)
+    words::word(&[], words, used, t + columns::MIN)
 }
 
 fn max(words: &[u64], used: usize, t: usize) -> u64
     requires { (used ≤ length words.now) × (t < used) }
     ensures { result ≡ max_on (take used words.now) t }
 {
-    let none = [0u64; 0];
-    words::word(&none, words, used, t + columns::MAX)
+    words::word(&[], words, used, t + columns::MAX)
 }
 
 // The value of a constant.
+#[tactic(auto, using(crate::proofs::Ways::one_value, crate::proofs::Ways::no_value))]
 fn value(words: &[u64], used: usize, t: usize) -> Answer
     requires { (used ≤ length words.now) × (t < used) }
     ensures { answered result ≡ int_value (take used words.now) t }
@@ -47,6 +46,7 @@ fn value(words: &[u64], used: usize, t: usize) -> Answer
     Answer::Absent
 }
 
+#[tactic(auto, using(crate::proofs::Ways::masked))]
 fn mask(words: &[u64], used: usize, t: usize) -> u64
     requires { (used ≤ length words.now) × (t < used) }
     ensures { result ≡ mask_on (take used words.now) t }
@@ -61,30 +61,31 @@ fn bits(words: &[u64], used: usize, t: usize) -> u64
     requires { (used ≤ length words.now) × (t < used) }
     ensures { result ≡ bits_on (take used words.now) t }
 {
-    let none = [0u64; 0];
-    words::word(&none, words, used, t + columns::BITS)
+    words::word(&[], words, used, t + columns::BITS)
 }
 
 // Its size and constant.
+#[tactic(auto, using(crate::proofs::Ways::sized_word, crate::proofs::Ways::read_words))]
 fn float_at(words: &[u64], used: usize, t: usize) -> Float
     requires { (used ≤ length words.now) × (t < used) × (is_size_word (size_on (take used words.now) t) ≡ true) }
     ensures { (result.sz ≡ size_from (size_on (take used words.now) t)) × (result.con ≡ of_bits binary64 (bits_on (take used words.now) t)) }
 {
-    let none = [0u64; 0];
-    let size = words::word(&none, words, used, t + columns::SIZE);
+    let size = words::word(&[], words, used, t + columns::SIZE);
     type_float::float_of(size, bits(words, used, t))
 }
 
 // Its size, as a two's complement word.
+#[tactic(auto, using(crate::proofs::Ways::read_size, crate::proofs::Ways::wide))]
 fn sz(words: &[u64], used: usize, t: usize) -> u64
     requires { (used ≤ length words.now) × (t < used) × (is_size_word (size_on (take used words.now) t) ≡ true) }
     ensures { result ≡ sz_on (take used words.now) t }
 {
     let f = float_at(words, used, t);
-    type_integer::word_of(f.sz as i64)
+    type_integer::word_of(i64::from(f.sz))
 }
 
 // Whether its constant is single precision.
+#[tactic(auto, using(crate::proofs::Ways::single_word))]
 fn is_f32(words: &[u64], used: usize, t: usize) -> bool
     requires { (used ≤ length words.now) × (t < used) }
     ensures { result ≡ is_single (bits_on (take used words.now) t) }
@@ -93,6 +94,7 @@ fn is_f32(words: &[u64], used: usize, t: usize) -> bool
 }
 
 // What it is read as.
+#[tactic(auto, using(crate::proofs::Ways::read_reading))]
 fn read_as(words: &[u64], used: usize, t: usize) -> Reading
     requires { (used ≤ length words.now) × (t < used) × (is_size_word (size_on (take used words.now) t) ≡ true) }
     ensures { result ≡ reading_on (take used words.now) t }
@@ -101,16 +103,18 @@ fn read_as(words: &[u64], used: usize, t: usize) -> Reading
 }
 
 // A reading as an answer. A NaN's bits stand beside its value.
+#[tactic(auto, using(crate::proofs::Ways::wide, crate::proofs::Ways::is_constant_is, crate::proofs::Ways::is_size_is))]
 fn reading_is(r: Reading, bits: u64) -> Answer
     requires { ReadFrom bits r }
     ensures { answered result ≡ reading_is bits r }
 {
     match r {
         Reading::Constant(x) => Answer::Constant(type_float::bits_of(x, bits)),
-        Reading::Sized(sz) => Answer::Size(type_integer::word_of(sz as i64)),
+        Reading::Sized(sz) => Answer::Size(type_integer::word_of(i64::from(sz))),
     }
 }
 
+#[tactic(auto, using(crate::proofs::Ways::read_from, crate::proofs::Ways::told_reading))]
 fn reading(words: &[u64], used: usize, t: usize) -> Answer
     requires { (used ≤ length words.now) × (t < used) × (is_size_word (size_on (take used words.now) t) ≡ true) }
     ensures { answered result ≡ float_reading (take used words.now) t }
@@ -119,6 +123,7 @@ fn reading(words: &[u64], used: usize, t: usize) -> Answer
 }
 
 // The value that was read, as an answer.
+#[tactic(auto, using(crate::proofs::Ways::is_value, crate::proofs::Ways::is_none))]
 fn value_is(r: Reading, bits: u64) -> Answer
     requires { ReadFrom bits r }
     ensures { answered result ≡ value_is bits r }
@@ -129,6 +134,7 @@ fn value_is(r: Reading, bits: u64) -> Answer
     }
 }
 
+#[tactic(auto, using(crate::proofs::Ways::read_from, crate::proofs::Ways::told_value))]
 fn float_value(words: &[u64], used: usize, t: usize) -> Answer
     requires { (used ≤ length words.now) × (t < used) × (is_size_word (size_on (take used words.now) t) ≡ true) }
     ensures { answered result ≡ float_value (take used words.now) t }
@@ -147,6 +153,7 @@ pub enum OfInt {
     Mask,
 }
 
+#[tactic(auto, using(crate::proofs::As::as_int))]
 pub fn tell_int(words: &[u64], used: usize, of: OfInt, t: usize) -> Answer
     requires { (used ≤ length words.now) × (t < used) }
     ensures { answered result ≡ of_int_told of t (take used words.now) }
@@ -168,6 +175,7 @@ pub enum OfFloat {
     Reading,
 }
 
+#[tactic(auto, using(crate::proofs::As::as_float))]
 pub fn tell_float(words: &[u64], used: usize, of: OfFloat, t: usize) -> Answer
     requires { (used ≤ length words.now) × (t < used) × (is_size_word (size_on (take used words.now) t) ≡ true) }
     ensures { answered result ≡ of_float_told of t (take used words.now) }

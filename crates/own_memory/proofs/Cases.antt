@@ -1,6 +1,6 @@
 -- An operation, once it is known which. Assumes nothing.
 use mathlib.Core.Path.{◌≡◌}
-use mathlib.Core.List.{List}
+use mathlib.Core.List.{List, []}
 use Prim.Native.Nat.{ℕ, ◌+◌, ◌≤◌}
 use native.Mathlib.Omega.{arith}
 use lib.ListN.{length}
@@ -10,6 +10,8 @@ use Rattle.parts.specs.Parts.{Ready, ReadyOne}
 use Rattle.meet.specs.Met.{Met}
 use Rattle.walk_rules.specs.declared.Walk.{Walk}
 use Rattle.walk.specs.Walked.{Walked}
+use Rattle.finals.specs.Known.{Knows}
+use Rattle.finals.proofs.Knows.{knows_blank}
 use Rattle.make_ro.specs.MadeRo.{MadeRo}
 use Rattle.make_ro.specs.Remembered.{Remembered}
 use Rattle.join.specs.Join.{join_of}
@@ -17,6 +19,10 @@ use Rattle.words.specs.Ran.{Runs}
 use Rattle.own_memory.specs.declared.Operation.{Operation}
 use Rattle.own_memory.specs.declared.Operation.TheVariants.{Meet, Walk as OfWalk, MakeRo, Join}
 use Rattle.own_memory.specs.Done.{Asked, Done, KnowsAfter}
+
+-- of a set without words nothing is known
+pub knows_empty : (u : List ℕ) → Knows u []
+knows_empty u = knows_blank u 0
 
 -- a store in two segments, whatever the operation
 pub asked_store : (op : Operation) (old new : List ℕ) (used a : ℕ) → Asked op old new used a → (length old ≤ used) × (used ≤ length old + length new) × (used ≤ 1048576)

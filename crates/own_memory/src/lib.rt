@@ -1,8 +1,7 @@
 // The operations that walk, with a memory of their own: blank at the start, gone at the end. A small type asks a few lines and no more. Else its size goes by the store, since blanking
 // a memory must cost little beside row 1, which reads the whole store: up to 4,096 words a line for each word, and so a line of its own for each type; above that 8,192 lines.
 //
-// Each range of sizes stands in the frame of a function of its own, so that a small store needs little stack. `sized` calls itself: the compiler puts a function that has a large array into no function that calls
-// itself, and so the frames stay apart.
+// Each size stands in a frame of its own, so that a small store needs little stack.
 #![tactic(auto)]
 
 ghost use Rattle.std.specs.Prelude.{◌≡◌, ◌++◌, ℕ, ◌+◌, ◌≤◌, length, take, get_or};
@@ -21,6 +20,9 @@ use words::{Interned, kinds};
 
 // The lines of a small type's memory, as many as small::is_small counts.
 const FEW_LINES: usize = small::MOST_TYPES;
+
+// The most lines that a memory has.
+const MOST_LINES: usize = 8192;
 
 // An operation on a type, with its other operand.
 #[derive(Clone, Copy)]
@@ -57,108 +59,48 @@ fn operate(
     }
 }
 
-// With at most 512 lines.
-fn up_to_512(
+// With so many lines, in a frame of its own: else the sizes below would all stand in one, and a small store would need as much stack as a large one.
+#[tactic(auto, using(words::proofs::Zeros::zeros))]
+#[inline(never)]
+fn with_lines<const LINES: usize>(
     op: Operation,
     old: &[u64],
     new: &mut [u64],
     used: usize,
     a: usize,
-    lines: usize,
     known: &mut [u64],
     index: &[u64],
 ) -> Option<Interned>
+    requires lines_bound { LINES ≤ 8192 }
     requires asked { Asked op old.now new.old used a }
     requires knows { Knows (take used (old.now ++ new.old)) known.old }
     requires covers { Covers (take used (old.now ++ new.old)) index.now }
     ensures done { Done op old.now new.old used a new.new result }
     ensures knows_after { KnowsAfter op old.now new.new result known.new }
 {
-    if lines <= 128 {
-        let mut memo = [0u64; 128];
-        return operate(op, old, new, used, a, &mut memo, known, index);
+    let mut memo = [0u64; LINES];
+    operate(op, old, new, used, a, &mut memo, known, index)
+}
+
+// The lines for so many that are asked for: where they are more than 8,192, half as many, and so on.
+fn halved(asked: usize) -> usize
+    ensures { result ≤ 8192 }
+{
+    let mut lines = asked;
+    while MOST_LINES < lines {
+        lines /= 2;
     }
-    if lines <= 256 {
-        let mut memo = [0u64; 256];
-        return operate(op, old, new, used, a, &mut memo, known, index);
-    }
-    let mut memo = [0u64; 512];
-    operate(op, old, new, used, a, &mut memo, known, index)
+    lines
 }
 
-// With at most 2,048.
-fn up_to_2048(
-    op: Operation,
-    old: &[u64],
-    new: &mut [u64],
-    used: usize,
-    a: usize,
-    lines: usize,
-    known: &mut [u64],
-    index: &[u64],
-) -> Option<Interned>
-    requires asked { Asked op old.now new.old used a }
-    requires knows { Knows (take used (old.now ++ new.old)) known.old }
-    requires covers { Covers (take used (old.now ++ new.old)) index.now }
-    ensures done { Done op old.now new.old used a new.new result }
-    ensures knows_after { KnowsAfter op old.now new.new result known.new }
-{
-    if lines <= 1024 {
-        let mut memo = [0u64; 1024];
-        return operate(op, old, new, used, a, &mut memo, known, index);
-    }
-    let mut memo = [0u64; 2048];
-    operate(op, old, new, used, a, &mut memo, known, index)
-}
-
-// With 4,096.
-fn with_4096(
-    op: Operation,
-    old: &[u64],
-    new: &mut [u64],
-    used: usize,
-    a: usize,
-    known: &mut [u64],
-    index: &[u64],
-) -> Option<Interned>
-    requires asked { Asked op old.now new.old used a }
-    requires knows { Knows (take used (old.now ++ new.old)) known.old }
-    requires covers { Covers (take used (old.now ++ new.old)) index.now }
-    ensures done { Done op old.now new.old used a new.new result }
-    ensures knows_after { KnowsAfter op old.now new.new result known.new }
-{
-    let mut memo = [0u64; 4096];
-    operate(op, old, new, used, a, &mut memo, known, index)
-}
-
-// With 8,192.
-fn with_8192(
-    op: Operation,
-    old: &[u64],
-    new: &mut [u64],
-    used: usize,
-    a: usize,
-    known: &mut [u64],
-    index: &[u64],
-) -> Option<Interned>
-    requires asked { Asked op old.now new.old used a }
-    requires knows { Knows (take used (old.now ++ new.old)) known.old }
-    requires covers { Covers (take used (old.now ++ new.old)) index.now }
-    ensures done { Done op old.now new.old used a new.new result }
-    ensures knows_after { KnowsAfter op old.now new.new result known.new }
-{
-    let mut memo = [0u64; 8192];
-    operate(op, old, new, used, a, &mut memo, known, index)
-}
-
-// As many lines as are asked for, or a few more; where that is more than 8,192, half as many, and so on.
+// As many lines as are asked for, or a few more, and never more than 8,192.
 fn sized(
     op: Operation,
     old: &[u64],
     new: &mut [u64],
     used: usize,
     a: usize,
-    lines: usize,
+    asked: usize,
     known: &mut [u64],
     index: &[u64],
 ) -> Option<Interned>
@@ -168,23 +110,29 @@ fn sized(
     ensures done { Done op old.now new.old used a new.new result }
     ensures knows_after { KnowsAfter op old.now new.new result known.new }
 {
+    let lines = halved(asked);
     if lines <= FEW_LINES {
-        let mut memo = [0u64; FEW_LINES];
-        return operate(op, old, new, used, a, &mut memo, known, index);
+        return with_lines::<FEW_LINES>(op, old, new, used, a, known, index);
+    }
+    if lines <= 128 {
+        return with_lines::<128>(op, old, new, used, a, known, index);
+    }
+    if lines <= 256 {
+        return with_lines::<256>(op, old, new, used, a, known, index);
     }
     if lines <= 512 {
-        return up_to_512(op, old, new, used, a, lines, known, index);
+        return with_lines::<512>(op, old, new, used, a, known, index);
+    }
+    if lines <= 1024 {
+        return with_lines::<1024>(op, old, new, used, a, known, index);
     }
     if lines <= 2048 {
-        return up_to_2048(op, old, new, used, a, lines, known, index);
+        return with_lines::<2048>(op, old, new, used, a, known, index);
     }
     if lines <= 4096 {
-        return with_4096(op, old, new, used, a, known, index);
+        return with_lines::<4096>(op, old, new, used, a, known, index);
     }
-    if lines <= 8192 {
-        return with_8192(op, old, new, used, a, known, index);
-    }
-    sized(op, old, new, used, a, lines / 2, known, index)
+    with_lines::<MOST_LINES>(op, old, new, used, a, known, index)
 }
 
 // How many lines are asked for, in a store of n words: few where the types are small.
@@ -196,6 +144,7 @@ fn lines_for(few: bool, n: usize) -> usize {
 }
 
 // An operation on a store that it may append to. A type without parts asks no memory.
+#[tactic(auto, using(words::proofs::Zeros::zeros, crate::proofs::Cases::asked_store))]
 pub fn run(
     op: Operation,
     old: &[u64],
@@ -221,6 +170,7 @@ pub fn run(
 }
 
 // A meet that nothing is appended for: the used words are lent to be read, and there is no word behind them.
+#[tactic(auto, using(words::proofs::Zeros::zeros, crate::proofs::Cases::knows_empty))]
 pub fn ask(
     old: &[u64],
     new: &mut [u64],
@@ -265,13 +215,11 @@ pub fn ask(
 fn both_small(old: &[u64], new: &[u64], used: usize, a: usize, b: usize) -> bool
     requires { (length old.now ≤ used) × (used ≤ length old.now + length new.now) × (used ≤ longest_allowed) }
 {
-    if small::is_small(old, new, used, a) {
-        return small::is_small(old, new, used, b);
-    }
-    false
+    small::is_small(old, new, used, a) && small::is_small(old, new, used, b)
 }
 
 // join has a memory for its three duals, of both operands and of a meet that is no larger than both together, and one for the meet: a half each.
+#[tactic(auto, using(crate::proofs::Cases::knows_empty))]
 pub fn join(
     old: &[u64],
     new: &mut [u64],
@@ -300,6 +248,7 @@ pub fn join(
 }
 
 // The set of types that are known to be final is kept in `bits`, whatever they held: a bit for each word of the store, as far as they go. With fewer, types behind them are not remembered.
+#[tactic(auto, using(finals::proofs::Knows::knows_none))]
 pub fn is_final(old: &[u64], new: &[u64], used: usize, a: usize, bits: &mut [u64]) -> bool
     requires { ReadyOne old.now new.now used a }
     ensures { Finals (take used (old.now ++ new.now)) a result }
@@ -310,13 +259,11 @@ pub fn is_final(old: &[u64], new: &[u64], used: usize, a: usize, bits: &mut [u64
 
 // Whether make_ro is known to walk at most one struct of a type with this head: its kind is below struct, or its parts have no parts.
 fn is_flat(head: u64) -> bool {
-    if head % kinds::DEPTH < kinds::STRUCT {
-        return true;
-    }
-    head / kinds::DEPTH % kinds::DEPTH <= 2
+    head % kinds::DEPTH < kinds::STRUCT || head / kinds::DEPTH % kinds::DEPTH <= 2
 }
 
 // As with is_final, `bits` may hold anything.
+#[tactic(auto, using(words::proofs::Zeros::zeros, crate::proofs::Cases::knows_empty, finals::proofs::Knows::knows_none))]
 pub fn make_ro(
     old: &[u64],
     new: &mut [u64],

@@ -4,7 +4,6 @@ use mathlib.Core.Bool.{Bool, true, false, cond, not, ◌&&◌}
 use mathlib.Core.List.{List}
 use Prim.Native.Nat.{ℕ, zero, suc, ◌+◌, ◌-◌, ◌*◌, ◌/◌, ◌%◌, ◌^◌, ◌≤◌, ◌<◌}
 use native.Mathlib.Omega.{arith}
-use native.Mathlib.Nat.{add-zero, sub-zero}
 use borrow.Author.Tests.{eq-eqb, ne_eqb, ltb-true, not-true, not-false}
 use lib.ListN.{get_or}
 use lib.Dec.{eqb, leb, ltb}
@@ -18,9 +17,6 @@ down : (n i : ℕ) → i < n → n - i ≡ suc (n - (i + 1))
 down n i h = omega arith
 
 -- ---- words
-
-pub words_begin : (u : List ℕ) (n p q : ℕ) → same_words u n p q ≡ same_words u (n - 0) (p + 0) (q + 0)
-words_begin u n p q = rw (sub-zero n, add-zero p, add-zero q)
 
 module _ (u : List ℕ) (n p q i : ℕ) (left : same_words u n p q ≡ same_words u (n - i) (p + i) (q + i)) where
   one : i < n → same_words u n p q ≡ (eqb (get_or u (p + i) 0) (get_or u (q + i) 0) && same_words u (n - (i + 1)) (p + (i + 1)) (q + (i + 1)))
@@ -81,9 +77,6 @@ abbrev pub Low : List ℕ → Type 0
 Low l = all (λ x. ltb x 1048576) l ≡ true
 
 module _ (u : List ℕ) (n p : ℕ) where
-  pub low_begin : Low (every 3 n p u) → Low (every 3 (n - 0) (p + 3 * 0) u)
-  low_begin a = rw (sub-zero n, add-zero p) a
-
   module _ (i : ℕ) (low : Low (every 3 (n - i) (p + 3 * i) u)) (h : i < n) where
     abbrev this : Bool
     this = ltb (get_or u (p + 3 * i) 0) 1048576
@@ -100,9 +93,6 @@ module _ (u : List ℕ) (n p : ℕ) where
 
     pub low_more : Low (every 3 (n - (i + 1)) (p + 3 * (i + 1)) u)
     low_more = and_right this rest both
-
-pub fields_begin : (u : List ℕ) (n p q : ℕ) → same_fields u n p q ≡ same_fields u (n - 0) (p + 3 * 0) (q + 3 * 0)
-fields_begin u n p q = rw (sub-zero n, add-zero p, add-zero q)
 
 module _ (u : List ℕ) (n p q i : ℕ) (left : same_fields u n p q ≡ same_fields u (n - i) (p + 3 * i) (q + 3 * i)) where
   field : i < n

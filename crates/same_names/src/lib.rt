@@ -16,12 +16,10 @@ fn same_words(old: &[u64], new: &[u64], used: usize, n: usize, p: usize, q: usiz
     requires n_bound { (n ≤ 2 ^ 60) × (p ≤ 2 ^ 60) × (q ≤ 2 ^ 60) }
     ensures { result ≡ same_words (take used (old.now ++ new.now)) n p q }
 {
-    let mut i = 0;
-    while i < n {
+    for i in 0..n {
         if words::word(old, new, used, p + i) != words::word(old, new, used, q + i) {
             return false;
         }
-        i += 1;
     }
     true
 }
@@ -46,8 +44,7 @@ pub fn same_fields(old: &[u64], new: &[u64], used: usize, n: usize, p: usize, q:
     requires value { (all (λ x. ltb x longest_allowed) (names_from n p (take used (old.now ++ new.now))) ≡ true) × (all (λ x. ltb x longest_allowed) (names_from n q (take used (old.now ++ new.now))) ≡ true) }
     ensures { result ≡ same_fields (take used (old.now ++ new.now)) n p q }
 {
-    let mut i = 0;
-    while i < n {
+    for i in 0..n {
         let x = words::word(old, new, used, p + columns::FIELD * i) as usize;
         let y = words::word(old, new, used, q + columns::FIELD * i) as usize;
         if !same_name(old, new, used, x, y) {
@@ -58,7 +55,6 @@ pub fn same_fields(old: &[u64], new: &[u64], used: usize, n: usize, p: usize, q:
         if f / 2 != g / 2 {
             return false;
         }
-        i += 1;
     }
     true
 }

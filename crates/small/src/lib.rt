@@ -30,13 +30,7 @@ fn count_down(old: &[u64], new: &[u64], used: usize, a: usize, deep: usize, left
     requires { (length old.now ≤ used) × (used ≤ length old.now + length new.now) × (used ≤ 1048576) }
     ensures { result ≤ left }
 {
-    if left == 0 {
-        return 0;
-    }
-    if deep == 0 {
-        return 0;
-    }
-    if used <= a {
+    if left == 0 || deep == 0 || used <= a {
         return 0;
     }
     let head = words::word(old, new, used, a);
@@ -54,17 +48,13 @@ fn count_down(old: &[u64], new: &[u64], used: usize, a: usize, deep: usize, left
     }
     let n = (head / kinds::COUNT) as usize;
     let s = step(kind);
-    let mut p = a + s;
     let mut rest = left - 1;
-    let mut i = 0;
-    while i < n {
+    for i in 0..n {
         if rest == 0 {
             return 0;
         }
-        let t = words::word(old, new, used, p) as usize;
+        let t = words::word(old, new, used, a + s + s * i) as usize;
         rest = count_down(old, new, used, t, deep - 1, rest);
-        p += s;
-        i += 1;
     }
     rest
 }

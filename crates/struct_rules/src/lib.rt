@@ -9,6 +9,7 @@ ghost use Rattle.struct_rules.specs.Below.{NamesBelow};
 use meet_rules::StructRule;
 use words::{columns, fresh, kinds};
 
+#[tactic(auto, using(std::proofs::lemmas::Bool::Decides::nat_tests, crate::proofs::Few::few_fields, crate::proofs::Few::names_low, crate::proofs::Few::names_low_too), unfolding(meet_rules::specs::Rules::named_rule))]
 fn named_rule(old: &[u64], new: &[u64], used: usize, a: usize, b: usize) -> StructRule
     requires len_bound { (length old.now ≤ used) × (used ≤ length old.now + length new.now) }
     requires a_lt_longest_allowed { (a < longest_allowed) × (b < longest_allowed) × NamesBelow (take used (old.now ++ new.now)) a × NamesBelow (take used (old.now ++ new.now)) b }
@@ -38,6 +39,7 @@ fn named_rule(old: &[u64], new: &[u64], used: usize, a: usize, b: usize) -> Stru
 }
 
 // The rule for the structs or forward references at a and b.
+#[tactic(auto, using(std::proofs::lemmas::Bool::Decides::nat_tests), unfolding(meet_rules::specs::Rules::struct_rule))]
 pub fn struct_rule(old: &[u64], new: &[u64], used: usize, a: usize, b: usize) -> StructRule
     requires len_bound { (length old.now ≤ used) × (used ≤ length old.now + length new.now) }
     requires a_lt_longest_allowed { (a < longest_allowed) × (b < longest_allowed) × NamesBelow (take used (old.now ++ new.now)) a × NamesBelow (take used (old.now ++ new.now)) b }
@@ -46,17 +48,10 @@ pub fn struct_rule(old: &[u64], new: &[u64], used: usize, a: usize, b: usize) ->
     if a == b {
         return StructRule::Former;
     }
-    if a == fresh::STRUCT_BOT {
-        return StructRule::Lowest;
+    match (a, b) {
+        (fresh::STRUCT_BOT, _) | (_, fresh::STRUCT_BOT) => StructRule::Lowest,
+        (fresh::STRUCT_TOP, _) => StructRule::Latter,
+        (_, fresh::STRUCT_TOP) => StructRule::Former,
+        _ => named_rule(old, new, used, a, b),
     }
-    if b == fresh::STRUCT_BOT {
-        return StructRule::Lowest;
-    }
-    if a == fresh::STRUCT_TOP {
-        return StructRule::Latter;
-    }
-    if b == fresh::STRUCT_TOP {
-        return StructRule::Former;
-    }
-    named_rule(old, new, used, a, b)
 }

@@ -4,7 +4,6 @@ use mathlib.Core.Bool.{true}
 use mathlib.Core.List.{List, [], ◌∷◌, ◌++◌}
 use Prim.Native.Nat.{ℕ, ◌+◌, ◌-◌, ◌*◌, ◌/◌, ◌≤◌, ◌<◌}
 use native.Mathlib.Omega.{arith}
-use native.Mathlib.Nat.{add-zero}
 use native.Mathlib.Numerals.{add-one}
 use borrow.Rule.Slice.PartMut.{put_mid}
 use lib.ListN.{length, take, drop, get_or, drop_of_length-le}
@@ -28,9 +27,6 @@ use Rattle.words.proofs.Written.{written_on, written_all}
 -- the fields that are left when i are written
 abbrev pub fields_left : List ℕ → ℕ → List ℕ → List ℕ → ℕ → List ℕ
 fields_left u p types finals i = fields_with u (p + 3 * i) (drop i types) (drop i finals)
-
-pub fill_begin : (u types finals : List ℕ) (p : ℕ) → fields_left u p types finals 0 ≡ fields_with u p types finals
-fill_begin u types finals p = rw (add-zero p)
 
 module _ (u types finals d₀ d : List ℕ) (p i : ℕ) (sum : take (4 * i) d ++ fields_left u p types finals i ≡ fields_with u p types finals) (rest : drop (4 * i) d ≡ drop (4 * i) d₀) where
   pub fill_on : length types ≡ length finals → 4 * length types ≤ length d₀ → length d ≡ length d₀ → i < length types
@@ -60,9 +56,6 @@ module _ (u types finals d₀ d : List ℕ) (p i : ℕ) (sum : take (4 * i) d ++
 module _ (u types finals f x : List ℕ) (a : ℕ) (is : f ≡ fields_with u (a + 2) types finals ++ x) (same : length types ≡ length finals) where
   front : take (4 * length types) f ≡ fields_with u (a + 2) types finals
   front = front_of (fields_with u (a + 2) types finals) x f is (4 * length types) (sym (with_length_is u (a + 2) types finals same))
-
-  pub fields_many : 4 * length types ≡ length (take (4 * length types) f)
-  fields_many = rw front (sym (with_length_is u (a + 2) types finals same))
 
   pub fields_few : length types ≤ 255 → length (take (4 * length types) f) / 4 ≤ 255
   fields_few few = rw (front, with_count u (a + 2) types finals same) few

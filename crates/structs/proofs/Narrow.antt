@@ -35,9 +35,6 @@ module _ (types f x : List ℕ) (is : f ≡ types ++ x) where
   front : take (length types) f ≡ types
   front = front_of types x f is (length types) refl
 
-  pub widened_many : length types ≡ length (take (length types) f)
-  widened_many = rw front refl
-
   pub widened_few : (most : ℕ) → length types ≤ most → length (take (length types) f) ≤ most
   widened_few most few = rw front few
 

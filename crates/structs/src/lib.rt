@@ -19,41 +19,32 @@ use words::{Interned, columns, limits};
 // Tuples of few elements are given few words, since all of them are cleared at each call.
 const FEW_ELEMENTS: usize = 8;
 
-fn wide(h: u32) -> u64
-    ensures { result ≡ h }
-{
-    h as u64
-}
-
 // Fills the first words of `dst` with these types.
 fn widened(dst: &mut [u64], types: &[u32])
     requires { length types.now ≤ length dst.old }
     ensures { dst.new ≡ types.now ++ drop (length types.now) dst.old }
 {
-    let n = types.len();
-    let mut i = 0;
-    while i < n {
-        dst[i] = wide(types[i]);
-        i += 1;
+    for i in 0..types.len() {
+        dst[i] = u64::from(types[i]);
     }
 }
 
-// A tuple of these types, which are widened into the first words of `handles`.
-fn tuple_in(
+// A tuple of these types, which are widened into the first of some words.
+fn tuple_in<const WORDS: usize>(
     old: &[u64],
     new: &mut [u64],
     used: usize,
     types: &[u32],
-    handles: &mut [u64],
     index: &[u64],
 ) -> Option<Interned>
     requires segments { Segments old.now new.old used }
-    requires types_len_bound { (length types.now ≤ most_counted) × (length types.now ≤ length handles.old) }
+    requires types_len_bound { (length types.now ≤ most_counted) × (length types.now ≤ WORDS) × (WORDS ≤ 65536) }
     requires covers { Covers (take used (old.now ++ new.old)) index.now }
     ensures { Runs (λ u. make u (tuple_entry types.now u)) old.now new.old used new.new result }
 {
     let n = types.len();
-    widened(handles, types);
+    let mut handles = [0u64; WORDS];
+    widened(&mut handles, types);
     makers::tuple(old, new, used, &handles[..n], index)
 }
 
@@ -71,11 +62,9 @@ pub fn tuple_of(
     ensures { Runs (λ u. make u (tuple_entry types.now u)) old.now new.old used new.new result }
 {
     if types.len() <= FEW_ELEMENTS {
-        let mut few = [0u64; FEW_ELEMENTS];
-        return tuple_in(old, new, used, types, &mut few, index);
+        return tuple_in::<FEW_ELEMENTS>(old, new, used, types, index);
     }
-    let mut many = [0u64; limits::MOST_COUNTED];
-    tuple_in(old, new, used, types, &mut many, index)
+    tuple_in::<{ limits::MOST_COUNTED }>(old, new, used, types, index)
 }
 
 // ---- structs
@@ -86,12 +75,6 @@ const FEW_FIELDS: usize = 8;
 const FEW_LENT: usize = columns::LENT_FIELD * FEW_FIELDS;
 
 const MOST_LENT: usize = columns::LENT_FIELD * limits::MOST_COUNTED;
-
-fn flag(x: u8) -> u64
-    ensures { result ≡ x }
-{
-    x as u64
-}
 
 // Fills the first words of `dst` with the fields whose words stand from p on, with these types and finals.
 fn fields_with(
@@ -107,39 +90,44 @@ fn fields_with(
     requires types_len_bound { (length types.now ≤ most_counted) × (length types.now ≡ length finals.now) × (lent_size * length types.now ≤ length dst.old) × (p ≤ first_field longest_allowed) }
     ensures { dst.new ≡ fields_with (take used (old.now ++ new.now)) p types.now finals.now ++ drop (lent_size * length types.now) dst.old }
 {
-    let n = types.len();
-    let mut i = 0;
-    while i < n {
+    for i in 0..types.len() {
         let at = p + columns::FIELD * i;
         let name = words::word(old, new, used, at);
         let alias = words::word(old, new, used, at + columns::FLAGS) / 2;
         words::write(
             &mut dst[columns::LENT_FIELD * i..],
-            &[name, wide(types[i]), alias, flag(finals[i])],
+            &[name, u64::from(types[i]), alias, u64::from(finals[i])],
         );
-        i += 1;
     }
 }
 
-// The same struct with these types and finals, its fields laid out in the first words of `fields`.
-fn made_again_in(
+// The same struct with these types and finals, its fields laid out in the first of some words.
+fn made_again_in<const WORDS: usize>(
     old: &[u64],
     new: &mut [u64],
     used: usize,
     a: usize,
     types: &[u32],
     finals: &[u8],
-    fields: &mut [u64],
     index: &[u64],
 ) -> Option<Interned>
     requires segments { Segments old.now new.old used }
-    requires types_len_bound { (length types.now ≤ most_counted) × (length types.now ≡ length finals.now) × (lent_size * length types.now ≤ length fields.old) × (a ≤ longest_allowed) }
+    requires types_len_bound { (length types.now ≤ most_counted) × (length types.now ≡ length finals.now) × (lent_size * length types.now ≤ WORDS) × (WORDS ≤ 65536) × (a ≤ longest_allowed) }
     requires a_value { (all is_alias_final (first_flags_on (take used (old.now ++ new.old)) (length types.now) a) ≡ true) × (all is_flag finals.now ≡ true) }
     requires covers { Covers (take used (old.now ++ new.old)) index.now }
     ensures { Runs (remake a types.now finals.now) old.now new.old used new.new result }
 {
     let n = types.len();
-    fields_with(fields, old, new, used, a + columns::FIELDS, types, finals);
+    let mut fields = [0u64; WORDS];
+    fields_with(
+        &mut fields,
+        old,
+        new,
+        used,
+        a + columns::FIELDS,
+        types,
+        finals,
+    );
     let name = words::word(old, new, used, a + columns::NAME);
     makers::structure(
         old,
@@ -168,9 +156,7 @@ pub fn made_again(
     ensures { Runs (remake a types.now finals.now) old.now new.old used new.new result }
 {
     if types.len() <= FEW_FIELDS {
-        let mut few = [0u64; FEW_LENT];
-        return made_again_in(old, new, used, a, types, finals, &mut few, index);
+        return made_again_in::<FEW_LENT>(old, new, used, a, types, finals, index);
     }
-    let mut many = [0u64; MOST_LENT];
-    made_again_in(old, new, used, a, types, finals, &mut many, index)
+    made_again_in::<MOST_LENT>(old, new, used, a, types, finals, index)
 }

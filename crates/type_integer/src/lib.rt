@@ -10,47 +10,33 @@ ghost use Rattle.type_integer.specs.Signed.{signed, less, smaller, larger};
 pub fn word_of(z: i64) -> u64
     ensures { result ≡ of_z w64 z }
 {
-    if z < 0 {
-        return 0xFFFF_FFFF_FFFF_FFFF - ((-1 - z) as u64);
-    }
-    z as u64
+    z.cast_unsigned()
 }
 
 // The number that a word stands for.
 pub fn number_of(w: u64) -> i64
     ensures { result ≡ signed w }
 {
-    if w < 0x8000_0000_0000_0000 {
-        return w as i64;
-    }
-    -1 - ((0xFFFF_FFFF_FFFF_FFFF - w) as i64)
+    w.cast_signed()
 }
 
 // Whether a's number is below b's.
 pub fn is_less(a: u64, b: u64) -> bool
     ensures { result ≡ less a b }
 {
-    let x = number_of(a);
-    let y = number_of(b);
-    x < y
+    number_of(a) < number_of(b)
 }
 
 // The word of the smaller number.
 pub fn smaller_of(a: u64, b: u64) -> u64
     ensures { result ≡ smaller a b }
 {
-    if is_less(b, a) {
-        return b;
-    }
-    a
+    if is_less(b, a) { b } else { a }
 }
 
 // The word of the larger number.
 pub fn larger_of(a: u64, b: u64) -> u64
     ensures { result ≡ larger a b }
 {
-    if is_less(a, b) {
-        return b;
-    }
-    a
+    if is_less(a, b) { b } else { a }
 }

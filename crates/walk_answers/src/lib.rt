@@ -14,6 +14,7 @@ use walk_rules::{Form, Walk};
 use words::{Interned, columns, fresh, kinds};
 
 // The form of the walk of the type at a.
+#[tactic(auto, using(walk_rules::proofs::Chosen::by_word))]
 pub fn form_of(walk: Walk, old: &[u64], new: &[u64], used: usize, a: usize) -> Form
     requires { (length old.now ≤ used) × (used ≤ length old.now + length new.now) }
     ensures { result ≡ form_for walk a (kind_on (take used (old.now ++ new.now)) a) }
@@ -23,6 +24,7 @@ pub fn form_of(walk: Walk, old: &[u64], new: &[u64], used: usize, a: usize) -> F
 
 // ---- answers
 
+#[tactic(auto, using(crate::proofs::Answers::int_dual))]
 pub fn int_of(
     walk: Walk,
     old: &[u64],
@@ -53,6 +55,7 @@ pub fn int_of(
     }
 }
 
+#[tactic(auto, using(crate::proofs::Answers::size_most, crate::proofs::Answers::other_known, crate::proofs::Answers::other_fits, crate::proofs::Answers::other_sign))]
 fn dual_float(
     old: &[u64],
     new: &mut [u64],
@@ -73,6 +76,7 @@ fn dual_float(
     makers::float(old, new, used, f, 0, index)
 }
 
+#[tactic(auto, using(crate::proofs::Answers::float_dual))]
 pub fn float_of(
     walk: Walk,
     old: &[u64],

@@ -4,7 +4,6 @@ use mathlib.Core.Bool.{true}
 use mathlib.Core.List.{List, [], ◌∷◌, ◌++◌}
 use Prim.Native.Nat.{ℕ, ◌+◌, ◌-◌, ◌*◌, ◌≤◌, ◌<◌}
 use native.Mathlib.Omega.{arith}
-use native.Mathlib.Nat.{add-zero, sub-zero}
 use native.Mathlib.Numerals.{add-one}
 use borrow.Author.Tests.{le-leb}
 use lib.ListN.{length, take, drop, set}
@@ -52,9 +51,6 @@ count : (w : Walk) (u : List ℕ) (n p : ℕ) → length (finals w u n p) ≡ n
 count w u n p = finals_length w (every 3 n p u) ∙ every_length 3 n p u
 
 -- ---- a loop that writes them
-
-pub finals_begin : (w : Walk) (u : List ℕ) (n p : ℕ) → finals w u (n - 0) (p + 3 * 0) ≡ finals w u n p
-finals_begin w u n p = rw (sub-zero n, add-zero p)
 
 module _ (w : Walk) (u d₀ d : List ℕ) (n p i : ℕ) (sum : take i d ++ finals w u (n - i) (p + 3 * i) ≡ finals w u n p) (rest : drop i d ≡ drop i d₀) where
   pub finals_on : n ≤ length d₀ → length d ≡ length d₀ → i < n → (x v : ℕ) → x ≡ word u (p + 3 * i) → v ≡ final_of w x

@@ -19,36 +19,12 @@ fn finals_of(walk: Walk, dst: &mut [u8], old: &[u64], new: &[u64], used: usize, 
     requires n_in_bounds { (n ≤ length dst.old) × (n ≤ most_counted) × (p ≤ first_flags longest_allowed) }
     ensures { dst.new ≡ finals_of walk (every field_size n p (take used (old.now ++ new.now))) ++ drop n dst.old }
 {
-    let mut i = 0;
-    while i < n {
+    for i in 0..n {
         dst[i] = walk_rules::final_of(
             walk,
             words::word(old, new, used, p + columns::FIELD * i),
         ) as u8;
-        i += 1;
     }
-}
-
-// The struct at a with these types and the walk's finals, which stand in the first bytes of `finals`.
-fn fields_in(
-    walk: Walk,
-    old: &[u64],
-    new: &mut [u64],
-    used: usize,
-    a: usize,
-    types: &[u32],
-    finals: &mut [u8],
-    index: &[u64],
-) -> Option<Interned>
-    requires segments { Segments old.now new.old used }
-    requires types_len_bound { (length types.now ≤ most_counted) × (length types.now ≤ length finals.old) × (a < longest_allowed) }
-    requires a_value { all is_alias_final (first_flags_on (take used (old.now ++ new.old)) (length types.now) a) ≡ true }
-    requires covers { Covers (take used (old.now ++ new.old)) index.now }
-    ensures { Runs (walk_fields walk a types.now) old.now new.old used new.new result }
-{
-    let n = types.len();
-    finals_of(walk, finals, old, new, used, n, a + columns::FIELD_FLAGS);
-    structs::made_again(old, new, used, a, types, &finals[..n], index)
 }
 
 // Makes the struct at a with these types and the walk's finals.
@@ -66,6 +42,16 @@ pub fn fields_of(
     requires covers { Covers (take used (old.now ++ new.old)) index.now }
     ensures { Runs (walk_fields walk a types.now) old.now new.old used new.new result }
 {
+    let n = types.len();
     let mut finals = [0u8; limits::MOST_COUNTED];
-    fields_in(walk, old, new, used, a, types, &mut finals, index)
+    finals_of(
+        walk,
+        &mut finals,
+        old,
+        new,
+        used,
+        n,
+        a + columns::FIELD_FLAGS,
+    );
+    structs::made_again(old, new, used, a, types, &finals[..n], index)
 }
