@@ -1,5 +1,5 @@
 // A line and its words, which one space separates.
-ghost use Rattle.std.specs.Prelude.{◌≡◌, ◌≤◌, ◌++◌, length};
+ghost use Rattle.std.specs.Prelude.{◌≡◌, ◌≤◌, [], ◌++◌, length, vec_len, vec_capacity, IsSome};
 
 use crate::values::number;
 
@@ -39,7 +39,11 @@ pub fn after_words(rest: &[u8], k: usize) -> &[u8]
 }
 
 // Puts the numbers that the words behind a word say into `out`, and nothing else: `None` where a word says no number.
-pub fn numbers(rest: &[u8], out: &mut Vec<u64>) -> Option<()> {
+pub fn numbers(rest: &[u8], out: &mut Vec<u64>) -> Option<()>
+    ensures empty { length rest.now ≡ 0 → IsSome result × (out.new.items ≡ []) }
+    ensures size { vec_len out.new ≤ length rest.now }
+    ensures room { vec_capacity out.old ≤ vec_capacity out.new }
+{
     out.clear();
     if let [b' ', words @ ..] = rest {
         for word in words.split(|b| *b == b' ') {

@@ -1,8 +1,14 @@
 // A text in hex: a pair of digits for each byte.
+ghost use Rattle.std.specs.Prelude.{◌≡◌, ◌≤◌, ◌*◌, [], length, vec_len, vec_capacity, IsSome};
+
 use std::fmt;
 
 // Puts the text that the one word behind a word says into `out`, and nothing else: the empty one where there is no word, and `None` where the word says none.
-pub fn text(rest: &[u8], out: &mut Vec<u8>) -> Option<()> {
+pub fn text(rest: &[u8], out: &mut Vec<u8>) -> Option<()>
+    ensures empty { length rest.now ≡ 0 → IsSome result × (out.new.items ≡ []) }
+    ensures size { 2 * vec_len out.new ≤ length rest.now }
+    ensures room { vec_capacity out.old ≤ vec_capacity out.new }
+{
     out.clear();
     let [b' ', word @ ..] = rest else {
         return Some(());
