@@ -97,7 +97,13 @@ pub fn tell(
 // ---- a call that fills a lent output
 
 // Fills the output of a call that was answered so, unless it was refused.
-pub fn fill(words: &[u64], filling: Filling, s: u64, answer: Result<Answer, Refusal>, output: &mut [u64])
+pub fn fill(
+    words: &[u64],
+    filling: Filling,
+    s: u64,
+    answer: Result<Answer, Refusal>,
+    output: &mut [u64],
+)
     requires { left (told answer) words.now ≡ run (asked_filling filling s (length output.old)) words.now }
     ensures { output.new ≡ output_of filling s words.now output.old }
 {

@@ -31,9 +31,7 @@ pub fn save(words: &[u64], label: &[u8], file: &mut [u8]) -> Result<Answer, Refu
     if file.len() < n {
         return Err(Refusal::ShortOutput);
     }
-    Ok(Answer::Number(
-        catalogue_file::write_file(words, used, label, file) as u64,
-    ))
+    Ok(Answer::Number(catalogue_file::write_file(words, used, label, file) as u64))
 }
 
 // ---- the loader

@@ -27,7 +27,10 @@ pub fn find_entry(words: &[u64], entry: &[u64]) -> Result<EntrySearch, Refusal>
     let s = words::find(&[], words, used, 1, entry);
     let count = s.count as u64;
     match s.found {
-        Some(h) => Ok(EntrySearch { found: Some(h as u64), count }),
+        Some(h) => Ok(EntrySearch {
+            found: Some(h as u64),
+            count,
+        }),
         None => Ok(EntrySearch { found: None, count }),
     }
 }
@@ -36,12 +39,7 @@ pub fn find_entry(words: &[u64], entry: &[u64]) -> Result<EntrySearch, Refusal>
 
 // Returns 0, or the number of a refusal. What is told goes to three lent words: whether there is such an entry, 1 or 0; how many entries were not passed over; and its
 // handle, whose word keeps where there is none. Where it is refused all three keep.
-fn tell(
-    s: Result<EntrySearch, Refusal>,
-    which: &mut u64,
-    count: &mut u64,
-    answer: &mut u64,
-) -> u32
+fn tell(s: Result<EntrySearch, Refusal>, which: &mut u64, count: &mut u64, answer: &mut u64) -> u32
     ensures { CodedSearch s result which.old which.new count.old count.new answer.old answer.new }
 {
     match s {

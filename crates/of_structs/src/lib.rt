@@ -155,7 +155,13 @@ pub fn find_rows(words: &[u64], used: usize, bits: &[u64], s: u64, name: u64) ->
     Ok(())
 }
 
-pub fn find_alias_rows(words: &[u64], used: usize, bits: &[u64], s: u64, alias: u64) -> Result<(), Refusal>
+pub fn find_alias_rows(
+    words: &[u64],
+    used: usize,
+    bits: &[u64],
+    s: u64,
+    alias: u64,
+) -> Result<(), Refusal>
     requires { Marked words.now bits.now used }
     ensures { row_of result ≡ find_alias_rows s alias (take used words.now) }
 {

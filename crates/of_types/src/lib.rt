@@ -264,7 +264,14 @@ pub fn log_size(words: &[u64], used: usize, t: u64) -> u64
 // ---- rows
 
 // Of a call on one entry, of a kind from low to high.
-pub fn kind_rows(words: &[u64], used: usize, bits: &[u64], h: u64, low: u64, high: u64) -> Result<(), Refusal>
+pub fn kind_rows(
+    words: &[u64],
+    used: usize,
+    bits: &[u64],
+    h: u64,
+    low: u64,
+    high: u64,
+) -> Result<(), Refusal>
     requires { Marked words.now bits.now used }
     ensures { row_of result ≡ kind_rows (kind_in low high) h (take used words.now) }
 {

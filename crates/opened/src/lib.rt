@@ -81,7 +81,12 @@ pub fn append(
 }
 
 // A call that has neither a list nor a text.
-pub fn make(words: &mut [u64], index: &mut [u64], memory: &mut [u64], making: Making) -> Result<u64, Refusal>
+pub fn make(
+    words: &mut [u64],
+    index: &mut [u64],
+    memory: &mut [u64],
+    making: Making,
+) -> Result<u64, Refusal>
     requires { OpenStore words.old index.old memory.old }
     ensures words_after { left (made result) words.new ≡ run (appended making [] []) words.old }
     ensures open_store { OpenStore words.new index.new memory.new }
@@ -90,7 +95,12 @@ pub fn make(words: &mut [u64], index: &mut [u64], memory: &mut [u64], making: Ma
 }
 
 // A call that only reads.
-pub fn ask(words: &[u64], index: &[u64], memory: &mut [u64], asking: Asking) -> Result<Answer, Refusal>
+pub fn ask(
+    words: &[u64],
+    index: &[u64],
+    memory: &mut [u64],
+    asking: Asking,
+) -> Result<Answer, Refusal>
     requires { OpenStore words.now index.now memory.old }
     ensures words_value { left (told result) words.now ≡ run (asked asking) words.now }
     ensures open_store { OpenStore words.now index.now memory.new }

@@ -16,7 +16,13 @@ use struct_calls::{Filling, OfStruct};
 use walk_rules::Walk;
 
 // The merge of two types: of types that reach no memory type and no forward reference the lowest type above both.
-pub fn meet(words: &mut [u64], index: &mut [u64], memory: &mut [u64], a: u64, b: u64) -> Result<u64, Refusal>
+pub fn meet(
+    words: &mut [u64],
+    index: &mut [u64],
+    memory: &mut [u64],
+    a: u64,
+    b: u64,
+) -> Result<u64, Refusal>
     requires { OpenStore words.old index.old memory.old }
     ensures words_after { left (made result) words.new ≡ run (meet a b) words.old }
     ensures open_store { OpenStore words.new index.new memory.new }
@@ -25,7 +31,12 @@ pub fn meet(words: &mut [u64], index: &mut [u64], memory: &mut [u64], a: u64, b:
 }
 
 // The merge of a lent list, of up to 4,096 types, from left to right, starting at Top. What is made on the way is appended too; a refusal leaves the store as before the first.
-pub fn meet_list(words: &mut [u64], index: &mut [u64], memory: &mut [u64], types: &[u64]) -> Result<u64, Refusal>
+pub fn meet_list(
+    words: &mut [u64],
+    index: &mut [u64],
+    memory: &mut [u64],
+    types: &[u64],
+) -> Result<u64, Refusal>
     requires { OpenStore words.old index.old memory.old }
     ensures words_after { left (made result) words.new ≡ run (meet_list types.now) words.old }
     ensures open_store { OpenStore words.new index.new memory.new }
@@ -34,7 +45,13 @@ pub fn meet_list(words: &mut [u64], index: &mut [u64], memory: &mut [u64], types
 }
 
 // Whether a isa b: whether their meet would be b.
-pub fn isa(words: &[u64], index: &[u64], memory: &mut [u64], a: u64, b: u64) -> Result<Answer, Refusal>
+pub fn isa(
+    words: &[u64],
+    index: &[u64],
+    memory: &mut [u64],
+    a: u64,
+    b: u64,
+) -> Result<Answer, Refusal>
     requires { OpenStore words.now index.now memory.old }
     ensures words_value { left (told result) words.now ≡ run (isa a b) words.now }
     ensures open_store { OpenStore words.now index.now memory.new }
@@ -43,7 +60,12 @@ pub fn isa(words: &[u64], index: &[u64], memory: &mut [u64], a: u64, b: u64) -> 
 }
 
 // The type turned over: Bot for Top, the ends of an Int changed, and so on through the parts.
-pub fn dual(words: &mut [u64], index: &mut [u64], memory: &mut [u64], a: u64) -> Result<u64, Refusal>
+pub fn dual(
+    words: &mut [u64],
+    index: &mut [u64],
+    memory: &mut [u64],
+    a: u64,
+) -> Result<u64, Refusal>
     requires { OpenStore words.old index.old memory.old }
     ensures words_after { left (made result) words.new ≡ run (dual a) words.old }
     ensures open_store { OpenStore words.new index.new memory.new }
@@ -70,7 +92,13 @@ pub fn lub(words: &mut [u64], index: &mut [u64], memory: &mut [u64], a: u64) -> 
 }
 
 // The dual of the meet of the duals: of types that reach no memory type and no forward reference the highest type below both.
-pub fn join(words: &mut [u64], index: &mut [u64], memory: &mut [u64], a: u64, b: u64) -> Result<u64, Refusal>
+pub fn join(
+    words: &mut [u64],
+    index: &mut [u64],
+    memory: &mut [u64],
+    a: u64,
+    b: u64,
+) -> Result<u64, Refusal>
     requires { OpenStore words.old index.old memory.old }
     ensures words_after { left (made result) words.new ≡ run (join a b) words.old }
     ensures open_store { OpenStore words.new index.new memory.new }
@@ -88,7 +116,12 @@ pub fn is_final(words: &[u64], index: &[u64], memory: &mut [u64], a: u64) -> Res
 }
 
 // The read-only form: every field of a struct final, and so on through the types of the fields that were not; other types themselves.
-pub fn make_ro(words: &mut [u64], index: &mut [u64], memory: &mut [u64], a: u64) -> Result<u64, Refusal>
+pub fn make_ro(
+    words: &mut [u64],
+    index: &mut [u64],
+    memory: &mut [u64],
+    a: u64,
+) -> Result<u64, Refusal>
     requires { OpenStore words.old index.old memory.old }
     ensures words_after { left (made result) words.new ≡ run (make_ro a) words.old }
     ensures open_store { OpenStore words.new index.new memory.new }
@@ -99,7 +132,12 @@ pub fn make_ro(words: &mut [u64], index: &mut [u64], memory: &mut [u64], a: u64)
 // ---- of a type
 
 // The initial value of a type: 0, 0.0 or null; of a pointer without nil Top; of other types the type itself.
-pub fn make_init(words: &[u64], index: &[u64], memory: &mut [u64], a: u64) -> Result<Answer, Refusal>
+pub fn make_init(
+    words: &[u64],
+    index: &[u64],
+    memory: &mut [u64],
+    a: u64,
+) -> Result<Answer, Refusal>
     requires { OpenStore words.now index.now memory.old }
     ensures words_value { left (told result) words.now ≡ run (make_init a) words.now }
     ensures open_store { OpenStore words.now index.now memory.new }
@@ -108,7 +146,12 @@ pub fn make_init(words: &[u64], index: &[u64], memory: &mut [u64], a: u64) -> Re
 }
 
 // The zero of an Int, a Float or a pointer.
-pub fn make_zero(words: &[u64], index: &[u64], memory: &mut [u64], a: u64) -> Result<Answer, Refusal>
+pub fn make_zero(
+    words: &[u64],
+    index: &[u64],
+    memory: &mut [u64],
+    a: u64,
+) -> Result<Answer, Refusal>
     requires { OpenStore words.now index.now memory.old }
     ensures words_value { left (told result) words.now ≡ run (make_zero a) words.now }
     ensures open_store { OpenStore words.now index.now memory.new }
@@ -117,7 +160,12 @@ pub fn make_zero(words: &[u64], index: &[u64], memory: &mut [u64], a: u64) -> Re
 }
 
 // The type without zero: an Int whose range begins or ends with 0 is cut there, and 0..0 becomes 1..1; a pointer becomes void; another type its glb.
-pub fn non_zero(words: &mut [u64], index: &mut [u64], memory: &mut [u64], a: u64) -> Result<u64, Refusal>
+pub fn non_zero(
+    words: &mut [u64],
+    index: &mut [u64],
+    memory: &mut [u64],
+    a: u64,
+) -> Result<u64, Refusal>
     requires { OpenStore words.old index.old memory.old }
     ensures words_after { left (made result) words.new ≡ run (non_zero a) words.old }
     ensures open_store { OpenStore words.new index.new memory.new }
@@ -135,7 +183,12 @@ pub fn is_high(words: &[u64], index: &[u64], memory: &mut [u64], a: u64) -> Resu
 }
 
 // Whether a type is high or a constant.
-pub fn is_high_or_constant(words: &[u64], index: &[u64], memory: &mut [u64], a: u64) -> Result<Answer, Refusal>
+pub fn is_high_or_constant(
+    words: &[u64],
+    index: &[u64],
+    memory: &mut [u64],
+    a: u64,
+) -> Result<Answer, Refusal>
     requires { OpenStore words.now index.now memory.old }
     ensures words_value { left (told result) words.now ≡ run (is_high_or_constant_is a) words.now }
     ensures open_store { OpenStore words.now index.now memory.new }
@@ -149,7 +202,12 @@ pub fn is_high_or_constant(words: &[u64], index: &[u64], memory: &mut [u64], a: 
 }
 
 // Whether a type is a constant: on the lattice's centre.
-pub fn is_constant(words: &[u64], index: &[u64], memory: &mut [u64], a: u64) -> Result<Answer, Refusal>
+pub fn is_constant(
+    words: &[u64],
+    index: &[u64],
+    memory: &mut [u64],
+    a: u64,
+) -> Result<Answer, Refusal>
     requires { OpenStore words.now index.now memory.old }
     ensures words_value { left (told result) words.now ≡ run (is_constant_is a) words.now }
     ensures open_store { OpenStore words.now index.now memory.new }
@@ -196,7 +254,12 @@ pub fn int_max(words: &[u64], index: &[u64], memory: &mut [u64], a: u64) -> Resu
 }
 
 // The value of an Int that is a constant, or absent.
-pub fn int_value(words: &[u64], index: &[u64], memory: &mut [u64], a: u64) -> Result<Answer, Refusal>
+pub fn int_value(
+    words: &[u64],
+    index: &[u64],
+    memory: &mut [u64],
+    a: u64,
+) -> Result<Answer, Refusal>
     requires { OpenStore words.now index.now memory.old }
     ensures words_value { left (told result) words.now ≡ run (int_value_is a) words.now }
     ensures open_store { OpenStore words.now index.now memory.new }
@@ -223,7 +286,12 @@ pub fn float_sz(words: &[u64], index: &[u64], memory: &mut [u64], a: u64) -> Res
 }
 
 // Whether the constant of a Float is single precision; of a size alone yes.
-pub fn float_is_f32(words: &[u64], index: &[u64], memory: &mut [u64], a: u64) -> Result<Answer, Refusal>
+pub fn float_is_f32(
+    words: &[u64],
+    index: &[u64],
+    memory: &mut [u64],
+    a: u64,
+) -> Result<Answer, Refusal>
     requires { OpenStore words.now index.now memory.old }
     ensures words_value { left (told result) words.now ≡ run (float_is_f32 a) words.now }
     ensures open_store { OpenStore words.now index.now memory.new }
@@ -232,7 +300,12 @@ pub fn float_is_f32(words: &[u64], index: &[u64], memory: &mut [u64], a: u64) ->
 }
 
 // The bits of a Float that is a constant, or absent.
-pub fn float_value(words: &[u64], index: &[u64], memory: &mut [u64], a: u64) -> Result<Answer, Refusal>
+pub fn float_value(
+    words: &[u64],
+    index: &[u64],
+    memory: &mut [u64],
+    a: u64,
+) -> Result<Answer, Refusal>
     requires { OpenStore words.now index.now memory.old }
     ensures words_value { left (told result) words.now ≡ run (float_value a) words.now }
     ensures open_store { OpenStore words.now index.now memory.new }
@@ -241,7 +314,12 @@ pub fn float_value(words: &[u64], index: &[u64], memory: &mut [u64], a: u64) -> 
 }
 
 // A Float as a constant with its bits, or a size alone.
-pub fn float_reading(words: &[u64], index: &[u64], memory: &mut [u64], a: u64) -> Result<Answer, Refusal>
+pub fn float_reading(
+    words: &[u64],
+    index: &[u64],
+    memory: &mut [u64],
+    a: u64,
+) -> Result<Answer, Refusal>
     requires { OpenStore words.now index.now memory.old }
     ensures words_value { left (told result) words.now ≡ run (float_reading_is a) words.now }
     ensures open_store { OpenStore words.now index.now memory.new }
@@ -252,7 +330,12 @@ pub fn float_reading(words: &[u64], index: &[u64], memory: &mut [u64], a: u64) -
 // ---- of a struct
 
 // The name of a struct or of a forward reference.
-pub fn struct_name(words: &[u64], index: &[u64], memory: &mut [u64], s: u64) -> Result<Answer, Refusal>
+pub fn struct_name(
+    words: &[u64],
+    index: &[u64],
+    memory: &mut [u64],
+    s: u64,
+) -> Result<Answer, Refusal>
     requires { OpenStore words.now index.now memory.old }
     ensures words_value { left (told result) words.now ≡ run (struct_name s) words.now }
     ensures open_store { OpenStore words.now index.now memory.new }
@@ -277,7 +360,13 @@ pub fn struct_fields(
 }
 
 // The first field of this name, or absent.
-pub fn find(words: &[u64], index: &[u64], memory: &mut [u64], s: u64, name: u64) -> Result<Answer, Refusal>
+pub fn find(
+    words: &[u64],
+    index: &[u64],
+    memory: &mut [u64],
+    s: u64,
+    name: u64,
+) -> Result<Answer, Refusal>
     requires { OpenStore words.now index.now memory.old }
     ensures words_value { left (told result) words.now ≡ run (find s name) words.now }
     ensures open_store { OpenStore words.now index.now memory.new }
@@ -291,7 +380,13 @@ pub fn find(words: &[u64], index: &[u64], memory: &mut [u64], s: u64, name: u64)
 }
 
 // The first field of this alias, or absent.
-pub fn find_alias(words: &[u64], index: &[u64], memory: &mut [u64], s: u64, alias: u64) -> Result<Answer, Refusal>
+pub fn find_alias(
+    words: &[u64],
+    index: &[u64],
+    memory: &mut [u64],
+    s: u64,
+    alias: u64,
+) -> Result<Answer, Refusal>
     requires { OpenStore words.now index.now memory.old }
     ensures words_value { left (told result) words.now ≡ run (find_alias s alias) words.now }
     ensures open_store { OpenStore words.now index.now memory.new }
@@ -314,7 +409,13 @@ pub fn is_ary(words: &[u64], index: &[u64], memory: &mut [u64], s: u64) -> Resul
 }
 
 // The offset of a field, in bytes; at the field count the end.
-pub fn offset(words: &[u64], index: &[u64], memory: &mut [u64], s: u64, i: u64) -> Result<Answer, Refusal>
+pub fn offset(
+    words: &[u64],
+    index: &[u64],
+    memory: &mut [u64],
+    s: u64,
+    i: u64,
+) -> Result<Answer, Refusal>
     requires { OpenStore words.now index.now memory.old }
     ensures words_value { left (told result) words.now ≡ run (offset s i) words.now }
     ensures open_store { OpenStore words.now index.now memory.new }
@@ -348,7 +449,12 @@ pub fn ary_base(words: &[u64], index: &[u64], memory: &mut [u64], s: u64) -> Res
 }
 
 // The log size of an array's element.
-pub fn ary_scale(words: &[u64], index: &[u64], memory: &mut [u64], s: u64) -> Result<Answer, Refusal>
+pub fn ary_scale(
+    words: &[u64],
+    index: &[u64],
+    memory: &mut [u64],
+    s: u64,
+) -> Result<Answer, Refusal>
     requires { OpenStore words.now index.now memory.old }
     ensures words_value { left (told result) words.now ≡ run (ary_scale_is s) words.now }
     ensures open_store { OpenStore words.now index.now memory.new }

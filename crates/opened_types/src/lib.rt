@@ -21,7 +21,12 @@ pub fn kind(words: &[u64], index: &[u64], memory: &mut [u64], h: u64) -> Result<
 }
 
 // The Int 0..0 or 1..1, for a flag.
-pub fn get_bool(words: &[u64], index: &[u64], memory: &mut [u64], value: u64) -> Result<Answer, Refusal>
+pub fn get_bool(
+    words: &[u64],
+    index: &[u64],
+    memory: &mut [u64],
+    value: u64,
+) -> Result<Answer, Refusal>
     requires { OpenStore words.now index.now memory.old }
     ensures words_value { left (told result) words.now ≡ run (get_bool value) words.now }
     ensures open_store { OpenStore words.now index.now memory.new }
@@ -30,7 +35,12 @@ pub fn get_bool(words: &[u64], index: &[u64], memory: &mut [u64], value: u64) ->
 }
 
 // The Int of one value.
-pub fn get_int(words: &mut [u64], index: &mut [u64], memory: &mut [u64], value: u64) -> Result<u64, Refusal>
+pub fn get_int(
+    words: &mut [u64],
+    index: &mut [u64],
+    memory: &mut [u64],
+    value: u64,
+) -> Result<u64, Refusal>
     requires { OpenStore words.old index.old memory.old }
     ensures words_after { left (made result) words.new ≡ run (get_int value) words.old }
     ensures open_store { OpenStore words.new index.new memory.new }
@@ -54,7 +64,12 @@ pub fn make_int(
 }
 
 // The Float of a constant, by its bits.
-pub fn get_float(words: &mut [u64], index: &mut [u64], memory: &mut [u64], bits: u64) -> Result<u64, Refusal>
+pub fn get_float(
+    words: &mut [u64],
+    index: &mut [u64],
+    memory: &mut [u64],
+    bits: u64,
+) -> Result<u64, Refusal>
     requires { OpenStore words.old index.old memory.old }
     ensures words_after { left (made result) words.new ≡ run (get_float bits) words.old }
     ensures open_store { OpenStore words.new index.new memory.new }
@@ -78,7 +93,12 @@ pub fn make_float(
 }
 
 // A tuple of the types whose handles are lent.
-pub fn get_tuple(words: &mut [u64], index: &mut [u64], memory: &mut [u64], types: &[u64]) -> Result<u64, Refusal>
+pub fn get_tuple(
+    words: &mut [u64],
+    index: &mut [u64],
+    memory: &mut [u64],
+    types: &[u64],
+) -> Result<u64, Refusal>
     requires { OpenStore words.old index.old memory.old }
     ensures words_after { left (made result) words.new ≡ run (get_tuple types.now) words.old }
     ensures open_store { OpenStore words.new index.new memory.new }
@@ -87,7 +107,12 @@ pub fn get_tuple(words: &mut [u64], index: &mut [u64], memory: &mut [u64], types
 }
 
 // A name of lent bytes.
-pub fn get_str(words: &mut [u64], index: &mut [u64], memory: &mut [u64], name: &[u8]) -> Result<u64, Refusal>
+pub fn get_str(
+    words: &mut [u64],
+    index: &mut [u64],
+    memory: &mut [u64],
+    name: &[u8],
+) -> Result<u64, Refusal>
     requires { OpenStore words.old index.old memory.old }
     ensures words_after { left (made result) words.new ≡ run (get_str name.now) words.old }
     ensures open_store { OpenStore words.new index.new memory.new }
@@ -136,7 +161,12 @@ pub fn make_ary(
 }
 
 // The forward reference of a name.
-pub fn make_struct_fref(words: &mut [u64], index: &mut [u64], memory: &mut [u64], name: u64) -> Result<u64, Refusal>
+pub fn make_struct_fref(
+    words: &mut [u64],
+    index: &mut [u64],
+    memory: &mut [u64],
+    name: u64,
+) -> Result<u64, Refusal>
     requires { OpenStore words.old index.old memory.old }
     ensures words_after { left (made result) words.new ≡ run (make_struct_fref name) words.old }
     ensures open_store { OpenStore words.new index.new memory.new }
@@ -160,7 +190,13 @@ pub fn get_mem_ptr(
 }
 
 // A memory of an alias and a type.
-pub fn get_mem(words: &mut [u64], index: &mut [u64], memory: &mut [u64], alias: u64, t: u64) -> Result<u64, Refusal>
+pub fn get_mem(
+    words: &mut [u64],
+    index: &mut [u64],
+    memory: &mut [u64],
+    alias: u64,
+    t: u64,
+) -> Result<u64, Refusal>
     requires { OpenStore words.old index.old memory.old }
     ensures words_after { left (made result) words.new ≡ run (get_mem alias t) words.old }
     ensures open_store { OpenStore words.new index.new memory.new }

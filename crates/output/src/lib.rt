@@ -30,7 +30,12 @@ pub fn put<W: Write>(
             let filled = Words(&session.output);
             writeln!(out, "{n} :{}{filled}", space(!session.output.is_empty()))
         }
-        Reply::Search(EntrySearch { found: Some(h), count }) => writeln!(out, "{h} {count}"),
+        Reply::Search(
+            EntrySearch {
+                found: Some(h),
+                count,
+            },
+        ) => writeln!(out, "{h} {count}"),
         Reply::Search(EntrySearch { found: None, count }) => writeln!(out, "absent {count}"),
         Reply::Saved(n) => {
             let saved = Hex(&session.files.saved);

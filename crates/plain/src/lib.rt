@@ -50,12 +50,7 @@ fn append_with<const MARKS: usize>(
     append_in(words, &mut bits, making, list, text)
 }
 
-pub fn append(
-    words: &mut [u64],
-    making: Making,
-    list: &[u64],
-    text: &[u8],
-) -> Result<u64, Refusal>
+pub fn append(words: &mut [u64], making: Making, list: &[u64], text: &[u8]) -> Result<u64, Refusal>
     ensures { left (made result) words.new ≡ run (appended making list.now text.now) words.old }
 {
     let n = words.len();
@@ -111,12 +106,7 @@ pub fn ask(words: &[u64], asking: Asking) -> Result<Answer, Refusal>
 }
 
 // A call that fills a lent output.
-pub fn fill(
-    words: &[u64],
-    filling: Filling,
-    s: u64,
-    output: &mut [u64],
-) -> Result<Answer, Refusal>
+pub fn fill(words: &[u64], filling: Filling, s: u64, output: &mut [u64]) -> Result<Answer, Refusal>
     ensures words_value { left (told result) words.now ≡ run (asked_filling filling s (length output.old)) words.now }
     ensures output_after { output.new ≡ output_of filling s words.now output.old }
 {

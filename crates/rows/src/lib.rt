@@ -175,7 +175,13 @@ fn struct_unfit(words: &[u64], used: usize, name: u64, fields: &[u64]) -> bool
     )
 }
 
-pub fn struct_rows(words: &[u64], used: usize, bits: &[u64], name: u64, fields: &[u64]) -> Result<(), Refusal>
+pub fn struct_rows(
+    words: &[u64],
+    used: usize,
+    bits: &[u64],
+    name: u64,
+    fields: &[u64],
+) -> Result<(), Refusal>
     requires { Marked words.now bits.now used }
     ensures { row_of result ≡ struct_rows name fields.now (take used words.now) }
 {

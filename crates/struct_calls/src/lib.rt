@@ -34,7 +34,13 @@ pub enum OfStruct {
 
 // ---- rows
 
-fn filling_rows(words: &[u64], used: usize, bits: &[u64], filling: Filling, s: u64) -> Result<(), Refusal>
+fn filling_rows(
+    words: &[u64],
+    used: usize,
+    bits: &[u64],
+    filling: Filling,
+    s: u64,
+) -> Result<(), Refusal>
     requires { Marked words.now bits.now used }
     ensures { row_of result ≡ filling_rows filling s (take used words.now) }
 {
@@ -57,7 +63,14 @@ fn filled(words: &[u64], used: usize, filling: Filling, s: usize) -> u64
     }
 }
 
-fn fill_rows(words: &[u64], used: usize, bits: &[u64], filling: Filling, n: u64, s: u64) -> Result<(), Refusal>
+fn fill_rows(
+    words: &[u64],
+    used: usize,
+    bits: &[u64],
+    filling: Filling,
+    n: u64,
+    s: u64,
+) -> Result<(), Refusal>
     requires { Marked words.now bits.now used }
     ensures { row_of result ≡ output_rows (filling_rows filling s) (filled_words filling s) n (take used words.now) }
 {
@@ -69,7 +82,13 @@ fn fill_rows(words: &[u64], used: usize, bits: &[u64], filling: Filling, n: u64,
 }
 
 // The rows of each.
-pub fn rows_of(words: &[u64], used: usize, bits: &[u64], of: OfStruct, s: u64) -> Result<(), Refusal>
+pub fn rows_of(
+    words: &[u64],
+    used: usize,
+    bits: &[u64],
+    of: OfStruct,
+    s: u64,
+) -> Result<(), Refusal>
     requires { Marked words.now bits.now used }
     ensures { row_of result ≡ of_struct_rows of s (take used words.now) }
 {
