@@ -1,6 +1,9 @@
 // The lines about the list itself.
 #![tactic(auto)]
 
+ghost use Rattle.std.specs.Prelude.{◌≡◌, ◌≤◌, length, replicate, vec_len, vec_capacity, OnSome, IfNone};
+ghost use Rattle.list_lines.specs.Changes.{IsBy, changed, remembered};
+
 use replies::Reply;
 use script::Answer;
 
@@ -46,7 +49,10 @@ pub enum Reading {
     FindEntry,
 }
 
-pub fn order_of(name: &[u8], a: &[u64]) -> Order {
+// The line of a name and of the numbers behind it.
+pub fn order_of(name: &[u8], a: &[u64]) -> Order
+    ensures { IsBy result (length a.now) }
+{
     match (name, a) {
         (b"list", &[n]) => Order::Close(Closing::List(n, 0)),
         (b"list", &[n, value]) => Order::Close(Closing::List(n, value)),
@@ -69,8 +75,13 @@ pub fn order_of(name: &[u8], a: &[u64]) -> Order {
 
 // ---- lines that close
 
-// Changes the list.
-pub fn change(closing: Closing, words: &mut Vec<u64>) -> Option<Reply> {
+// Changes the list. One that has room for the most words is left as it is where the line is refused.
+pub fn change(closing: Closing, words: &mut Vec<u64>) -> Option<Reply>
+    ensures changed { OnSome result (words.new.items ≡ changed closing words.old.items) }
+    ensures unchanged { WORDS ≤ vec_capacity words.old → IfNone result (words.new.items ≡ words.old.items) }
+    ensures most { vec_len words.old ≤ WORDS → vec_len words.new ≤ WORDS }
+    ensures room { vec_capacity words.old ≤ vec_capacity words.new }
+{
     match closing {
         Closing::List(n, value) => {
             renew(words, n, value)?;
@@ -90,7 +101,12 @@ pub fn change(closing: Closing, words: &mut Vec<u64>) -> Option<Reply> {
 }
 
 // Makes the list one of n words, each the value. One that is too long leaves it as it is.
-fn renew(words: &mut Vec<u64>, n: u64, value: u64) -> Option<()> {
+fn renew(words: &mut Vec<u64>, n: u64, value: u64) -> Option<()>
+    ensures renewed { OnSome result (words.new.items ≡ replicate n value) }
+    ensures unchanged { WORDS ≤ vec_capacity words.old → IfNone result (words.new.items ≡ words.old.items) }
+    ensures most { vec_len words.old ≤ WORDS → vec_len words.new ≤ WORDS }
+    ensures room { vec_capacity words.old ≤ vec_capacity words.new }
+{
     let n = usize::try_from(n).ok()?;
     if n > WORDS {
         return None;
@@ -102,7 +118,11 @@ fn renew(words: &mut Vec<u64>, n: u64, value: u64) -> Option<()> {
 // ---- lines that read
 
 // The line's numbers are `a`. What is remembered is `kept`: before the first `keep` the empty list.
-pub fn read(reading: Reading, a: &[u64], words: &[u64], kept: &mut Vec<u64>) -> Option<Reply> {
+pub fn read(reading: Reading, a: &[u64], words: &[u64], kept: &mut Vec<u64>) -> Option<Reply>
+    ensures remembered { OnSome result (kept.new.items ≡ remembered reading words.now kept.old.items) }
+    ensures unchanged { length words.now ≤ vec_capacity kept.old → IfNone result (kept.new.items ≡ kept.old.items) }
+    ensures room { vec_capacity kept.old ≤ vec_capacity kept.new }
+{
     match reading {
         Reading::Peek(i) => {
             let word = *words.get(usize::try_from(i).ok()?)?;
@@ -118,5 +138,23 @@ pub fn read(reading: Reading, a: &[u64], words: &[u64], kept: &mut Vec<u64>) -> 
         }
         Reading::Kept => Some((words == kept.as_slice()).into()),
         Reading::FindEntry => Some(entry_search::find_entry(words, a).into()),
+    }
+}
+
+#[cfg(test)]
+mod tests {
+    use super::*;
+    use std::test::Fail;
+
+    // Lists without room get it: no contract can say that there is memory.
+    #[test]
+    fn lists_are_made_and_remembered(rt: HostRuntime) -> Result<(), Fail> {
+        let mut words = Vec::new(rt.alloc());
+        assert!(rt; change(Closing::List(3, 7), &mut words).is_some());
+        assert_eq!(rt; words.as_slice(), [7, 7, 7].as_slice());
+        let mut kept = Vec::new(rt.alloc());
+        assert!(rt; read(Reading::Keep, &[], &words, &mut kept).is_some());
+        assert_eq!(rt; kept.as_slice(), words.as_slice());
+        Ok(())
     }
 }
