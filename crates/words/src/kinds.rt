@@ -1,4 +1,5 @@
 // Document 01's table of kinds: the kinds, and the head word, "kind + 256 × depth + 65,536 × n". The same names stand in specs/Kinds.antt.
+// Numbers and not an enum: a head is a lent word, in whose lowest byte any number may come, and the rows of document 01 test ranges of kinds.
 pub const NAME: u64 = 0;
 
 pub const BOT: u64 = 1;
