@@ -138,6 +138,9 @@ class Contracts:
         if solid[0].text == "ensures":
             result.made = self.world.tools.built_in(RESULT)
             bound[RESULT] = result
+        for token in solid:
+            if token.text in scope.constants and token.text not in bound:
+                set_role(token, "constant", scope.constants[token.text])
         self.resolver.walk(scope, group.items, bound)
         for token in found:
             set_role(token, token.kind if token.kind != "name" else "unresolved")
