@@ -31,7 +31,7 @@ pub fn is_single(x: f64) -> bool
 }
 
 // Two sizes.
-#[tactic(auto, using(crate::proofs::Cases::of_sizes, crate::proofs::Cases::first_64, crate::proofs::Cases::second_64, crate::proofs::Cases::second_minus_64, crate::proofs::Cases::first_minus_64, crate::proofs::Cases::first_32, crate::proofs::Cases::second_32, crate::proofs::Cases::first_other, crate::proofs::Cases::second_other, crate::proofs::Cases::both_minus_32))]
+#[tactic(auto, using(std::proofs::lemmas::Bool::Decides::nat_tests, crate::proofs::Cases::of_sizes), unfolding(crate::proofs::Cases::two_sizes))]
 fn sizes(z: i8, t: i8) -> FloatMeet
     ensures { result ≡ float_rule (Sized z) (Sized t) }
 {
@@ -46,7 +46,7 @@ fn sizes(z: i8, t: i8) -> FloatMeet
 }
 
 // A size and a constant.
-#[tactic(auto, using(crate::proofs::Cases::of_size_first, crate::proofs::Cases::sized_64, crate::proofs::Cases::sized_minus_64, crate::proofs::Cases::not_single, crate::proofs::Cases::sized_32, crate::proofs::Cases::sized_minus_32, crate::proofs::Cases::no_size))]
+#[tactic(auto, using(std::proofs::lemmas::Bool::Decides::nat_tests, crate::proofs::Cases::of_size_first), unfolding(crate::proofs::Cases::size_and_constant))]
 fn size_first(z: i8, y: f64) -> FloatMeet
     ensures { result ≡ float_rule (Sized z) (Constant y) }
 {
@@ -61,7 +61,7 @@ fn size_first(z: i8, y: f64) -> FloatMeet
 }
 
 // A constant and a size.
-#[tactic(auto, using(crate::proofs::Cases::of_constant_first, crate::proofs::Cases::sized_64, crate::proofs::Cases::sized_minus_64, crate::proofs::Cases::not_single, crate::proofs::Cases::sized_32, crate::proofs::Cases::sized_minus_32, crate::proofs::Cases::no_size))]
+#[tactic(auto, using(std::proofs::lemmas::Bool::Decides::nat_tests, crate::proofs::Cases::of_constant_first), unfolding(crate::proofs::Cases::size_and_constant))]
 fn constant_first(x: f64, t: i8) -> FloatMeet
     ensures { result ≡ float_rule (Constant x) (Sized t) }
 {
@@ -76,7 +76,7 @@ fn constant_first(x: f64, t: i8) -> FloatMeet
 }
 
 // Two constants.
-#[tactic(auto, using(crate::proofs::Cases::first_not_single, crate::proofs::Cases::second_not_single, crate::proofs::Cases::both_single))]
+#[tactic(auto, unfolding(crate::specs::FloatRule::float_rule))]
 fn constants(x: f64, y: f64) -> FloatMeet
     ensures { result ≡ float_rule (Constant x) (Constant y) }
 {

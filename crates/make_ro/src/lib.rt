@@ -19,6 +19,7 @@ ghost use Rattle.words.specs.Kinds.{Struct};
 use words::{Interned, columns, kinds, limits};
 
 // Makes the struct at a again with these types, every field final.
+#[tactic(auto, using(crate::proofs::Finals::ones_many, crate::proofs::Finals::ones_fit))]
 fn made_final(
     old: &[u64],
     new: &mut [u64],
