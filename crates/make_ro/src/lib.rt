@@ -38,7 +38,7 @@ fn made_final(
     structs::made_again(old, new, used, a, types, &finals[..n], index)
 }
 
-// What a type is remembered under: its handle; or 0, which is nothing, for a type that is its own answer.
+// What a type is remembered under: its handle; or 0, which is nothing, for a type that is its own answer. No Option: `memo::recall` says why.
 fn ro_key(kind: u64, a: usize) -> u64
     ensures { (result ≡ 0 → ⊥) → result ≡ a }
 {
