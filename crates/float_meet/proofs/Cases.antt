@@ -1,11 +1,10 @@
--- The meet of two readings in the code's order of tests, on the sizes' bits: two sizes, a size and a constant, two constants. Assumes nothing.
-use mathlib.Core.Path.{◌≡◌, refl, sym, ◌∙◌}
+-- The meet of two readings in the code's order of tests, on the sizes' bits: two sizes, a size and a constant. Assumes nothing.
+use mathlib.Core.Path.{◌≡◌, refl, ◌∙◌}
 use mathlib.Core.Bool.{Bool, true, false, not, ◌&&◌}
 use Prim.Native.Nat.{ℕ}
 use lib.Dec.{eqb}
 use lib.IntN.{ℤ}
 use lib.Ieee.{Float as F64}
-use borrow.Author.Tests.{eq-eqb, ne_eqb, not-true, not-false}
 use mir.Syntax.{w8}
 use mir.Val.{SFits, of_z}
 use Rattle.rules.specs.Column.{◌⇒◌∣◌}
@@ -18,7 +17,7 @@ use Rattle.float_meet.proofs.SizeTest.{tests}
 
 -- ---- two sizes, with the bits a and b
 
-pub two_sizes : ℕ → ℕ → FloatMeet
+unfoldable pub two_sizes : ℕ → ℕ → FloatMeet
 two_sizes a b =
     eqb a 64 ⇒ Double ∣
     eqb b 64 ⇒ Double ∣
@@ -53,54 +52,9 @@ of_sizes z t f g =
     sizes_order (is64 (Sized z)) (is64 (Sized t)) (is_minus64 (Sized t)) (is_minus64 (Sized z)) (is32 (Sized z)) (is32 (Sized t)) (is_minus32 (Sized z)) (is_minus32 (Sized t))
     ∙ rw (i.p64, j.p64, j.m64, i.m64, i.p32, j.p32, i.m32, j.m32)
 
-module _ (a b : ℕ) where
-  pub first_64 : a ≡ 64 → Double ≡ two_sizes a b
-  unfolding two_sizes
-  first_64 e = rw (eq-eqb a 64 e)
-
-  module _ (n1 : a ≡ 64 → ⊥) where
-    pub second_64 : b ≡ 64 → Double ≡ two_sizes a b
-    unfolding two_sizes
-    second_64 e = rw (ne_eqb a 64 n1, eq-eqb b 64 e)
-
-    module _ (n2 : b ≡ 64 → ⊥) where
-      pub second_minus_64 : b ≡ 192 → First ≡ two_sizes a b
-      unfolding two_sizes
-      second_minus_64 e = rw (ne_eqb a 64 n1, ne_eqb b 64 n2, eq-eqb b 192 e)
-
-      module _ (n3 : b ≡ 192 → ⊥) where
-        pub first_minus_64 : a ≡ 192 → Second ≡ two_sizes a b
-        unfolding two_sizes
-        first_minus_64 e = rw (ne_eqb a 64 n1, ne_eqb b 64 n2, ne_eqb b 192 n3, eq-eqb a 192 e)
-
-        module _ (n4 : a ≡ 192 → ⊥) where
-          pub first_32 : a ≡ 32 → Single ≡ two_sizes a b
-          unfolding two_sizes
-          first_32 e = rw (ne_eqb a 64 n1, ne_eqb b 64 n2, ne_eqb b 192 n3, ne_eqb a 192 n4, eq-eqb a 32 e)
-
-          module _ (n5 : a ≡ 32 → ⊥) where
-            pub second_32 : b ≡ 32 → Single ≡ two_sizes a b
-            unfolding two_sizes
-            second_32 e = rw (ne_eqb a 64 n1, ne_eqb b 64 n2, ne_eqb b 192 n3, ne_eqb a 192 n4, ne_eqb a 32 n5, eq-eqb b 32 e)
-
-            module _ (n6 : b ≡ 32 → ⊥) where
-              pub first_other : (a ≡ 224 → ⊥) → Double ≡ two_sizes a b
-              unfolding two_sizes
-              first_other e = rw (ne_eqb a 64 n1, ne_eqb b 64 n2, ne_eqb b 192 n3, ne_eqb a 192 n4, ne_eqb a 32 n5, ne_eqb b 32 n6, ne_eqb a 224 e)
-
-              module _ (n7 : a ≡ 224) where
-                pub second_other : (b ≡ 224 → ⊥) → Double ≡ two_sizes a b
-                unfolding two_sizes
-                second_other e = rw (ne_eqb a 64 n1, ne_eqb b 64 n2, ne_eqb b 192 n3, ne_eqb a 192 n4, ne_eqb a 32 n5, ne_eqb b 32 n6, eq-eqb a 224 n7, ne_eqb b 224 e)
-
-                module _ (n8 : b ≡ 224) where
-                  pub both_minus_32 : First ≡ two_sizes a b
-                  unfolding two_sizes
-                  both_minus_32 = rw (ne_eqb a 64 n1, ne_eqb b 64 n2, ne_eqb b 192 n3, ne_eqb a 192 n4, ne_eqb a 32 n5, ne_eqb b 32 n6, eq-eqb a 224 n7, eq-eqb b 224 n8)
-
 -- ---- a size with the bits a, and a constant that is single or not; `own` is the answer that is the constant
 
-pub size_and_constant : FloatMeet → ℕ → Bool → FloatMeet
+unfoldable pub size_and_constant : FloatMeet → ℕ → Bool → FloatMeet
 size_and_constant own a single =
     eqb a 64 ⇒ Double ∣
     eqb a 192 ⇒ own ∣
@@ -151,48 +105,3 @@ module _ (z : ℤ) (f : SFits w8 z) (y : F64) where
   pub of_constant_first : float_rule (Constant y) (Sized z) ≡ size_and_constant First (of_z w8 z) (holds_single y)
   unfolding float_rule
   of_constant_first = constant_first_order (is64 (Sized z)) (is_minus64 (Sized z)) (is32 (Sized z)) (is_minus32 (Sized z)) (holds_single y) ∙ by_bits First
-
-module _ (own : FloatMeet) (a : ℕ) (single : Bool) where
-  pub sized_64 : a ≡ 64 → Double ≡ size_and_constant own a single
-  unfolding size_and_constant
-  sized_64 e = rw (eq-eqb a 64 e)
-
-  module _ (n1 : a ≡ 64 → ⊥) where
-    pub sized_minus_64 : a ≡ 192 → own ≡ size_and_constant own a single
-    unfolding size_and_constant
-    sized_minus_64 e = rw (ne_eqb a 64 n1, eq-eqb a 192 e)
-
-    module _ (n2 : a ≡ 192 → ⊥) (r : Bool) (same : r ≡ single) where
-      pub not_single : not r ≡ true → Double ≡ size_and_constant own a single
-      unfolding size_and_constant
-      not_single e = rw (ne_eqb a 64 n1, ne_eqb a 192 n2, sym same ∙ not-true r e)
-
-      module _ (n3 : not r ≡ false) where
-        pub sized_32 : a ≡ 32 → Single ≡ size_and_constant own a single
-        unfolding size_and_constant
-        sized_32 e = rw (ne_eqb a 64 n1, ne_eqb a 192 n2, sym same ∙ not-false r n3, eq-eqb a 32 e)
-
-        module _ (n4 : a ≡ 32 → ⊥) where
-          pub sized_minus_32 : a ≡ 224 → own ≡ size_and_constant own a single
-          unfolding size_and_constant
-          sized_minus_32 e = rw (ne_eqb a 64 n1, ne_eqb a 192 n2, sym same ∙ not-false r n3, ne_eqb a 32 n4, eq-eqb a 224 e)
-
-          pub no_size : (a ≡ 224 → ⊥) → Double ≡ size_and_constant own a single
-          unfolding size_and_constant
-          no_size n5 = rw (ne_eqb a 64 n1, ne_eqb a 192 n2, sym same ∙ not-false r n3, ne_eqb a 32 n4, ne_eqb a 224 n5)
-
--- ---- two constants
-
-module _ (x y : F64) (r : Bool) (is : r ≡ holds_single x) where
-  pub first_not_single : not r ≡ true → Double ≡ float_rule (Constant x) (Constant y)
-  unfolding float_rule
-  first_not_single e = rw (sym is ∙ not-true r e)
-
-  module _ (n : not r ≡ false) (s : Bool) (too : s ≡ holds_single y) where
-    pub second_not_single : not s ≡ true → Double ≡ float_rule (Constant x) (Constant y)
-    unfolding float_rule
-    second_not_single e = rw (sym is ∙ not-false r n, sym too ∙ not-true s e)
-
-    pub both_single : not s ≡ false → Single ≡ float_rule (Constant x) (Constant y)
-    unfolding float_rule
-    both_single e = rw (sym is ∙ not-false r n, sym too ∙ not-false s e)

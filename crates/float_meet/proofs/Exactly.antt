@@ -1,18 +1,11 @@
 -- Whether binary32 holds a double, asked of its bits: a NaN has none of its own, any other double is the one with its bits. Assumes nothing.
 use mathlib.Core.Path.{◌≡◌, ◌∙◌}
-use mathlib.Core.Bool.{Bool, true, false}
-use lib.Ieee.{Float, nan, fits, is_nan, binary64, of_bits, to_bits, ne}
+use mathlib.Core.Bool.{Bool, true}
+use lib.Ieee.{Float, fits, binary64, of_bits, to_bits}
 use lib.Ieee.Bits.{of_bits-to_bits}
-use lib.Ieee.Compare.{differs_from_itself}
 use Rattle.type_float.specs.Single.{holds_single, is_single}
 
 module _ (x : Float) where
-  pub nan_not : ne x x ≡ true → false ≡ holds_single x
-  unfolding fits is_nan
-  nan_not e =
-      let q : x ≡ nan = differs_from_itself x (rw e tt) in
-      rw q
-
   pub by_bits : fits binary64 x ≡ true → (r : Bool) → r ≡ is_single (to_bits binary64 x) → r ≡ holds_single x
   unfolding is_single
   by_bits held r is =

@@ -19,93 +19,64 @@ pub enum FloatMeet {
     Double,
 }
 
-// Whether binary32 holds the value: no NaN, which alone differs from itself.
+// Whether binary32 holds the value: no NaN is held.
+#[tactic(auto, using(crate::proofs::Exactly::by_bits))]
 pub fn is_single(x: f64) -> bool
     ensures { result ≡ holds_single x }
 {
-    if x != x {
+    if x.is_nan() {
         return false;
     }
-    type_float::is_f32(f64::to_bits(x))
+    type_float::is_f32(x.to_bits())
 }
 
 // Two sizes.
+#[tactic(auto, using(std::proofs::lemmas::Bool::Decides::nat_tests, crate::proofs::Cases::of_sizes), unfolding(crate::proofs::Cases::two_sizes))]
 fn sizes(z: i8, t: i8) -> FloatMeet
     ensures { result ≡ float_rule (Sized z) (Sized t) }
 {
-    if z == 64 {
-        return FloatMeet::Double;
+    match (z, t) {
+        (64, _) | (_, 64) => FloatMeet::Double,
+        (_, -64) => FloatMeet::First,
+        (-64, _) => FloatMeet::Second,
+        (32, _) | (_, 32) => FloatMeet::Single,
+        (-32, -32) => FloatMeet::First,
+        _ => FloatMeet::Double,
     }
-    if t == 64 {
-        return FloatMeet::Double;
-    }
-    if t == -64 {
-        return FloatMeet::First;
-    }
-    if z == -64 {
-        return FloatMeet::Second;
-    }
-    if z == 32 {
-        return FloatMeet::Single;
-    }
-    if t == 32 {
-        return FloatMeet::Single;
-    }
-    if z != -32 {
-        return FloatMeet::Double;
-    }
-    if t != -32 {
-        return FloatMeet::Double;
-    }
-    FloatMeet::First
 }
 
 // A size and a constant.
+#[tactic(auto, using(std::proofs::lemmas::Bool::Decides::nat_tests, crate::proofs::Cases::of_size_first), unfolding(crate::proofs::Cases::size_and_constant))]
 fn size_first(z: i8, y: f64) -> FloatMeet
     ensures { result ≡ float_rule (Sized z) (Constant y) }
 {
-    if z == 64 {
-        return FloatMeet::Double;
+    match z {
+        64 => FloatMeet::Double,
+        -64 => FloatMeet::Second,
+        _ if !is_single(y) => FloatMeet::Double,
+        32 => FloatMeet::Single,
+        -32 => FloatMeet::Second,
+        _ => FloatMeet::Double,
     }
-    if z == -64 {
-        return FloatMeet::Second;
-    }
-    if !is_single(y) {
-        return FloatMeet::Double;
-    }
-    if z == 32 {
-        return FloatMeet::Single;
-    }
-    if z == -32 {
-        return FloatMeet::Second;
-    }
-    FloatMeet::Double
 }
 
 // A constant and a size.
+#[tactic(auto, using(std::proofs::lemmas::Bool::Decides::nat_tests, crate::proofs::Cases::of_constant_first), unfolding(crate::proofs::Cases::size_and_constant))]
 fn constant_first(x: f64, t: i8) -> FloatMeet
     ensures { result ≡ float_rule (Constant x) (Sized t) }
 {
-    if t == 64 {
-        return FloatMeet::Double;
+    match t {
+        64 => FloatMeet::Double,
+        -64 => FloatMeet::First,
+        _ if !is_single(x) => FloatMeet::Double,
+        32 => FloatMeet::Single,
+        -32 => FloatMeet::First,
+        _ => FloatMeet::Double,
     }
-    if t == -64 {
-        return FloatMeet::First;
-    }
-    if !is_single(x) {
-        return FloatMeet::Double;
-    }
-    if t == 32 {
-        return FloatMeet::Single;
-    }
-    if t == -32 {
-        return FloatMeet::First;
-    }
-    FloatMeet::Double
 }
 
 // Two constants.
-#[tactic(auto, using(crate::proofs::Cases::first_not_single, crate::proofs::Cases::second_not_single, crate::proofs::Cases::both_single))]
+#[tactic(auto, unfolding(crate::specs::FloatRule::float_rule))]
 fn constants(x: f64, y: f64) -> FloatMeet
     ensures { result ≡ float_rule (Constant x) (Constant y) }
 {
@@ -121,16 +92,10 @@ fn constants(x: f64, y: f64) -> FloatMeet
 pub fn meet(f: Float, g: Float) -> FloatMeet
     ensures { result ≡ float_rule (reading_of f) (reading_of g) }
 {
-    let r = type_float::reading_of(f);
-    let s = type_float::reading_of(g);
-    match r {
-        Reading::Constant(x) => match s {
-            Reading::Constant(y) => constants(x, y),
-            Reading::Sized(t) => constant_first(x, t),
-        },
-        Reading::Sized(z) => match s {
-            Reading::Constant(y) => size_first(z, y),
-            Reading::Sized(t) => sizes(z, t),
-        },
+    match (type_float::reading_of(f), type_float::reading_of(g)) {
+        (Reading::Constant(x), Reading::Constant(y)) => constants(x, y),
+        (Reading::Constant(x), Reading::Sized(t)) => constant_first(x, t),
+        (Reading::Sized(z), Reading::Constant(y)) => size_first(z, y),
+        (Reading::Sized(z), Reading::Sized(t)) => sizes(z, t),
     }
 }

@@ -19,6 +19,7 @@ ghost use Rattle.words.specs.Kinds.{Struct};
 use words::{Interned, columns, kinds, limits};
 
 // Makes the struct at a again with these types, every field final.
+#[tactic(auto, using(crate::proofs::Finals::ones_many, crate::proofs::Finals::ones_fit))]
 fn made_final(
     old: &[u64],
     new: &mut [u64],
@@ -37,7 +38,7 @@ fn made_final(
     structs::made_again(old, new, used, a, types, &finals[..n], index)
 }
 
-// What a type is remembered under: its handle; or 0, which is nothing, for a type that is its own answer.
+// What a type is remembered under: its handle; or 0, which is nothing, for a type that is its own answer. No Option: `memo::recall` says why.
 fn ro_key(kind: u64, a: usize) -> u64
     ensures { (result ≡ 0 → ⊥) → result ≡ a }
 {

@@ -23,7 +23,7 @@ fn pair_key(a: usize, b: usize) -> u64
 }
 
 // The same for two types, by the rule that decides; 0, under which nothing is remembered, where no part is met, and for structs, which the struct's
-// meet remembers.
+// meet remembers. No Option: `memo::recall` says why.
 fn meet_key(rule: Rule, a: usize, b: usize) -> u64
     requires { (a < longest_allowed) × (b < longest_allowed) }
     ensures { (result ≡ 0 → ⊥) → result ≡ pair_key a b }

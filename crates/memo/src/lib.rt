@@ -50,31 +50,8 @@ fn after(lines: usize, i: usize) -> usize
     0
 }
 
-// The answer to a key, if one of its lines has it.
-#[tactic(auto, using(crate::proofs::Lines::tells_nothing, crate::proofs::Lines::tells_line))]
-pub fn recall(memo: &[u64], key: u64) -> Option<u64>
-    ensures { Tells memo.now key result }
-{
-    let lines = memo.len();
-    if lines == 0 || key == 0 {
-        return None;
-    }
-    let mut i = home(lines, key);
-    for _ in 0..probes(lines) {
-        let line = memo[i];
-        if line == 0 {
-            return None;
-        }
-        if line / ANSWERS == key {
-            return Some(line % ANSWERS);
-        }
-        i = after(lines, i);
-    }
-    None
-}
-
 // A line for a key: one that has it, or the first empty one, else the one that it asks for.
-fn free(memo: &[u64], key: u64) -> usize
+fn place(memo: &[u64], key: u64) -> usize
     requires { 0 < length memo.now }
     ensures { result < length memo.now }
 {
@@ -90,6 +67,21 @@ fn free(memo: &[u64], key: u64) -> usize
     home(lines, key)
 }
 
+// The answer to a key, if one of its lines has it. A key is a number, 0 for none, and no Option: a line holds it as it is, and one test here and one in `note` do for all callers.
+#[tactic(auto, using(crate::proofs::Lines::tells_nothing, crate::proofs::Lines::tells_line))]
+pub fn recall(memo: &[u64], key: u64) -> Option<u64>
+    ensures { Tells memo.now key result }
+{
+    if memo.is_empty() || key == 0 {
+        return None;
+    }
+    let line = memo[place(memo, key)];
+    if line / ANSWERS == key {
+        return Some(line % ANSWERS);
+    }
+    None
+}
+
 // From now on a line has the key, where the key and the answer fit in one.
 #[tactic(auto, using(crate::proofs::Lines::noted_none, crate::proofs::Lines::noted_line))]
 pub fn note(memo: &mut [u64], key: u64, answer: u64)
@@ -98,7 +90,7 @@ pub fn note(memo: &mut [u64], key: u64, answer: u64)
     if memo.is_empty() || key == 0 || KEYS <= key || ANSWERS <= answer {
         return;
     }
-    let i = free(memo, key);
+    let i = place(memo, key);
     memo[i] = key * ANSWERS + answer;
 }
 

@@ -6,7 +6,7 @@ use native.Mathlib.Omega.{arith}
 use lib.IntN.{ℤ, pos, negsuc, nat_abs, ◌+ℤ◌, ◌-ℤ◌}
 use lib.Dec.{eqb, T}
 use lib.Signed.{non_neg}
-use borrow.Author.Tests.{eqb-true, eqb-false, eq-eqb, ne_eqb}
+use borrow.Author.Tests.{eqb-true, eqb-false, ne_eqb}
 use mir.Syntax.{w8, w64}
 use mir.Val.{Fits, SFits, to_z, of_z}
 use mir.Facts.{sfits_lit, Fits-lit}
@@ -90,14 +90,3 @@ word_fits = each_size (λ z. T (non_neg (read (more z))) × Fits w64 (nat_abs (r
 
 pub word_is : (z : ℤ) → is_size z ≡ true → nat_abs (read (more z)) ≡ word_of z
 word_is = each_size (λ z. nat_abs (read (more z)) ≡ word_of z) refl refl refl refl refl
-
--- ---- a size of 0
-
--- the test `sz == 0` is a test of the bits
-pub bits_zero : (z : ℤ) → SFits w8 z → of_z w8 z ≡ 0 → eqb (nat_abs z) 0 ≡ true
-bits_zero (pos n) f e = eq-eqb n 0 e
-bits_zero (negsuc n) f e = absurd (omega arith)
-
-pub bits_other : (z : ℤ) → (of_z w8 z ≡ 0 → ⊥) → eqb (nat_abs z) 0 ≡ false
-bits_other (pos n) f = ne_eqb n 0 f
-bits_other (negsuc n) f = not_zero n

@@ -8,6 +8,8 @@ ghost use Rattle.std.specs.Float.{binary64};
 ghost use Rattle.type_float.specs.Float.{size_from, word_of, is_size_word, is_size, reading_of};
 ghost use Rattle.type_float.specs.Single.{is_single};
 
+use std::num;
+
 // An entry keeps a float's size plus 64.
 const SIZE_ZERO: i64 = 64;
 
@@ -32,17 +34,15 @@ pub fn is_nan(bits: u64) -> bool
     0x7FF0_0000_0000_0000 < bits % 0x8000_0000_0000_0000
 }
 
-// The double with these bits. `from_bits` is not defined at a NaN's.
+// The double with these bits, a NaN's among them.
 pub fn double(bits: u64) -> f64
     ensures { result ≡ of_bits binary64 bits }
 {
-    if is_nan(bits) {
-        return 0.0 / 0.0;
-    }
-    f64::from_bits(bits)
+    num::f64_from_bits_with_nan(bits)
 }
 
 // The float of an entry's two words.
+#[tactic(auto, using(crate::proofs::Size::word_wide, crate::proofs::Size::less_fits, crate::proofs::Size::size_fits, crate::proofs::Size::size_is))]
 pub fn float_of(size: u64, bits: u64) -> Float
     requires { is_size_word size ≡ true }
     ensures { (result.sz ≡ size_from size) × (result.con ≡ of_bits binary64 bits) }
@@ -54,22 +54,24 @@ pub fn float_of(size: u64, bits: u64) -> Float
 }
 
 // The word that an entry keeps for a size.
+#[tactic(auto, using(crate::proofs::Size::size_wide, crate::proofs::Size::more_fits, crate::proofs::Size::word_fits, crate::proofs::Size::word_is))]
 pub fn size_word(sz: i8) -> u64
     requires { is_size sz ≡ true }
     ensures { result ≡ word_of sz }
 {
-    (sz as i64 + SIZE_ZERO) as u64
+    (i64::from(sz) + SIZE_ZERO) as u64
 }
 
-// The bits of a constant, given beside it for a NaN: only a NaN differs from itself.
+// The bits of a constant, given beside it for a NaN.
+#[tactic(auto, using(crate::proofs::Nan::same_bits))]
 pub fn bits_of(con: f64, bits: u64) -> u64
     requires { con ≡ of_bits binary64 bits }
     ensures { result ≡ bits }
 {
-    if con != con {
+    if con.is_nan() {
         return bits;
     }
-    f64::to_bits(con)
+    con.to_bits()
 }
 
 // A constant with its value, or a size alone.
@@ -83,6 +85,7 @@ pub fn reading_of(f: Float) -> Reading
 }
 
 // Whether binary32 holds the value of the double with these bits: by the exponent's field x and the digits t.
+#[tactic(auto, using(crate::proofs::Cases::zero_is, crate::proofs::Cases::ones_is, crate::proofs::Cases::high_is, crate::proofs::Cases::low_is, crate::proofs::Cases::mid_is, crate::proofs::Cases::sub_is, crate::proofs::Cases::shift_pos))]
 pub fn is_f32(bits: u64) -> bool
     ensures { result ≡ is_single bits }
 {

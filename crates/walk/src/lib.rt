@@ -15,7 +15,7 @@ ghost use Rattle.walk.specs.Remembered.{Remembers, Remembered};
 use walk_rules::{Form, Walk};
 use words::{Interned, columns, kinds, limits};
 
-// What a type is remembered under: its handle; or 0, which is nothing, for a type whose walk meets no parts and is over soon.
+// What a type is remembered under: its handle; or 0, which is nothing, for a type whose walk meets no parts and is over soon. No Option: `memo::recall` says why.
 fn walk_key(form: Form, a: usize) -> u64
     ensures { (result ≡ 0 → ⊥) → result ≡ a }
 {

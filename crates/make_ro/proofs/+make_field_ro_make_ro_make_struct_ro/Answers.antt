@@ -5,8 +5,8 @@ use lib.Seq.{length-take-le}
 use Rattle.parts.proofs.Grew.{grew_long, grew_high, grew_up, grew_covers}
 use Rattle.finals.proofs.Ways.{struct_few}
 use Rattle.make_ro.proofs.Loop.{going_next, going_turn, going_small, going_segments}
-use Rattle.make_ro.proofs.Recall.{remembers_finals, remembered_full, remembered_same, remembered_pointer, remembered_struct, made_known, made_noted}
-use Rattle.make_ro.proofs.Ways.{field_stays, field_made, other_stays, final_stays, not_final, pointer_next, pointer_full, pointer_segments, pointer_required, pointer_stays, pointer_made, struct_begin, struct_stop, struct_end, struct_values}
+use Rattle.make_ro.proofs.Recall.{remembers_finals, remembered_same, remembered_pointer, remembered_struct, made_known, made_noted}
+use Rattle.make_ro.proofs.Ways.{field_stays, other_stays, final_stays, pointer_next, pointer_full, pointer_segments, pointer_required, pointer_stays, pointer_made, struct_begin, struct_stop, struct_end, struct_values}
 use Rattle.make_ro.proofs.+make_field_ro_make_ro_make_struct_ro.Goals as goal
 
 pub make_field_ro-returns-then-value-eq1 : goal.make_field_ro-returns-then-value-eq1
