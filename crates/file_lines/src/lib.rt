@@ -2,6 +2,9 @@
 // name is `rest`.
 #![tactic(auto)]
 
+ghost use Rattle.std.specs.Prelude.{◌≡◌, ℕ, ◌≤◌, ◌↔◌, [], ◌∷◌, ◌++◌, length, take, set, replicate, vec_len, vec_capacity, IsSome, OnSome, IfNone, IfOk};
+ghost use Rattle.catalogue.specs.Catalogue.{load_call, save_output};
+
 use replies::Reply;
 use script::Answer;
 use std::alloc::{AllocError, Global};
@@ -21,7 +24,10 @@ pub struct Files {
 
 impl Files {
     // The empty file, with room for the longest.
-    pub fn new(alloc: Global) -> Result<Files, AllocError> {
+    pub fn new(alloc: Global) -> Result<Files, AllocError>
+        ensures empty { IfOk result (λ f. (f.kept.items ≡ []) × (f.saved.items ≡ [])) }
+        ensures room { IfOk result (λ f. (FILE ≤ vec_capacity f.kept) × (FILE ≤ vec_capacity f.saved)) }
+    {
         Ok(Files {
             kept: Vec::with_capacity(alloc, FILE)?,
             saved: Vec::with_capacity(alloc, FILE)?,
@@ -31,7 +37,10 @@ impl Files {
     // ---- lines that load a file into the list
 
     // Loads the bytes that the line says.
-    pub fn load(rest: &[u8], words: &mut [u64], text: &mut Vec<u8>) -> Option<Reply> {
+    pub fn load(rest: &[u8], words: &mut [u64], text: &mut Vec<u8>) -> Option<Reply>
+        ensures loaded { OnSome result (words.new ≡ (load_call text.new.items words.old).words) }
+        ensures unchanged { IfNone result (words.new ≡ words.old) }
+    {
         script::text(rest, text)?;
         if text.len() > FILE {
             return None;
@@ -40,7 +49,11 @@ impl Files {
     }
 
     // Loads the kept file.
-    pub fn reload(&self, rest: &[u8], words: &mut [u64]) -> Option<Reply> {
+    pub fn reload(&self, rest: &[u8], words: &mut [u64]) -> Option<Reply>
+        ensures loaded { OnSome result (words.new ≡ (load_call self.now.kept.items words.old).words) }
+        ensures unchanged { IfNone result (words.new ≡ words.old) }
+        ensures variant { IsSome result ↔ (length rest.now ≡ 0) }
+    {
         if !rest.is_empty() {
             return None;
         }
@@ -56,7 +69,10 @@ impl Files {
         words: &[u64],
         text: &mut Vec<u8>,
         numbers: &mut Vec<u64>,
-    ) -> Option<Reply> {
+    ) -> Option<Reply>
+        ensures saved { OnSome result ((n : ℕ) × (numbers.new.items ≡ n ∷ []) × (self.new.saved.items ≡ save_output text.new.items words.now (replicate n BLANK))) }
+        ensures most { vec_len self.old.kept ≤ FILE → vec_len self.new.kept ≤ FILE }
+    {
         let label_and_more = script::after_words(rest, 1);
         let room = if label_and_more.is_empty() {
             rest
@@ -72,18 +88,31 @@ impl Files {
         if n > FILE {
             return None;
         }
+        self.save_in(words, text, n)
+    }
+
+    // Saves the list in an output of n bytes that all hold the same before, and keeps the file.
+    fn save_in(&mut self, words: &[u64], label: &[u8], n: usize) -> Option<Reply>
+        requires { n ≤ FILE }
+        ensures saved { OnSome result (self.new.saved.items ≡ save_output label.now words.now (replicate n BLANK)) }
+        ensures most { vec_len self.old.kept ≤ FILE → vec_len self.new.kept ≤ FILE }
+    {
         self.saved.clear();
         self.saved.resize(n, BLANK).ok()?;
-        let answer = catalogue::save(words, text, &mut self.saved);
-        if let Ok(call::Answer::Number(n)) = answer {
-            self.keep(n as usize)?;
-            return Some(Reply::Saved(n));
+        let answer = catalogue::save(words, label, &mut self.saved);
+        if let Ok(call::Answer::Number(used)) = answer {
+            self.keep(used as usize)?;
+            return Some(Reply::Saved(used));
         }
         Some(answer.into())
     }
 
     // Keeps the first n bytes of the output.
-    fn keep(&mut self, n: usize) -> Option<()> {
+    fn keep(&mut self, n: usize) -> Option<()>
+        ensures kept { OnSome result (self.new.kept.items ≡ take n self.old.saved.items) }
+        ensures saved { self.new.saved.items ≡ self.old.saved.items }
+        ensures most { vec_len self.new.kept ≤ vec_len self.old.saved }
+    {
         self.kept.clear();
         let n = n.min(self.saved.len());
         self.kept.extend_from_slice(&self.saved[..n]).ok()
@@ -91,12 +120,18 @@ impl Files {
 
     // ---- the kept file
 
-    pub fn show(rest: &[u8]) -> Option<Reply> {
+    // Shows the kept file.
+    pub fn show(rest: &[u8]) -> Option<Reply>
+        ensures { IsSome result ↔ (length rest.now ≡ 0) }
+    {
         rest.is_empty().then_some(Reply::File)
     }
 
     // Sets a byte.
-    pub fn poke(&mut self, rest: &[u8], numbers: &mut Vec<u64>) -> Option<Reply> {
+    pub fn poke(&mut self, rest: &[u8], numbers: &mut Vec<u64>) -> Option<Reply>
+        ensures set { OnSome result ((i value : ℕ) × (numbers.new.items ≡ i ∷ value ∷ []) × (self.new.kept.items ≡ set self.old.kept.items i value)) }
+        ensures unchanged { IfNone result (self.new.kept.items ≡ self.old.kept.items) }
+    {
         script::numbers(rest, numbers)?;
         let &[i, value] = numbers.as_slice() else {
             return None;
@@ -106,7 +141,11 @@ impl Files {
         Some(Answer::Accepted.into())
     }
 
-    pub fn cut(&mut self, rest: &[u8], numbers: &mut Vec<u64>) -> Option<Reply> {
+    // Cuts it to at most so many bytes.
+    pub fn cut(&mut self, rest: &[u8], numbers: &mut Vec<u64>) -> Option<Reply>
+        ensures cut { OnSome result ((n : ℕ) × (numbers.new.items ≡ n ∷ []) × (self.new.kept.items ≡ take n self.old.kept.items)) }
+        ensures unchanged { IfNone result (self.new.kept.items ≡ self.old.kept.items) }
+    {
         script::numbers(rest, numbers)?;
         let &[n] = numbers.as_slice() else {
             return None;
@@ -115,12 +154,37 @@ impl Files {
         Some(Answer::Accepted.into())
     }
 
-    pub fn add(&mut self, rest: &[u8], text: &mut Vec<u8>) -> Option<Reply> {
+    // Puts the bytes that the line says behind it. A file that would be too long is left as it is.
+    pub fn add(&mut self, rest: &[u8], text: &mut Vec<u8>) -> Option<Reply>
+        ensures added { OnSome result (self.new.kept.items ≡ self.old.kept.items ++ text.new.items) }
+        ensures unchanged { IfNone result (self.new.kept.items ≡ self.old.kept.items) }
+        ensures most { vec_len self.old.kept ≤ FILE → vec_len self.new.kept ≤ FILE }
+    {
         script::text(rest, text)?;
         if text.len() > FILE.saturating_sub(self.kept.len()) {
             return None;
         }
         self.kept.extend_from_slice(text).ok()?;
         Some(Answer::Accepted.into())
+    }
+}
+
+#[cfg(test)]
+mod tests {
+    use super::*;
+    use std::test::Fail;
+
+    // No contract can say that there is memory.
+    #[test]
+    fn a_file_is_kept(rt: HostRuntime) -> Result<(), Fail> {
+        let mut files = Files::new(rt.alloc())?;
+        let (mut text, mut numbers) = (Vec::new(rt.alloc()), Vec::new(rt.alloc()));
+        assert!(rt; files.add(b" 010203", &mut text).is_some());
+        assert!(rt; files.poke(b" 1 9", &mut numbers).is_some());
+        assert!(rt; files.cut(b" 2", &mut numbers).is_some());
+        assert_eq!(rt; files.kept.as_slice(), [1u8, 9].as_slice());
+        assert!(rt; files.save(b" 4", &[], &mut text, &mut numbers).is_some());
+        assert_eq!(rt; files.saved.as_slice(), [BLANK; 4].as_slice());
+        Ok(())
     }
 }
