@@ -116,6 +116,12 @@ module _ (rows : List ℕ → ℕ) (op : List ℕ → Grown) (ws : List ℕ) whe
         let n : rows (used_words ws) ≡ number_of e = rw begin_call.is at (row_turned r e _ is' q) in
         rw (handed_up s e h) (rw (begin_call.ok, n, numbered e))
 
+    -- The same of a row that has any number.
+    pub turned_by : (n : ℕ) → n ≡ rows (take used ws) → (n ≡ 0 → ⊥) → left (refused n) ws ≡ call rows op ws
+    unfolding call
+    turned_by zero q z = absurd (z refl)
+    turned_by (suc n) q z = let r : rows (used_words ws) ≡ suc n = rw begin_call.is at (sym q) in rw (begin_call.ok, r)
+
     passed : rows (used_words ws) ≡ 0 → call rows op ws ≡ settle (12 when ltb (length ws) (length (op (used_words ws)).words)) (op (used_words ws)) ws
     unfolding call
     passed q = rw (begin_call.ok, q)
@@ -168,6 +174,21 @@ module _ (rows : List ℕ → ℕ) (answer : List ℕ → Reply) (ws : List ℕ)
         let n : rows (used_words ws) ≡ number_of e = rw begin_read.is at (row_turned r e _ is' q) in
         rw (handed_up s e h) (rw (begin_read.ok, n, numbered e))
 
+    -- The same of a row that has any number.
+    pub read_back_by : (n : ℕ) → n ≡ rows (take used ws) → (n ≡ 0 → ⊥) → left (refused n) ws ≡ ask rows answer ws
+    unfolding ask
+    read_back_by zero q z = absurd (z refl)
+    read_back_by (suc n) q z = let n₁ : rows (used_words ws) ≡ suc n = rw begin_read.is at (sym q) in rw (begin_read.ok, n₁)
+
+    -- Whatever reply the definition gives.
+    pub answered_by : rows (take used ws) ≡ 0 → (a : Reply) → a ≡ answer (take used ws) → left a ws ≡ ask rows answer ws
+    unfolding ask
+    answered_by q a e =
+        let q' : rows (used_words ws) ≡ 0 = rw begin_read.is at q in
+        let a₁ : answer (used_words ws) ≡ a = rw begin_read.is at (sym e) in
+        rw (begin_read.ok, q', a₁)
+
+    -- The same of an answer that the code gives.
     pub answered_so : rows (take used ws) ≡ 0 → (a : Answer) → answered a ≡ answer (take used ws) → left (told (Ok a)) ws ≡ ask rows answer ws
     unfolding ask
     answered_so q a e =

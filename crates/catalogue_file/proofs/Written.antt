@@ -123,3 +123,21 @@ module _ (label ws d₀ : List ℕ) (used : ℕ) (low : 94 ≤ used) (high : use
         let n : end + 8 ≡ length (sofar label ws used ++ bytes_of 8 (length label)) = sym (length-append (sofar label ws used) (bytes_of 8 (length label)) ∙ rw (length_bytes 8 (length label), ← sofar_length label ws used low high)) in
         let both = begun_more (sofar label ws used ++ bytes_of 8 (length label)) d₀ d₁ (end + 8) (used - 94) n (omega arith) one d₂ second in
         (whole_length, both ∙ ap (λ (l : List ℕ). begun l d₀) whole_file ∙ ap (λ (k : ℕ). file_of label (take used ws) ++ drop k d₀) (sym whole_length))
+
+-- o has the label at its front, and behind it what was d₀
+pub behind_label : (label d₀ d : List ℕ) (m : ℕ) → d ≡ label ++ drop (length label) d₀ → length label ≤ m → drop m d ≡ drop m d₀
+behind_label label d₀ d m is low =
+    let n : length label + (m - length label) ≡ m = omega arith in
+    ap (drop m) is ∙ ap (λ (k : ℕ). drop k (label ++ drop (length label) d₀)) (sym n) ∙ drop-append-add label (drop (length label) d₀) (m - length label) ∙ drop-drop (m - length label) (length label) d₀ ∙ ap (λ (k : ℕ). drop k d₀) n
+
+-- The same, from the output as it was before the label.
+pub written_file : (label ws d₀ o : List ℕ) (used : ℕ) → 94 ≤ used → used ≤ length ws → length label + 8 * (used - 94) + 16 ≤ length o → o ≡ label ++ drop (length label) d₀
+    → (i : ℕ) (d d₁ d₂ : List ℕ) → used ≤ i → i ≤ used → d ≡ begun (sofar label ws i) o
+    → d₁ ≡ take (length label + 8 * (used - 94)) d ++ (bytes_of 8 (length label) ++ drop (length label + 8 * (used - 94) + 8) d)
+    → d₂ ≡ take (length label + 8 * (used - 94) + 8) d₁ ++ (bytes_of 8 (used - 94) ++ drop (length label + 8 * (used - 94) + 8 + 8) d₁)
+    → (length label + 8 * (used - 94) + 16 ≡ length (file_of label (take used ws))) × (d₂ ≡ file_of label (take used ws) ++ drop (length label + 8 * (used - 94) + 16) d₀)
+written_file label ws d₀ o used low high room put i d d₁ d₂ out within is first second =
+    let e : i ≡ used = omega arith in
+    let s : d ≡ begun (sofar label ws used) o = is ∙ ap (λ (k : ℕ). begun (sofar label ws k) o) e in
+    let w = written label ws o used low high room d d₁ d₂ s first second in
+    (w.0, w.1 ∙ ap (λ (l : List ℕ). file_of label (take used ws) ++ l) (behind_label label d₀ o (length label + 8 * (used - 94) + 16) put (omega arith)))

@@ -1,5 +1,6 @@
 pub mod Bools
 pub mod Zero
+pub mod FloatOk
 pub mod Sizes
 pub mod Parts
 pub mod ByKind
