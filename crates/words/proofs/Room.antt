@@ -76,6 +76,14 @@ module _ (kept : ℕ) (g : Grown) (ws ws' : List ℕ) (r : Option Interned) (ran
           let z : ◌≡◌ {A = ℕ} 0 1 = cc in absurd (omega arith)
       go false e = leb-false (length g.words) (length ws) e
 
+-- fewer words kept
+pub fewer : (k kept : ℕ) (g : Grown) (ws ws' : List ℕ) (r : Option Interned) → k ≤ kept → Ran kept g ws ws' r → Ran k g ws ws' r
+fewer k kept g ws ws' r le ran = record {
+  answer = ran.answer;
+  fits = ran.fits;
+  full = λ x. sym (take-take k kept ws' le) ∙ ap (take k) (ran.full x) ∙ take-take k kept ws le;
+}
+
 -- ---- one operation after another
 
 -- the first fitted: where the second begins
