@@ -31,12 +31,14 @@ fn put_word(out: &mut [u8], at: usize, w: u64)
     out[at..at + 8].copy_from_slice(&w.to_le_bytes());
 }
 
-// Writes the label's bytes at the front.
+// Writes the label's bytes at the front, one by one: words `write` says why.
 fn put_label(out: &mut [u8], label: &[u8])
     requires { length label.now ≤ length out.old }
     ensures { out.new ≡ label.now ++ drop (length label.now) out.old }
 {
-    out[..label.len()].copy_from_slice(label);
+    for i in 0..label.len() {
+        out[i] = label[i];
+    }
 }
 
 // Writes the file of a store's used words, and tells its length.

@@ -237,12 +237,14 @@ pub struct Interned {
     pub used: usize,
 }
 
-// Fills the first words of `dst` with an entry.
+// Fills the first words of `dst` with an entry. Word by word: `copy_from_slice` would have the library for C call `memmove`, which it needs from nowhere else.
 pub fn write(dst: &mut [u64], entry: &[u64])
     requires { length entry.now ≤ length dst.old }
     ensures { dst.new ≡ entry.now ++ drop (length entry.now) dst.old }
 {
-    dst[..entry.len()].copy_from_slice(entry);
+    for i in 0..entry.len() {
+        dst[i] = entry[i];
+    }
 }
 
 // Fills the first words of `dst` with a head and a list.
