@@ -10,16 +10,15 @@ use script::Hex;
 use std::io::Write;
 use std::{fmt, io};
 
-// Writes what a line answers, where it answers something. A line that is no call is written itself.
-pub fn put<W: Write>(
-    out: &mut W,
-    reply: Option<Reply>,
-    line: &[u8],
-    session: &Session,
-) -> io::Result<()> {
+// Writes what a line answers, where it answers something. A line that is no call is written itself. A write that fails is let go: the run goes on without what was not written.
+pub fn put<W: Write>(out: &mut W, reply: Option<Reply>, line: &[u8], session: &Session) {
     let Some(reply) = reply else {
         return echo(out, script::cut(line));
     };
+    let _ = write_reply(out, reply, session);
+}
+
+fn write_reply<W: Write>(out: &mut W, reply: Reply, session: &Session) -> io::Result<()> {
     let words = session.store.words();
     match reply {
         Reply::Nothing => Ok(()),
@@ -49,8 +48,12 @@ pub fn put<W: Write>(
     }
 }
 
-// A line that is no call, or the part of one that was read, after a question mark.
-pub fn echo<W: Write>(out: &mut W, line: &[u8]) -> io::Result<()> {
+// A line that is no call, or the part of one that was read, after a question mark. A write that fails is let go.
+pub fn echo<W: Write>(out: &mut W, line: &[u8]) {
+    let _ = write_echo(out, line);
+}
+
+fn write_echo<W: Write>(out: &mut W, line: &[u8]) -> io::Result<()> {
     out.write_all(b"? ")?;
     out.write_all(line)?;
     out.write_all(b"\n")
