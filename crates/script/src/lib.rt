@@ -9,7 +9,7 @@ mod values;
 pub use answers::Answer;
 pub use lines::{after_words, cut, numbers, split_word};
 pub use texts::{Hex, text};
-pub use values::number;
+pub use values::{hex, number};
 
 #[cfg(test)]
 mod tests {

@@ -1,6 +1,7 @@
 // A text in hex: a pair of digits for each byte.
 ghost use Rattle.std.specs.Prelude.{◌≡◌, ◌≤◌, ◌*◌, [], length, vec_len, vec_capacity, IsSome};
 
+use crate::values::hex;
 use std::fmt;
 
 // Puts the text that the one word behind a word says into `out`, and nothing else: the empty one where there is no word, and `None` where the word says none.
@@ -31,7 +32,8 @@ pub struct Hex<'a>(pub &'a [u8]);
 impl fmt::Display for Hex<'_> {
     fn fmt<W: fmt::Write>(&self, f: &mut fmt::Formatter<W>) -> fmt::Result {
         for b in self.0 {
-            write!(f, "{b:02x}")?;
+            f.write_char(char::from(hex(*b / 16)))?;
+            f.write_char(char::from(hex(*b % 16)))?;
         }
         Ok(())
     }
