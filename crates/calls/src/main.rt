@@ -56,7 +56,7 @@ fn main(rt: HostRuntime) -> io::Result<()> {
 }
 
 // Reads a line, its end included, or as much of it as a line may have, and writes what it answers. A line that is too long is no call: its first part is written, and those behind it, as what was read `before` tells, are passed over.
-// The end of the input, or a read that fails, ends the run, whatever was read before it: nothing is read behind it.
+// The end of the input, or a read that fails, ends the run, whatever was read before it: nothing is read behind it. A line that was read whole with others before it is answered where it stands; one of which a part waits is gathered in `line`.
 fn turn<R: BufRead, W: Write>(
     input: &mut R,
     out: &mut W,
@@ -64,6 +64,19 @@ fn turn<R: BufRead, W: Write>(
     session: &mut Session,
     before: End,
 ) -> End {
+    let Ok(waiting) = input.fill_buf() else {
+        return End::Input;
+    };
+    if waiting.is_empty() {
+        return End::Input;
+    }
+    if before != End::Part {
+        if let Some(n) = waiting.iter().position(|b| *b == b'\n') {
+            answer(out, &waiting[..n], session);
+            input.consume(n + 1);
+            return End::Line;
+        }
+    }
     line.clear();
     let read = input.take(LINE as u64).read_until(b'\n', line);
     let (said, end) = match line.as_slice() {
@@ -78,10 +91,14 @@ fn turn<R: BufRead, W: Write>(
         output::echo(out, said);
         return end;
     }
-    let reply = session.line(said);
-    output::put(out, reply, said, session);
+    answer(out, said, session);
     if read.is_err() {
         return End::Input;
     }
     end
+}
+
+fn answer<W: Write>(out: &mut W, said: &[u8], session: &mut Session) {
+    let reply = session.line(said);
+    output::put(out, reply, said, session);
 }

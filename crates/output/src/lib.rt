@@ -6,7 +6,6 @@ ghost use Rattle.std.specs.Prelude.{◌≤◌, length};
 use dispatch::Session;
 use entry_search::EntrySearch;
 use replies::Reply;
-use script::Hex;
 use std::io::Write;
 use std::{fmt, io};
 
@@ -37,15 +36,20 @@ fn write_reply<W: Write>(out: &mut W, reply: Reply, session: &Session) -> io::Re
         ) => writeln!(out, "{h} {count}"),
         Reply::Search(EntrySearch { found: None, count }) => writeln!(out, "absent {count}"),
         Reply::Saved(n) => {
-            let saved = Hex(&session.files.saved);
-            writeln!(
-                out,
-                "{n} :{}{saved}",
-                space(!session.files.saved.is_empty())
-            )
+            let saved = session.files.saved.as_slice();
+            write!(out, "{n} :{}", space(!saved.is_empty()))?;
+            write_bytes(out, saved)
         }
-        Reply::File => writeln!(out, "{}", Hex(&session.files.kept)),
+        Reply::File => write_bytes(out, session.files.kept.as_slice()),
     }
+}
+
+// Bytes on a line, two hex digits for each. The digits go to the writer as bytes: as formatted text each byte cost six times as much.
+fn write_bytes<W: Write>(out: &mut W, bytes: &[u8]) -> io::Result<()> {
+    for b in bytes {
+        out.write_all(&[script::hex(*b / 16), script::hex(*b % 16)])?;
+    }
+    out.write_all(b"\n")
 }
 
 // A line that is no call, or the part of one that was read, after a question mark. A write that fails is let go.
