@@ -44,12 +44,26 @@ fn write_reply<W: Write>(out: &mut W, reply: Reply, session: &Session) -> io::Re
     }
 }
 
-// Bytes on a line, two hex digits for each. The digits go to the writer as bytes: as formatted text each byte cost six times as much.
+// How many bytes are spelled at a time.
+const SPELLED: usize = 32;
+
+// Bytes on a line, two hex digits for each. The digits go to the writer as bytes, and many at a time: as formatted text each byte cost six times as much.
 fn write_bytes<W: Write>(out: &mut W, bytes: &[u8]) -> io::Result<()> {
-    for b in bytes {
-        out.write_all(&[script::hex(*b / 16), script::hex(*b % 16)])?;
+    for part in bytes.chunks(SPELLED) {
+        write_part(out, part)?;
     }
     out.write_all(b"\n")
+}
+
+fn write_part<W: Write>(out: &mut W, part: &[u8]) -> io::Result<()>
+    requires { length part.now ≤ SPELLED }
+{
+    let mut text = [0u8; 2 * SPELLED];
+    for i in 0..part.len() {
+        text[2 * i] = script::hex(part[i] / 16);
+        text[2 * i + 1] = script::hex(part[i] % 16);
+    }
+    out.write_all(&text[..2 * part.len()])
 }
 
 // A line that is no call, or the part of one that was read, after a question mark. A write that fails is let go.
