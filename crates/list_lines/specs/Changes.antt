@@ -1,6 +1,9 @@
 -- What the lines about the list are, and what they leave of it, and of the list that is remembered.
-use Rattle.std.specs.Prelude.{◌≡◌, ◌≤◌, List, ℕ, replicate, set}
+use Rattle.std.specs.Prelude.{◌≡◌, ◌≤◌, List, ℕ, Bool, Option, Some, replicate, set}
+use Rattle.words.specs.Words.{eqs}
 use Rattle.makers.specs.Makers.{fresh_call}
+use Rattle.replies.specs.declared.Reply.{Reply}
+use Rattle.replies.specs.Told.{told}
 use Rattle.list_lines.specs.declared.Order.{Order}
 use Rattle.list_lines.specs.declared.Order.TheVariants as Order-variants
 use Rattle.list_lines.specs.declared.Closing.{Closing}
@@ -50,3 +53,17 @@ remembered Reading-variants.DumpAll ws kept = kept
 remembered Reading-variants.Check ws kept = kept
 remembered Reading-variants.Kept ws kept = kept
 remembered Reading-variants.FindEntry ws kept = kept
+
+-- whether the list that is remembered is this one
+abbrev pub remembers : List ℕ → List ℕ → Bool
+remembers kept ws = eqs ws kept
+
+-- a line that asks whether the list is as it was tells just that; of what another line that reads answers nothing is said
+abbrev pub Tells : Reading → List ℕ → List ℕ → Option Reply → Type 0
+Tells Reading-variants.Kept ws kept answer = answer ≡ Some (told (remembers kept ws))
+Tells (Reading-variants.Peek i) ws kept answer = Unit
+Tells Reading-variants.Dump ws kept answer = Unit
+Tells Reading-variants.DumpAll ws kept answer = Unit
+Tells Reading-variants.Check ws kept answer = Unit
+Tells Reading-variants.Keep ws kept answer = Unit
+Tells Reading-variants.FindEntry ws kept answer = Unit

@@ -2,7 +2,7 @@
 #![tactic(auto)]
 
 ghost use Rattle.std.specs.Prelude.{◌≡◌, ◌≤◌, length, replicate, vec_len, vec_capacity, OnSome, IfNone};
-ghost use Rattle.list_lines.specs.Changes.{IsBy, changed, remembered};
+ghost use Rattle.list_lines.specs.Changes.{IsBy, Tells, changed, remembered, remembers};
 
 use replies::Reply;
 use script::Answer;
@@ -119,6 +119,7 @@ fn renew(words: &mut Vec<u64>, n: u64, value: u64) -> Option<()>
 
 // The line's numbers are `a`. What is remembered is `kept`: before the first `keep` the empty list.
 pub fn read(reading: Reading, a: &[u64], words: &[u64], kept: &mut Vec<u64>) -> Option<Reply>
+    ensures told { Tells reading words.now kept.old.items result }
     ensures remembered { OnSome result (kept.new.items ≡ remembered reading words.now kept.old.items) }
     ensures unchanged { length words.now ≤ vec_capacity kept.old → IfNone result (kept.new.items ≡ kept.old.items) }
     ensures room { vec_capacity kept.old ≤ vec_capacity kept.new }
@@ -136,9 +137,16 @@ pub fn read(reading: Reading, a: &[u64], words: &[u64], kept: &mut Vec<u64>) -> 
             kept.extend_from_slice(words).ok()?;
             Some(Answer::Accepted.into())
         }
-        Reading::Kept => Some((words == kept.as_slice()).into()),
+        Reading::Kept => Some(is_kept(words, kept).into()),
         Reading::FindEntry => Some(entry_search::find_entry(words, a).into()),
     }
+}
+
+// Whether a list is the one that is remembered: as long, and the same words.
+fn is_kept(words: &[u64], kept: &[u64]) -> bool
+    ensures { result ≡ remembers kept.now words.now }
+{
+    words::same(words, kept)
 }
 
 #[cfg(test)]

@@ -6,20 +6,18 @@ ghost use Rattle.std.specs.Prelude.{◌≤◌, length};
 use dispatch::Session;
 use entry_search::EntrySearch;
 use replies::Reply;
-use script::Hex;
 use std::io::Write;
 use std::{fmt, io};
 
-// Writes what a line answers, where it answers something. A line that is no call is written itself.
-pub fn put<W: Write>(
-    out: &mut W,
-    reply: Option<Reply>,
-    line: &[u8],
-    session: &Session,
-) -> io::Result<()> {
+// Writes what a line answers, where it answers something. A line that is no call is written itself. A write that fails is let go: the run goes on without what was not written.
+pub fn put<W: Write>(out: &mut W, reply: Option<Reply>, line: &[u8], session: &Session) {
     let Some(reply) = reply else {
         return echo(out, script::cut(line));
     };
+    let _ = write_reply(out, reply, session);
+}
+
+fn write_reply<W: Write>(out: &mut W, reply: Reply, session: &Session) -> io::Result<()> {
     let words = session.store.words();
     match reply {
         Reply::Nothing => Ok(()),
@@ -38,19 +36,42 @@ pub fn put<W: Write>(
         ) => writeln!(out, "{h} {count}"),
         Reply::Search(EntrySearch { found: None, count }) => writeln!(out, "absent {count}"),
         Reply::Saved(n) => {
-            let saved = Hex(&session.files.saved);
-            writeln!(
-                out,
-                "{n} :{}{saved}",
-                space(!session.files.saved.is_empty())
-            )
+            let saved = session.files.saved.as_slice();
+            write!(out, "{n} :{}", space(!saved.is_empty()))?;
+            write_bytes(out, saved)
         }
-        Reply::File => writeln!(out, "{}", Hex(&session.files.kept)),
+        Reply::File => write_bytes(out, session.files.kept.as_slice()),
     }
 }
 
-// A line that is no call, or the part of one that was read, after a question mark.
-pub fn echo<W: Write>(out: &mut W, line: &[u8]) -> io::Result<()> {
+// How many bytes are spelled at a time.
+const SPELLED: usize = 32;
+
+// Bytes on a line, two hex digits for each. The digits go to the writer as bytes, and many at a time: as formatted text each byte cost six times as much.
+fn write_bytes<W: Write>(out: &mut W, bytes: &[u8]) -> io::Result<()> {
+    for part in bytes.chunks(SPELLED) {
+        write_part(out, part)?;
+    }
+    out.write_all(b"\n")
+}
+
+fn write_part<W: Write>(out: &mut W, part: &[u8]) -> io::Result<()>
+    requires { length part.now ≤ SPELLED }
+{
+    let mut text = [0u8; 2 * SPELLED];
+    for i in 0..part.len() {
+        text[2 * i] = script::hex(part[i] / 16);
+        text[2 * i + 1] = script::hex(part[i] % 16);
+    }
+    out.write_all(&text[..2 * part.len()])
+}
+
+// A line that is no call, or the part of one that was read, after a question mark. A write that fails is let go.
+pub fn echo<W: Write>(out: &mut W, line: &[u8]) {
+    let _ = write_echo(out, line);
+}
+
+fn write_echo<W: Write>(out: &mut W, line: &[u8]) -> io::Result<()> {
     out.write_all(b"? ")?;
     out.write_all(line)?;
     out.write_all(b"\n")

@@ -1,6 +1,9 @@
 // What lines answer, and how the answers of calls are told.
 #![tactic(auto)]
 
+ghost use Rattle.std.specs.Prelude.{◌≡◌};
+ghost use Rattle.replies.specs.Told.{told};
+
 use call::Refusal;
 use entry_search::EntrySearch;
 use script::Answer;
@@ -32,6 +35,8 @@ impl From<Answer> for Reply {
 }
 
 impl From<bool> for Reply {
+    ghost from_gives = { λ yes reply. reply ≡ told yes };
+
     fn from(yes: bool) -> Reply {
         Reply::Short(if yes { Answer::Yes } else { Answer::No })
     }

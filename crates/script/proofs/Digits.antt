@@ -1,6 +1,6 @@
 -- Facts about digits that the proofs of `values` cite.
 use Rattle.std.proofs.Common.{◌≡◌, refl, suc, sym, ap, ◌∙◌, Bool, true, false, List, [], ◌∷◌, ℕ, ◌+◌, ◌-◌, ◌*◌, ◌%◌, ◌^◌, ◌≤◌, ◌<◌, length, get_or, take, drop, cond, length-drop, arith, add-one, drop-cons, le_refl, le_trans, mul-le-mul_left}
-use Rattle.std.specs.Prelude.{◌&&◌, Option, Some, None, eqb, leb, ltb}
+use Rattle.std.specs.Prelude.{◌&&◌, Option, Some, None, eqb, leb}
 use Rattle.std.proofs.lemmas.Bool.Decides.{nat_tests}
 use Rattle.std.specs.Char.{digit_value}
 use lib.ListN.{drop_of_length-le}
@@ -16,6 +16,15 @@ digit_is b h = grind (arith, nat_tests)
 pub digit_none : (base b : ℕ) → base ≤ 16 → base ≤ digit_value b → base ≤ digit_of b
 unfolding digit_of
 digit_none base b low h = grind (arith, nat_tests)
+
+-- the digit that is written for a number says it: below 10, and from there on
+pub low_digit : (d : ℕ) → d < 10 → digit_of (48 + d) ≡ d
+unfolding digit_of
+low_digit d h = grind (arith, nat_tests)
+
+pub high_digit : (d : ℕ) → 10 ≤ d → d < 16 → digit_of (87 + d) ≡ d
+unfolding digit_of
+high_digit d h k = grind (arith, nat_tests)
 
 inside : (low high b : ℕ) → low ≤ b → b ≤ high → between low high b ≡ true
 inside low high b h k = rw (le-leb low b h, le-leb b high k)

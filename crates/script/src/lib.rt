@@ -8,8 +8,8 @@ mod values;
 
 pub use answers::Answer;
 pub use lines::{after_words, cut, numbers, split_word};
-pub use texts::{Hex, text};
-pub use values::number;
+pub use texts::text;
+pub use values::{hex, number};
 
 #[cfg(test)]
 mod tests {

@@ -1,11 +1,12 @@
 // A line and its words, which one space separates.
-ghost use Rattle.std.specs.Prelude.{◌≡◌, ◌≤◌, [], ◌++◌, length, vec_len, vec_capacity, IsSome};
+ghost use Rattle.std.specs.Prelude.{◌≡◌, ◌≤◌, ◌-◌, [], ◌++◌, length, take, drop, vec_len, vec_capacity, IsSome};
 
 use crate::values::number;
 
 // A line without its comment and the spaces before that.
 pub fn cut(line: &[u8]) -> &[u8]
-    ensures { length result.now ≤ length line.now }
+    ensures size { length result.now ≤ length line.now }
+    ensures beginning { result.now ≡ take (length result.now) line.now }
 {
     let Some(comment) = line.iter().position(|b| *b == b';') else {
         return line;
@@ -27,7 +28,8 @@ pub fn split_word(line: &[u8]) -> (&[u8], &[u8])
 
 // What stands behind the first k words of what stands behind a word: nothing where there are no more.
 pub fn after_words(rest: &[u8], k: usize) -> &[u8]
-    ensures { length result.now ≤ length rest.now }
+    ensures size { length result.now ≤ length rest.now }
+    ensures end { result.now ≡ drop (length rest.now - length result.now) rest.now }
 {
     let mut left = rest;
     for _ in 0..k {

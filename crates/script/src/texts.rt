@@ -1,8 +1,6 @@
 // A text in hex: a pair of digits for each byte.
 ghost use Rattle.std.specs.Prelude.{◌≡◌, ◌≤◌, ◌*◌, [], length, vec_len, vec_capacity, IsSome};
 
-use std::fmt;
-
 // Puts the text that the one word behind a word says into `out`, and nothing else: the empty one where there is no word, and `None` where the word says none.
 pub fn text(rest: &[u8], out: &mut Vec<u8>) -> Option<()>
     ensures empty { length rest.now ≡ 0 → IsSome result × (out.new.items ≡ []) }
@@ -22,17 +20,4 @@ pub fn text(rest: &[u8], out: &mut Vec<u8>) -> Option<()>
         out.push((16 * high + low) as u8).ok()?;
     }
     Some(())
-}
-
-// Bytes, two hex digits for each.
-#[derive(Clone, Copy)]
-pub struct Hex<'a>(pub &'a [u8]);
-
-impl fmt::Display for Hex<'_> {
-    fn fmt<W: fmt::Write>(&self, f: &mut fmt::Formatter<W>) -> fmt::Result {
-        for b in self.0 {
-            write!(f, "{b:02x}")?;
-        }
-        Ok(())
-    }
 }

@@ -1,6 +1,6 @@
 // A word of a line, read as a number.
-ghost use Rattle.std.specs.Prelude.{◌≤◌, ◌≡◌};
-ghost use Rattle.script.specs.Numbers.{negative_of, number_of, unsigned_of};
+ghost use Rattle.std.specs.Prelude.{◌<◌, ◌≤◌, ◌≡◌};
+ghost use Rattle.script.specs.Numbers.{digit_of, negative_of, number_of, unsigned_of};
 
 // The number that a word says: decimal digits; `-` before them for the two's complement; `0x` before hex digits.
 pub fn number(word: &[u8]) -> Option<u64>
@@ -40,4 +40,13 @@ fn negative(magnitude: u64) -> Option<u64>
     } else {
         None
     }
+}
+
+// The hex digit, of the lower case, that says a number.
+#[tactic(auto, using(crate::proofs::Digits::low_digit, crate::proofs::Digits::high_digit))]
+pub fn hex(d: u8) -> u8
+    requires { d < 16 }
+    ensures { digit_of result ≡ d }
+{
+    if d < 10 { b'0' + d } else { b'a' - 10 + d }
 }

@@ -1,5 +1,5 @@
 -- What stands before the digits, in each arm.
-use Rattle.std.proofs.Common.{◌∙◌, arith, rules}
+use Rattle.std.proofs.Common.{◌∙◌, arith}
 use Rattle.std.proofs.lemmas.Grind.{common_steps}
 use Rattle.script.proofs.Digits.{none_minus, some_minus, with_hex, without, none_of, one_of}
 use Rattle.script.proofs.values.number.Goals as goal
