@@ -123,7 +123,13 @@ mod tests {
     #[test]
     fn lines_are_answered(rt: HostRuntime) -> Result<(), Fail> {
         let mut session = Session::new(rt.alloc())?;
-        for line in [b"fresh 4096".as_slice(), b"open", b"int 7", b"save 400", b"fcut 3"] {
+        for line in [
+            b"fresh 4096".as_slice(),
+            b"open",
+            b"int 7",
+            b"save 400",
+            b"fcut 3",
+        ] {
             assert!(rt; session.line(line).is_some());
         }
         assert_eq!(rt; session.store.words().len(), 4096);
