@@ -1,7 +1,7 @@
 // The lines of a script: each is read, and the call that it names is made.
 #![tactic(auto)]
 
-ghost use Rattle.std.specs.Prelude.{◌≡◌, ◌≤◌, [], length, vec_len, vec_capacity, IfOk};
+ghost use Rattle.std.specs.Prelude.{◌≡◌, ◌≤◌, false, [], length, vec_len, vec_capacity, IfOk};
 
 use call_lines::{OUTPUT, Store};
 use file_lines::{FILE, Files};
@@ -32,7 +32,7 @@ pub struct Session {
 impl Session {
     // The empty list and the empty file. All room that lines take is made here, so that no line runs out of memory.
     pub fn new(alloc: Global) -> Result<Session, AllocError>
-        ensures list { IfOk result (λ s. s.store ≡ []) }
+        ensures list { IfOk result (λ s. s.store ≡ ([], false)) }
         ensures file { IfOk result (λ s. s.files.kept.items ≡ []) }
         ensures output { IfOk result (λ s. (s.output.items ≡ []) × (OUTPUT ≤ vec_capacity s.output)) }
     {
@@ -48,7 +48,7 @@ impl Session {
 
     // What a line answers: `None` where it is no call.
     pub fn line(&mut self, line: &[u8]) -> Option<Reply>
-        ensures list { length self.old.store ≤ WORDS → length self.new.store ≤ WORDS }
+        ensures list { length self.old.store.0 ≤ WORDS → length self.new.store.0 ≤ WORDS }
         ensures file { vec_len self.old.files.kept ≤ FILE → vec_len self.new.files.kept ≤ FILE }
         ensures output { vec_len self.old.output ≤ OUTPUT → vec_len self.new.output ≤ OUTPUT }
     {
@@ -80,7 +80,7 @@ impl Session {
 
     // A line of a name with numbers behind it, or with numbers and a text.
     fn named(&mut self, name: &[u8], rest: &[u8]) -> Option<Reply>
-        ensures list { length self.old.store ≤ WORDS → length self.new.store ≤ WORDS }
+        ensures list { length self.old.store.0 ≤ WORDS → length self.new.store.0 ≤ WORDS }
         ensures file { self.new.files ≡ self.old.files }
         ensures output { vec_len self.old.output ≤ OUTPUT → vec_len self.new.output ≤ OUTPUT }
     {
@@ -105,7 +105,7 @@ impl Session {
 
     // A call, which leaves an opened store open.
     fn call(&mut self, name: &[u8]) -> Option<Reply>
-        ensures list { length self.new.store ≡ length self.old.store }
+        ensures list { length self.new.store.0 ≡ length self.old.store.0 }
         ensures file { self.new.files ≡ self.old.files }
         ensures output { vec_len self.old.output ≤ OUTPUT → vec_len self.new.output ≤ OUTPUT }
     {
