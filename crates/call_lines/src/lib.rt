@@ -3,6 +3,8 @@
 
 mod store;
 
+ghost use Rattle.std.specs.Prelude.{◌≡◌, ℕ, ◌≤◌, ◌⊎◌, [], ◌∷◌, replicate, Some, vec_len, vec_capacity, OnSome, IfSome};
+
 use asking::Asking;
 use making::Making;
 use of_types::OfType;
@@ -17,8 +19,12 @@ pub const OUTPUT: usize = 4096;
 // How many numbers a line has at most.
 pub const NUMBERS: usize = 131072;
 
-// How many numbers stand before the text of a line of this name: `None` where no text does.
-pub fn numbers_before_text(name: &[u8]) -> Option<usize> {
+// How many numbers stand before the text of a line of this name: `None` where no text does. The letters of `str` are 115 116 114, those of `ary` 97 114 121.
+pub fn numbers_before_text(name: &[u8]) -> Option<usize>
+    ensures str { name.now ≡ 115 ∷ 116 ∷ 114 ∷ [] → result ≡ Some 0 }
+    ensures ary { name.now ≡ 97 ∷ 114 ∷ 121 ∷ [] → result ≡ Some 4 }
+    ensures few { IfSome result (λ k. k ≤ 4) }
+{
     match name {
         b"str" => Some(0),
         b"ary" => Some(4),
@@ -27,7 +33,11 @@ pub fn numbers_before_text(name: &[u8]) -> Option<usize> {
 }
 
 // A line `meet_rep N H` says a list by its length and the one handle in it: its numbers become that list, where they have room. Other lines keep theirs.
-pub fn repeated(name: &[u8], numbers: &mut Vec<u64>) -> Option<()> {
+pub fn repeated(name: &[u8], numbers: &mut Vec<u64>) -> Option<()>
+    ensures repeated { OnSome result ((numbers.new.items ≡ numbers.old.items) ⊎ ((n handle : ℕ) × (numbers.old.items ≡ n ∷ handle ∷ []) × (numbers.new.items ≡ replicate n handle))) }
+    ensures most { vec_len numbers.old ≤ NUMBERS → vec_len numbers.new ≤ NUMBERS }
+    ensures room { vec_capacity numbers.old ≤ vec_capacity numbers.new }
+{
     match (name, numbers.as_slice()) {
         (b"meet_rep", &[times, handle]) => {
             let n = usize::try_from(times).ok()?;
@@ -144,5 +154,32 @@ fn list_of<'a>(name: &[u8], a: &'a [u64]) -> &'a [u64] {
     match (name, a) {
         (b"struct", [_, list @ ..]) => list,
         _ => a,
+    }
+}
+
+#[cfg(test)]
+mod tests {
+    use super::*;
+    use replies::Reply;
+    use std::test::Fail;
+
+    // No contract can say that there is memory.
+    #[test]
+    fn room_is_made(rt: HostRuntime) -> Result<(), Fail> {
+        let mut store = Store::new(rt.alloc(), 100, 400, 100)?;
+        assert!(rt; store.words().is_empty());
+        let mut numbers = Vec::new(rt.alloc());
+        let said = store.close(|words| {
+            words.resize(3, 0).ok()?;
+            Some(Reply::Nothing)
+        });
+        assert!(rt; said.is_some());
+        assert_eq!(rt; store.words().len(), 3);
+        assert!(rt; numbers.extend_from_slice(&[3, 85]).is_ok());
+        assert_eq!(rt; repeated(b"meet_rep", &mut numbers), Some(()));
+        assert_eq!(rt; numbers.as_slice(), [85, 85, 85].as_slice());
+        assert!(rt; store.call(b"fields", &[85, 4], b"", &mut numbers).is_some());
+        assert_eq!(rt; numbers.as_slice(), [7777; 4].as_slice());
+        Ok(())
     }
 }

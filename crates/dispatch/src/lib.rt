@@ -1,7 +1,9 @@
 // The lines of a script: each is read, and the call that it names is made.
 #![tactic(auto)]
 
-use call_lines::Store;
+ghost use Rattle.std.specs.Prelude.{◌≡◌, ◌≤◌, false, [], length, vec_len, vec_capacity, IfOk};
+
+use call_lines::{OUTPUT, Store};
 use file_lines::{FILE, Files};
 use list_lines::{Order, WORDS};
 use replies::Reply;
@@ -29,11 +31,15 @@ pub struct Session {
 
 impl Session {
     // The empty list and the empty file. All room that lines take is made here, so that no line runs out of memory.
-    pub fn new(alloc: Global) -> Result<Session, AllocError> {
+    pub fn new(alloc: Global) -> Result<Session, AllocError>
+        ensures list { IfOk result (λ s. s.store ≡ ([], false)) }
+        ensures file { IfOk result (λ s. s.files.kept.items ≡ []) }
+        ensures output { IfOk result (λ s. (s.output.items ≡ []) × (OUTPUT ≤ vec_capacity s.output)) }
+    {
         Ok(Session {
             store: Store::new(alloc, WORDS, INDEX, MEMORY)?,
             files: Files::new(alloc)?,
-            output: Vec::with_capacity(alloc, call_lines::OUTPUT)?,
+            output: Vec::with_capacity(alloc, OUTPUT)?,
             kept: Vec::with_capacity(alloc, WORDS)?,
             numbers: Vec::with_capacity(alloc, call_lines::NUMBERS)?,
             text: Vec::with_capacity(alloc, TEXT)?,
@@ -41,7 +47,11 @@ impl Session {
     }
 
     // What a line answers: `None` where it is no call.
-    pub fn line(&mut self, line: &[u8]) -> Option<Reply> {
+    pub fn line(&mut self, line: &[u8]) -> Option<Reply>
+        ensures list { length self.old.store.0 ≤ WORDS → length self.new.store.0 ≤ WORDS }
+        ensures file { vec_len self.old.files.kept ≤ FILE → vec_len self.new.files.kept ≤ FILE }
+        ensures output { vec_len self.old.output ≤ OUTPUT → vec_len self.new.output ≤ OUTPUT }
+    {
         let said = script::cut(line);
         if said.is_empty() {
             return Some(Reply::Nothing);
@@ -69,7 +79,11 @@ impl Session {
     }
 
     // A line of a name with numbers behind it, or with numbers and a text.
-    fn named(&mut self, name: &[u8], rest: &[u8]) -> Option<Reply> {
+    fn named(&mut self, name: &[u8], rest: &[u8]) -> Option<Reply>
+        ensures list { length self.old.store.0 ≤ WORDS → length self.new.store.0 ≤ WORDS }
+        ensures file { self.new.files ≡ self.old.files }
+        ensures output { vec_len self.old.output ≤ OUTPUT → vec_len self.new.output ≤ OUTPUT }
+    {
         if let Some(k) = call_lines::numbers_before_text(name) {
             let text = script::after_words(rest, k);
             script::numbers(&rest[..rest.len() - text.len()], &mut self.numbers)?;
@@ -90,8 +104,36 @@ impl Session {
     }
 
     // A call, which leaves an opened store open.
-    fn call(&mut self, name: &[u8]) -> Option<Reply> {
+    fn call(&mut self, name: &[u8]) -> Option<Reply>
+        ensures list { length self.new.store.0 ≡ length self.old.store.0 }
+        ensures file { self.new.files ≡ self.old.files }
+        ensures output { vec_len self.old.output ≤ OUTPUT → vec_len self.new.output ≤ OUTPUT }
+    {
         self.store
             .call(name, &self.numbers, &self.text, &mut self.output)
+    }
+}
+
+#[cfg(test)]
+mod tests {
+    use super::*;
+    use std::test::Fail;
+
+    // No contract can say that there is memory.
+    #[test]
+    fn lines_are_answered(rt: HostRuntime) -> Result<(), Fail> {
+        let mut session = Session::new(rt.alloc())?;
+        for line in [
+            b"fresh 4096".as_slice(),
+            b"open",
+            b"int 7",
+            b"save 400",
+            b"fcut 3",
+        ] {
+            assert!(rt; session.line(line).is_some());
+        }
+        assert_eq!(rt; session.store.words().len(), 4096);
+        assert_eq!(rt; session.files.kept.len(), 3);
+        Ok(())
     }
 }
