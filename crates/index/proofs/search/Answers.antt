@@ -8,7 +8,7 @@ pub returns-then-half-eq0 : goal.returns-then-half-eq0
 returns-then-half-eq0 g c = empty_index _ _ c.requires.covers c.if-half-eq0.true _
 
 pub loop-at-init : goal.loop-at-init
-loop-at-init g c = chain_start _ _ c.requires.covers c.if-half-eq0.false _ _ c.bucket-b.ensures.0 c.bucket-b.ensures.1
+loop-at-init g c = search chain_start
 
 pub is_at-requires : goal.is_at-requires
 is_at-requires g c = (c.requires.segments, chain_starts _ _ c.requires.covers _ _ _ c.loop-at.invariant c.loop-at-test.true)
