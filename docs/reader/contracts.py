@@ -3,11 +3,12 @@ import re
 
 from lex import Token, grouped, is_text, significant, tokens
 from terms import Bound, mark_words, set_role
+from world import types_of
 
 WORDS = {"pub", "fn", "extern", "mut", "enum", "struct", "trait", "ghost", "requires", "ensures", "const", "self", "Self"}
 CLAUSE = re.compile(r" +(requires|ensures)( \w+)? \{")
 GHOST = re.compile(r" +ghost (\w+): \{")
-GENERIC = re.compile(r"fn \w+<(.*?)>\(")
+GENERIC = re.compile(r"(?:fn|enum|struct|trait) \w+<(.*?)>(?:\(| \{)")
 FUNCTION_LINE = re.compile(r" +fn \w+")
 RESULT, SELF = "result", "self"
 PRIMITIVE = {"u8", "u16", "u32", "u64", "usize", "i8", "i64", "bool", "f64"}
@@ -29,13 +30,12 @@ class CodeScope:
         world.fill(self, [significant(tokens(line)) for line in source.ghost])
         self.constants = {name: line for other in world.sources[source.crate] for name, line in other.constants.items()}
         self.types = {name: self.scope[name] for name in ("Option", "Result")}
-        self.types.update(world.declared[source.crate])
+        self.types.update(types_of(world.declared, source))
         for module, name in source.uses:
             crate = module.split("::")[0]
-            if name in world.declared.get(crate, {}):
-                self.types[name] = world.declared[crate][name]
-            elif crate == "std":
-                self.constants[name] = f"{module}::{name}"
+            lines = [other.constants[name] for other in world.sources.get(crate, []) if name in other.constants]
+            if lines or crate == "std":
+                self.constants[name] = lines[0] if lines else f"{module}::{name}"
 
     def kind(self, name):
         """The type of the code with this name, as the type of a term in a clause."""
@@ -152,10 +152,10 @@ class Contracts:
         scope = self.scope(self.source_of(made.home.crate, entry.path))
         if made.kind == "trait":
             return Shown(entry, self.trait_lines(scope, made))
-        lines = []
+        lines, generic = [], type_parameters(scope, entry.lines)
         for place, line in enumerate(entry.lines):
             member = next((name for name, at in entry.members.items() if at == place), None)
-            found = self.fact(scope, line, made) if GHOST.match(line) else self.code_line(scope, line, member)
+            found = self.fact(scope, line, made) if GHOST.match(line) else self.code_line(scope, line, member, generic)
             for token in found:
                 if token.role == "def" and token.target is None and not GHOST.match(line):
                     token.target = made.members[member] if member else made
@@ -216,7 +216,7 @@ def attribute_lines(lines):
 
 
 def type_parameters(scope, lines):
-    """The names of `fn f<A: Trait, ..>(` with their traits."""
+    """The names of `fn f<A: Trait, ..>(`, or of a type's, with their traits."""
     found = next((GENERIC.search(line)[1] for line in lines if GENERIC.search(line)), "")
     pairs = [part.removeprefix("const ").partition(":") for part in found.split(", ") if part and not part.startswith("'")]
     return {name: Bound(scope.kind(trait.strip())) for name, _, trait in pairs}

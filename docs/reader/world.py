@@ -8,6 +8,7 @@ from names import Anywhere, CodeHome, Definition, File, parts_of
 
 MODULE = re.compile(r"Rattle\.(?!std\.)(\w+)\.(specs|proofs)\.(.+)")
 VARIANTS = "TheVariants"
+FIELD_TYPE = re.compile(r"\w+: (\w+),?$")
 
 
 class World:
@@ -118,4 +119,22 @@ def declared_of(sources):
                 for name in entry.members:
                     owner.members[name] = Definition("case" if entry.kind == "enum" else "field", name, home, entry, None, owner)
                 found[crate][entry.name] = owner
+    for source in (source for files in sources.values() for source in files):
+        type_fields(found, source)
     return found
+
+
+def types_of(declared, source):
+    """The types of the code that a source may name without a path: those of its crate, and those that it imports."""
+    imported = {name: declared.get(module.split("::")[0], {}).get(name) for module, name in source.uses}
+    return {**declared[source.crate], **{name: made for name, made in imported.items() if made}}
+
+
+def type_fields(declared, source):
+    """The fields of structs whose type is one of the code get that type, so that a field may be taken of them."""
+    types = types_of(declared, source)
+    for entry in source.declared:
+        for field in declared[source.crate][entry.name].members.values():
+            named = FIELD_TYPE.search(entry.lines[entry.members[field.name]]) if field.kind == "field" else None
+            if named and named[1] in types:
+                field.type, field.home.scope = [Token("name", named[1], 0, 0)], types
