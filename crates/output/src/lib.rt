@@ -1,13 +1,14 @@
 // What the program writes: a line for each line of the script.
 #![tactic(auto)]
 
-ghost use Rattle.std.specs.Prelude.{◌≤◌, length};
+ghost use Rattle.std.specs.Prelude.{◌≡◌, ◌≤◌, ◌+◌, ◌∷◌, ◌++◌, length, drop, decimal};
 
 use dispatch::Session;
 use entry_search::EntrySearch;
+use itoa::write_digits;
 use replies::Reply;
+use std::io;
 use std::io::Write;
-use std::{fmt, io};
 
 // Writes what a line answers, where it answers something. A line that is no call is written itself. A write that fails is let go: the run goes on without what was not written.
 pub fn put<W: Write>(out: &mut W, reply: Option<Reply>, line: &[u8], session: &Session) {
@@ -22,11 +23,12 @@ fn write_reply<W: Write>(out: &mut W, reply: Reply, session: &Session) -> io::Re
     match reply {
         Reply::Nothing => Ok(()),
         Reply::Short(answer) => writeln!(out, "{answer}"),
-        Reply::Used => writeln!(out, "{}", Words(used(words))),
-        Reply::All => writeln!(out, "{}", Words(words)),
+        Reply::Used => write_line(out, used(words)),
+        Reply::All => write_line(out, words),
         Reply::Output(n) => {
-            let filled = Words(&session.output);
-            writeln!(out, "{n} :{}{filled}", space(!session.output.is_empty()))
+            write!(out, "{n} :")?;
+            write_words(out, &session.output)?;
+            out.write_all(b"\n")
         }
         Reply::Search(
             EntrySearch {
@@ -37,15 +39,59 @@ fn write_reply<W: Write>(out: &mut W, reply: Reply, session: &Session) -> io::Re
         Reply::Search(EntrySearch { found: None, count }) => writeln!(out, "absent {count}"),
         Reply::Saved(n) => {
             let saved = session.files.saved.as_slice();
-            write!(out, "{n} :{}", space(!saved.is_empty()))?;
+            write!(out, "{n} :{}", if saved.is_empty() { "" } else { " " })?;
             write_bytes(out, saved)
         }
         Reply::File => write_bytes(out, session.files.kept.as_slice()),
     }
 }
 
-// How many bytes are spelled at a time.
+// How many bytes, or words, are spelled at a time.
 const SPELLED: usize = 32;
+
+// How many bytes a word takes at most: a space and 20 digits.
+const WORD: usize = 21;
+
+// Words on a line, one space between two.
+fn write_line<W: Write>(out: &mut W, words: &[u64]) -> io::Result<()> {
+    if let [first, others @ ..] = words {
+        write!(out, "{first}")?;
+        write_words(out, others)?;
+    }
+    out.write_all(b"\n")
+}
+
+// Words, a space before each. The digits go to the writer as bytes, and many at a time: as formatted text a word of one digit cost twice as much and more.
+fn write_words<W: Write>(out: &mut W, words: &[u64]) -> io::Result<()> {
+    for part in words.chunks(SPELLED) {
+        write_few_words(out, part)?;
+    }
+    Ok(())
+}
+
+// From the last word to the first, so that no digits have to be counted.
+fn write_few_words<W: Write>(out: &mut W, part: &[u64]) -> io::Result<()>
+    requires { length part.now ≤ SPELLED }
+{
+    let mut text = [0u8; WORD * SPELLED];
+    let mut at = text.len();
+    for i in (0..part.len()).rev() {
+        at = spell(part[i], &mut text, at);
+    }
+    out.write_all(&text[at..])
+}
+
+// A space and the digits of a word, so that they end at `end`; answers where they start.
+#[inline]
+fn spell(word: u64, text: &mut [u8], end: usize) -> usize
+    requires { (WORD ≤ end) × (end ≤ length text.old) }
+    ensures short { end ≤ result + WORD }
+    ensures written { drop result text.new ≡ 32 ∷ decimal word ++ drop end text.old }
+{
+    let start = write_digits(word, text, end) - 1;
+    text[start] = b' ';
+    start
+}
 
 // Bytes on a line, two hex digits for each. The digits go to the writer as bytes, and many at a time: as formatted text each byte cost six times as much.
 fn write_bytes<W: Write>(out: &mut W, bytes: &[u8]) -> io::Result<()> {
@@ -75,28 +121,6 @@ fn write_echo<W: Write>(out: &mut W, line: &[u8]) -> io::Result<()> {
     out.write_all(b"? ")?;
     out.write_all(line)?;
     out.write_all(b"\n")
-}
-
-// What stands between a count and an output that has something.
-fn space(some: bool) -> &'static str {
-    if some { " " } else { "" }
-}
-
-// Words, one space between two.
-#[derive(Clone, Copy)]
-struct Words<'a>(&'a [u64]);
-
-impl fmt::Display for Words<'_> {
-    fn fmt<W: fmt::Write>(&self, f: &mut fmt::Formatter<W>) -> fmt::Result {
-        let [first, others @ ..] = self.0 else {
-            return Ok(());
-        };
-        write!(f, "{first}")?;
-        for word in others {
-            write!(f, " {word}")?;
-        }
-        Ok(())
-    }
 }
 
 // The words of a list that are in use: as many as its first word says, and no more than it has.
