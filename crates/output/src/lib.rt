@@ -61,7 +61,7 @@ fn write_line<W: Write>(out: &mut W, words: &[u64]) -> io::Result<()> {
     out.write_all(b"\n")
 }
 
-// Words, a space before each. The digits go to the writer as bytes, and many at a time: as formatted text a word of one digit cost twice as much and more.
+// Words, a space before each. The digits go to the writer as bytes, and many at a time: as formatted text each word cost two to six times as much.
 fn write_words<W: Write>(out: &mut W, words: &[u64]) -> io::Result<()> {
     for part in words.chunks(SPELLED) {
         write_few_words(out, part)?;
