@@ -8,7 +8,7 @@ from pathlib import Path
 TOP = Path(__file__).resolve().parent.parent.parent
 
 # The libraries that crates.txt names and the Rattle kit has.
-KIT = {"check", "io"}
+KIT = {"check", "io", "itoa"}
 
 
 @dataclass
