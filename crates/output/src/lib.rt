@@ -5,7 +5,7 @@ ghost use Rattle.std.specs.Prelude.{◌≡◌, ◌≤◌, ◌+◌, ◌∷◌, �
 
 use dispatch::Session;
 use entry_search::EntrySearch;
-use itoa::write_digits;
+use itoa::{Buffer, write_digits};
 use replies::Reply;
 use std::io;
 use std::io::Write;
@@ -46,8 +46,10 @@ fn write_reply<W: Write>(out: &mut W, reply: Reply, session: &Session) -> io::Re
     }
 }
 
-// How many bytes, or words, are spelled at a time.
+// How many bytes are spelled at a time, and how many words: room for more would be cleared for nothing where a line is short.
 const SPELLED: usize = 32;
+
+const SPELLED_WORDS: usize = 8;
 
 // How many bytes a word takes at most: a space and 20 digits.
 const WORD: usize = 21;
@@ -55,15 +57,16 @@ const WORD: usize = 21;
 // Words on a line, one space between two.
 fn write_line<W: Write>(out: &mut W, words: &[u64]) -> io::Result<()> {
     if let [first, others @ ..] = words {
-        write!(out, "{first}")?;
+        let mut digits = Buffer::new();
+        out.write_all(digits.format(*first).as_bytes())?;
         write_words(out, others)?;
     }
     out.write_all(b"\n")
 }
 
-// Words, a space before each. The digits go to the writer as bytes, and many at a time: as formatted text each word cost two to six times as much.
+// Words, a space before each. The digits go to the writer as bytes, and many at a time: as formatted text each word of a long list cost two to six times as much.
 fn write_words<W: Write>(out: &mut W, words: &[u64]) -> io::Result<()> {
-    for part in words.chunks(SPELLED) {
+    for part in words.chunks(SPELLED_WORDS) {
         write_few_words(out, part)?;
     }
     Ok(())
@@ -71,9 +74,9 @@ fn write_words<W: Write>(out: &mut W, words: &[u64]) -> io::Result<()> {
 
 // From the last word to the first, so that no digits have to be counted.
 fn write_few_words<W: Write>(out: &mut W, part: &[u64]) -> io::Result<()>
-    requires { length part.now ≤ SPELLED }
+    requires { length part.now ≤ SPELLED_WORDS }
 {
-    let mut text = [0u8; WORD * SPELLED];
+    let mut text = [0u8; WORD * SPELLED_WORDS];
     let mut at = text.len();
     for i in (0..part.len()).rev() {
         at = spell(part[i], &mut text, at);
